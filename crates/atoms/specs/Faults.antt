@@ -1,0 +1,48 @@
+-- Which faults may come, and when.
+use Rattle.atoms.specs.declared.faults.AppFault.{AppFault}
+use Rattle.atoms.specs.declared.faults.AppFault.TheVariants.{Read, Write, Text, Script, Worker, Intern}
+use Rattle.string_cache.specs.declared.Fault.{Fault}
+use Rattle.string_cache.specs.declared.Fault.TheVariants.{Memory, FullCount, TicketsSpent, NotText}
+use Rattle.string_cache.specs.Faults.{IsInternFault}
+
+abbrev pub IsMemory : Fault → Type 0
+IsMemory Memory = Unit {0}
+IsMemory FullCount = ⊥
+IsMemory TicketsSpent = ⊥
+IsMemory NotText = ⊥
+
+-- while the input is read
+abbrev pub IsReadingFault : AppFault → Type 0
+IsReadingFault Read = Unit {0}
+IsReadingFault Write = ⊥
+IsReadingFault Text = ⊥
+IsReadingFault (Script line) = ⊥
+IsReadingFault Worker = ⊥
+IsReadingFault (Intern fault) = IsMemory fault
+
+-- while words are interned and their lines written
+abbrev pub IsWritingFault : AppFault → Type 0
+IsWritingFault Read = ⊥
+IsWritingFault Write = Unit {0}
+IsWritingFault Text = ⊥
+IsWritingFault (Script line) = ⊥
+IsWritingFault Worker = ⊥
+IsWritingFault (Intern fault) = IsInternFault fault
+
+-- from the words of a text at all
+abbrev pub IsWordsFault : AppFault → Type 0
+IsWordsFault Read = Unit {0}
+IsWordsFault Write = Unit {0}
+IsWordsFault Text = Unit {0}
+IsWordsFault (Script line) = ⊥
+IsWordsFault Worker = ⊥
+IsWordsFault (Intern fault) = IsInternFault fault
+
+-- before anything is written
+abbrev pub IsUnwrittenFault : AppFault → Type 0
+IsUnwrittenFault Read = Unit {0}
+IsUnwrittenFault Write = ⊥
+IsUnwrittenFault Text = Unit {0}
+IsUnwrittenFault (Script line) = Unit {0}
+IsUnwrittenFault Worker = ⊥
+IsUnwrittenFault (Intern fault) = ⊥

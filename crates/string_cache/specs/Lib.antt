@@ -1,0 +1,11 @@
+pub use Rattle.string_cache_core.specs.Bounds
+pub use Rattle.string_cache_core.specs.Faults
+pub use Rattle.string_cache_core.specs.Form
+pub use Rattle.string_cache_core.specs.InlineText
+pub use Rattle.string_cache_core.specs.Kept
+pub use Rattle.string_cache_core.specs.Map
+pub use Rattle.string_cache_core.specs.Phf
+pub use Rattle.string_cache_core.specs.PhfStrSet
+pub use Rattle.string_cache_core.specs.Table
+pub use Rattle.string_cache_core.specs.Tables
+pub use Rattle.string_cache_core.specs.Word

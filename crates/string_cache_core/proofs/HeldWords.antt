@@ -1,0 +1,84 @@
+-- Which words texts have: an inline text's tag is 1, a static one's 2, and a ticket's 0.
+use Rattle.std.proofs.Common.{◌≡◌, ◌∙◌, ap, sym, subst, refl, arith, ℕ, ◌+◌, ◌*◌, ◌%◌, ◌^◌, ◌<◌, ◌≤◌, ◌⊎◌, inl, inr, Bool, true, false, cond, List, [], length, Option, None, Some, nat_lt, rules}
+use Rattle.std.specs.Prelude.{◌↔◌, if◌then◌else◌, IsSome, IfSome, MatchOption}
+use Rattle.std.specs.Borrow.{Bor}
+use Rattle.std.specs.Str.{bytes_eq}
+use Rattle.std.proofs.lemmas.Bool.{cases_Bool}
+use Rattle.std.proofs.lemmas.Slice.Eq.{bytes_eq-Decides}
+use Rattle.string_cache_core.specs.declared.static_sets.TextForm.{TextForm}
+use Rattle.string_cache_core.specs.declared.static_sets.TextForm.TheVariants.{Inline, Static, Dynamic}
+use Rattle.string_cache_core.specs.Map.{Holding, InternMap, IsHeldTicket}
+use Rattle.string_cache_core.specs.Kept.{IsGiven, IsSoundMap}
+use Rattle.string_cache_core.specs.Table.{IsTextOf}
+use Rattle.string_cache_core.specs.Tables.{Tables, place_in, text_at, entry_hash, form_of_text, IsStaticIndex}
+use Rattle.string_cache_core.specs.Word.{inline_word, static_word, ticket_of, IsTicket, IsInlineWord, IsStaticWord, IsTicketWord}
+use Rattle.string_cache_core.proofs.Unpacking.{inline_word_tag}
+
+-- ---- the form of a text
+
+abbrev form_by : Bool → Bool → ℕ → ℕ → ℕ → TextForm
+form_by long there place hash word = if long then (if there then Static place else Dynamic hash) else Inline word
+
+static_by : (long there : Bool) (place hash word index : ℕ) → form_by long there place hash word ≡ Static index → (place ≡ index) × (there ≡ true)
+static_by true true place hash word index e = (cc, refl)
+static_by true false place hash word index e = cc
+static_by false there place hash word index e = cc
+
+dynamic_by : (long there : Bool) (place hash word own : ℕ) → form_by long there place hash word ≡ Dynamic own → own ≡ hash
+dynamic_by true true place hash word own e = cc
+dynamic_by true false place hash word own e = cc
+dynamic_by false there place hash word own e = cc
+
+-- a static text stands at its index
+pub static-text : (t : Tables) (text : List ℕ) (index : ℕ) → form_of_text t text ≡ Static index → text_at t index ≡ text
+static-text t text index e =
+    let parts = static_by (nat_lt 7 (length text)) (bytes_eq (text_at t (place_in t text)) text) (place_in t text) (entry_hash t text) (inline_word text) index e in
+    ap (text_at t) (sym parts.0) ∙ (bytes_eq-Decides (text_at t (place_in t text)) text).0 parts.1
+
+pub dynamic-hash : (t : Tables) (text : List ℕ) (hash : ℕ) → form_of_text t text ≡ Dynamic hash → hash ≡ entry_hash t text
+dynamic-hash t text hash e = dynamic_by (nat_lt 7 (length text)) (bytes_eq (text_at t (place_in t text)) text) (place_in t text) (entry_hash t text) (inline_word text) hash e
+
+-- ---- tags
+
+pub held-tag : (t : Tables) (m : InternMap) → IsSoundMap t m → (text : List ℕ) (had : Holding) → m.held text ≡ Some had → had.ticket % 4 ≡ 0
+held-tag t m sound text had h = let is = (sound.given text had h).is in omega (arith, is)
+
+-- the word of nothing has no text
+pub no-text-unless-word : (t : Tables) (m : InternMap) (word : ℕ) → IsSoundMap t m → word < 2 ^ 64 → ¬ (IsStaticWord word) → ¬ (IsTicketWord word) → (text : List ℕ) → IsTextOf t m word text → ⊥
+no-text-unless-word t m word sound fits static ticket text (inl s) = static (s.0, (let is = s.2 in omega (arith, is, fits)), sym s.2)
+no-text-unless-word t m word sound fits static ticket text (inr h) =
+    let g = sound.given text (record { ticket = word; holders = h.0 }) h.1 in
+    ticket (g.serial, entry_hash t text % m.buckets, g.right, sym g.is)
+
+-- an inline word has none that a table keeps
+pub no-text-if-inline : (t : Tables) (m : InternMap) (word : ℕ) → IsSoundMap t m → IsInlineWord word → (text : List ℕ) → IsTextOf t m word text → ⊥
+no-text-if-inline t m word sound inline text (inl s) = let tag = inline_word_tag word inline in let is = s.2 in omega (arith, tag, is)
+no-text-if-inline t m word sound inline text (inr h) =
+    let tag = inline_word_tag word inline in let other = held-tag t m sound text (record { ticket = word; holders = h.0 }) h.1 in omega (arith, tag, other)
+
+-- a static word has the text at its index
+pub text-if-static : (t : Tables) (m : InternMap) (word index : ℕ) → IsSoundMap t m → static_word index ≡ word → (result : Option (Bor (List ℕ)))
+    → (IsSome result ↔ IsStaticIndex t index) → IfSome result (λ text. text.now ≡ text_at t index)
+    → MatchOption result ((text : List ℕ) → ¬ (IsTextOf t m word text)) (λ text. IsTextOf t m word text.now)
+text-if-static t m word index sound is (Some found) exactly same = inl (index, ap (form_of_text t) same ∙ exactly.0 refl, sym is)
+text-if-static t m word index sound is None exactly same = none
+  where
+    none : (text : List ℕ) → IsTextOf t m word text → ⊥
+    none text (inl s) =
+        let own : s.0 ≡ index = (let e = s.2 in omega (arith, e, is)) in
+        let form : form_of_text t text ≡ Static index = s.1 ∙ ap Static own in
+        let there : IsStaticIndex t index = ap (form_of_text t) (static-text t text index form) ∙ form in
+        let e : false ≡ true = exactly.1 there in
+        cc
+    none text (inr h) = let tag = held-tag t m sound text (record { ticket = word; holders = h.0 }) h.1 in omega (arith, tag, is)
+
+-- a ticket has the text that it is held of
+pub text-if-ticket : (t : Tables) (m : InternMap) (word serial bucket : ℕ) → ticket_of serial bucket ≡ word → (result : Option (Bor (List ℕ)))
+    → MatchOption result (¬ (IsHeldTicket m word)) (λ text. (holders : ℕ) × (m.held text.now ≡ Some (record { ticket = word; holders = holders })))
+    → MatchOption result ((text : List ℕ) → ¬ (IsTextOf t m word text)) (λ text. IsTextOf t m word text.now)
+text-if-ticket t m word serial bucket is (Some found) held = inr held
+text-if-ticket t m word serial bucket is None held = none
+  where
+    none : (text : List ℕ) → IsTextOf t m word text → ⊥
+    none text (inl s) = let e = s.2 in omega (arith, e, is)
+    none text (inr h) = held (record { text = text; holders = h.0; held = h.1 })

@@ -1,0 +1,33 @@
+-- A new table.
+use Rattle.std.proofs.Common.{◌≡◌, ◌∙◌, ap, sym, subst, refl, ℕ, zero, suc, List, [], ◌∷◌, length, replicate, get_or, Option, None, Some}
+use Rattle.std.specs.Prelude.{slice_index, String}
+use Rattle.std.specs.Bool.{nat_eq}
+use Rattle.std.specs.Map.{lookup}
+use Rattle.std.specs.Str.{bytes_eq}
+use Rattle.std.specs.HashMap.{HashMap, get}
+use Rattle.std.proofs.lemmas.List.{length-replicate}
+use Rattle.string_cache_core.specs.Map.{Holding, empty_map}
+use Rattle.string_cache_core.specs.Tables.{Tables}
+use Rattle.string_cache_core.specs.Kept.{pairs_of, IsKept, Pair}
+use Rattle.string_cache_core.proofs.KeptPairs.{none_some, shows}
+
+zeros-at : (n i : ℕ) → slice_index (replicate n zero) i ≡ zero
+zeros-at zero i = refl
+zeros-at (suc n) zero = refl
+zeros-at (suc n) (suc i) = zeros-at n i
+
+module _ {Y S T : Type 0} (t : Tables) (lasts : List ℕ) (m : HashMap (String Y) Holding S) (places : HashMap ℕ ℕ T) (zeros : lasts ≡ replicate 4096 zero) (none : m.entries ≡ []) (no_place : places.entries ≡ []) where
+  pub new-kept : IsKept t lasts (pairs_of m.entries) places
+  new-kept = subst (λ (es : List (String Y × Holding)). IsKept t lasts (pairs_of es) places) (sym none) (record {
+    buckets = ap length zeros ∙ length-replicate 4096 zero;
+    given = λ at pair h. absurd (none_some h);
+    index = record {
+      finds = λ at ticket h. absurd (none_some h);
+      found = λ ticket at h. absurd (none_some (sym (ap (λ (es : List (ℕ × ℕ)). lookup (nat_eq ticket) es) no_place) ∙ h));
+    };
+  })
+
+module _ {Y S : Type 0} (lasts : List ℕ) (m : HashMap (String Y) Holding S) (zeros : lasts ≡ replicate 4096 zero) (none : m.entries ≡ []) where
+  pub new-map : shows lasts (pairs_of m.entries) ≡ empty_map 4096
+  new-map = ap (λ (es : List (String Y × Holding)). shows lasts (pairs_of es)) none
+      ∙ (λ i. record { buckets = (ap length zeros ∙ length-replicate 4096 zero) i; held = λ text. None; last = λ bucket. (ap (λ (ls : List ℕ). slice_index ls bucket) zeros ∙ zeros-at 4096 bucket) i })

@@ -1,0 +1,11 @@
+pub mod BytesValue
+pub mod HeldWords
+pub mod KeptAdding
+pub mod KeptIndex
+pub mod KeptNew
+pub mod KeptPairs
+pub mod Replies
+pub mod SipWords
+pub mod TableLemmas
+pub mod TextBytes
+pub mod Unpacking

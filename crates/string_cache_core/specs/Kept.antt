@@ -1,0 +1,55 @@
+-- What a table keeps, and the map that it shows.
+use Rattle.std.specs.Prelude.{◌≡◌, ℕ, ◌%◌, ◌<◌, ◌≤◌, List, map, length, slice_get, slice_index, Option, None, Some, String, string_bytes}
+use Rattle.std.specs.Bool.{nat_eq}
+use Rattle.std.specs.Map.{lookup}
+use Rattle.std.specs.HashMap.{HashMap, get}
+use Rattle.std.specs.Str.{bytes_eq}
+use Rattle.string_cache_core.specs.Bounds.{Bounds}
+use Rattle.string_cache_core.specs.Map.{Holding, InternMap}
+use Rattle.string_cache_core.specs.Tables.{Tables, entry_hash, form_of_text, fixed_word}
+use Rattle.string_cache_core.specs.Word.{ticket_of, IsTicket}
+
+-- a dynamic text, with its ticket and its holders
+abbrev pub Pair : Type 0
+Pair = List ℕ × Holding
+
+pub record Kept : Type 0 where
+  pub limits : Bounds
+  pub lasts : List ℕ  -- each bucket's last serial
+  pub pairs : List Pair  -- of each dynamic text that is held, in no order
+
+abbrev pub map_of : Kept → InternMap
+map_of kept = record { buckets = length kept.lasts; held = λ text. lookup (bytes_eq text) kept.pairs; last = λ bucket. slice_index kept.lasts bucket }
+
+-- the entries of a map with text keys, as pairs
+abbrev pub pairs_of : {Y : Type 0} → List (String Y × Holding) → List Pair
+pairs_of entries = map (λ entry. (string_bytes entry.0, entry.1)) entries
+
+abbrev pub tickets_of : List Pair → List ℕ
+tickets_of pairs = map (λ pair. pair.1.ticket) pairs
+
+-- ---- what every table keeps to
+
+-- The text is dynamic, its ticket is of a serial that its bucket has given, and someone holds it.
+pub record IsGiven (t : Tables) (buckets : ℕ) (last : ℕ → ℕ) (text : List ℕ) (had : Holding) : Type 0 where
+  pub dynamic : fixed_word (form_of_text t text) ≡ None
+  pub serial : ℕ
+  pub right : IsTicket serial (entry_hash t text % buckets)
+  pub given : serial ≤ last (entry_hash t text % buckets)
+  pub is : had.ticket ≡ ticket_of serial (entry_hash t text % buckets)
+  pub held : 0 < had.holders
+
+-- A ticket leads to the place where it stands, and only a ticket does.
+pub record IsIndex {S : Type 0} (tickets : List ℕ) (places : HashMap ℕ ℕ S) : Type 0 where
+  pub finds : (at ticket : ℕ) → slice_get tickets at ≡ Some ticket → get nat_eq places ticket ≡ Some at
+  pub found : (ticket at : ℕ) → get nat_eq places ticket ≡ Some at → slice_get tickets at ≡ Some ticket
+
+pub record IsKept {S : Type 0} (t : Tables) (lasts : List ℕ) (pairs : List Pair) (places : HashMap ℕ ℕ S) : Type 0 where
+  pub buckets : length lasts ≡ 4096
+  pub given : (at : ℕ) (pair : Pair) → slice_get pairs at ≡ Some pair → IsGiven t (length lasts) (slice_index lasts) pair.0 pair.1
+  pub index : IsIndex (tickets_of pairs) places
+
+-- Each text that the map holds is given, and different texts have different tickets.
+pub record IsSoundMap (t : Tables) (m : InternMap) : Type 0 where
+  pub given : (text : List ℕ) (had : Holding) → m.held text ≡ Some had → IsGiven t m.buckets m.last text had
+  pub apart : (text other : List ℕ) (had also : Holding) → m.held text ≡ Some had → m.held other ≡ Some also → had.ticket ≡ also.ticket → text ≡ other

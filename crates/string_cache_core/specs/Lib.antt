@@ -1,0 +1,12 @@
+pub mod Bounds
+pub mod Faults
+pub mod Form
+pub mod InlineText
+pub mod Kept
+pub mod Map
+pub mod Phf
+pub mod PhfStrSet
+pub mod Places
+pub mod Table
+pub mod Tables
+pub mod Word

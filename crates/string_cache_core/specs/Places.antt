@@ -1,0 +1,16 @@
+-- Words of private contracts: where a text and a ticket stand.
+use Rattle.std.specs.Prelude.{◌≡◌, ℕ, ◌<◌, List, Option, Some, slice_get}
+use Rattle.string_cache_core.specs.Map.{Holding}
+use Rattle.string_cache_core.specs.Kept.{Kept, map_of}
+
+-- the text stands at the place
+pub record IsFound (kept : Kept) (text : List ℕ) (at : ℕ) (had : Holding) : Type 0 where
+  pub there : slice_get kept.pairs at ≡ Some (text, had)
+  pub held : (map_of kept).held text ≡ Some had
+
+-- the ticket stands at the place
+pub record IsPlace (kept : Kept) (ticket at : ℕ) : Type 0 where
+  pub text : List ℕ
+  pub holders : ℕ
+  pub found : IsFound kept text at (record { ticket = ticket; holders = holders })
+  pub some : 0 < holders

@@ -1,0 +1,98 @@
+//! Static tables of texts, and the form that they give a text.
+#![tactic(auto)]
+
+ghost use Rattle.std.specs.Prelude.{◌≡◌, ◌↔◌, IfSome, IsSome};
+ghost use Rattle.string_cache_core.specs.Tables.{Tables, AreUsable, IsStaticIndex, empty_tables, form_of_text, text_at};
+
+use crate::phf::{hash, place};
+use crate::word::pack_inline_word;
+
+/// Static tables: each text stands at the place that its hashes and its pair of displacements give it.
+pub struct PhfStrSet {
+    /// The key of the hash.
+    pub key: u64,
+    /// The pairs of displacements.
+    pub disps: &'static [(u32, u32)],
+    /// The texts.
+    pub atoms: &'static [&'static str],
+    /// The number that an atom of each text hashes as.
+    pub hashes: &'static [u64],
+}
+
+/// The type of a static set.
+pub trait StaticAtomSet: Ord {
+    ghost tables: { Tables };
+
+    ghost use Rattle.string_cache_core.specs.PhfStrSet.{tables_of};
+
+    /// Its tables, the same at each call. They have at least one pair of displacements and one text, as many hashes as
+    /// texts, and at most 2^32 - 1 of each. They need not be perfect: a text that isn't at its place is dynamic.
+    fn get() -> &'static PhfStrSet
+        ensures { tables_of result.now ≡ tables };
+
+    ghost usable: { AreUsable tables };
+}
+
+/// The static set without a text that could be static.
+#[derive(PartialEq, Eq, PartialOrd, Ord)]
+pub struct EmptyStaticAtomSet;
+
+static EMPTY: PhfStrSet = PhfStrSet {
+    key: 0,
+    disps: &[(0, 0)],
+    atoms: &[""],
+    hashes: &[0x3ddd_def3],
+};
+
+impl StaticAtomSet for EmptyStaticAtomSet {
+    ghost use Rattle.std.proofs.Common.{lit<, refl};
+
+    ghost tables = { empty_tables };
+
+    ghost usable = { record { displaced = lit< tt; listed = lit< tt; few_disps = lit< tt; few_atoms = lit< tt; hashed = refl } };
+
+    fn get() -> &'static PhfStrSet {
+        &EMPTY
+    }
+}
+
+/// What a text is under the tables of a static type, and what it is found by.
+#[derive(Clone, Copy, Debug, PartialEq, Eq)]
+pub enum TextForm {
+    /// Up to 7 bytes: its inline word.
+    Inline(u64),
+    /// It stands at its place, this index.
+    Static(u32),
+    /// Any other: the hash of its entry.
+    Dynamic(u64),
+}
+
+/// The form of a text under the tables of `S`. It hashes a text of more than 7 bytes once.
+pub fn form_of_text<S: StaticAtomSet>(text: &str) -> TextForm
+    ensures { result ≡ form_of_text S.tables text.now }
+{
+    if let Some(word) = pack_inline_word(text) {
+        return TextForm::Inline(word);
+    }
+    let set = S::get();
+    let hashes = hash(text, set.key);
+    let index = place(&hashes, set.disps, set.atoms.len() as u32);
+    if set.atoms[index as usize] == text {
+        TextForm::Static(index)
+    } else {
+        TextForm::Dynamic(hashes.entry_hash())
+    }
+}
+
+/// The static text at an index. `None` where the tables have none there, or one that isn't at its place or has at most
+/// 7 bytes.
+pub fn static_text<S: StaticAtomSet>(index: u32) -> Option<&'static str>
+    ensures is_static { IsSome result ↔ IsStaticIndex S.tables index }
+    ensures text { IfSome result (λ text. text.now ≡ text_at S.tables index) }
+{
+    let text = *S::get().atoms.get(index as usize)?;
+    match form_of_text::<S>(text) {
+        TextForm::Static(own) if own == index => Some(text),
+        _ => None,
+    }
+}

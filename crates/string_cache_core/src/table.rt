@@ -1,0 +1,216 @@
+//! The table of texts for one thread.
+#![tactic(auto)]
+
+ghost use Rattle.std.specs.Prelude.{◌≡◌, ℕ, ◌+◌, ◌-◌, ◌^◌, ◌%◌, ◌<◌, ◌≤◌, OnOk, OnErr, IfOk, IfErr, MatchOption, Option, None, Some, slice_get, length, List};
+ghost use Rattle.string_cache_core.specs.Bounds.{Bounds};
+ghost use Rattle.string_cache_core.specs.Faults.{IsInternFault};
+ghost use Rattle.string_cache_core.specs.declared.faults.Fault.TheVariants.{Memory};
+ghost use Rattle.string_cache_core.specs.Map.{Holding, InternMap, IsHeldTicket, Intern, MapReply, MayReply, empty_map, with_held, with_last, bucket_in};
+ghost use Rattle.string_cache_core.specs.Table.{Interns, IsTextOf, as_word};
+ghost use Rattle.string_cache_core.specs.Tables.{form_of_text, fixed_word, entry_hash};
+ghost use Rattle.string_cache_core.specs.Word.{ticket_of};
+ghost use Rattle.string_cache_core.specs.declared.static_sets.TextForm.TheVariants.{Dynamic};
+
+mod held;
+mod places;
+#[cfg(test)]
+mod tests;
+
+use crate::Fault;
+use crate::static_sets::{StaticAtomSet, TextForm, form_of_text, static_text};
+use crate::word::{Form, Limits, form_of, static_word, ticket_word};
+use held::{Held, write_holders};
+use indexmap::IndexMap;
+use places::{forget, move_to};
+use std::alloc::Global;
+use std::collections::HashMap;
+use std::marker::{Model, PhantomData};
+
+/// The interned texts of one thread. Each dynamic text that is held has one ticket, and a number of holders.
+#[derive(Drop)]
+pub struct Table<S: StaticAtomSet> {
+    limits: Limits,
+    lasts: Vec<u64>,
+    entries: IndexMap<String, Held>,
+    places: HashMap<u64, usize>,
+    alloc: Global,
+    statics: PhantomData<S>,
+}
+
+impl<S: StaticAtomSet> Model for Table<S> {
+    ghost use Rattle.string_cache_core.specs.Kept.{Kept, pairs_of, IsKept};
+
+    ghost Value = { Kept };
+
+    ghost view = { λ a. record { limits = a.limits; lasts = a.lasts.items; pairs = pairs_of a.entries.entries } };
+
+    ghost invariant = { λ a. IsKept S.tables a.lasts.items (pairs_of a.entries.entries) a.places };
+}
+
+impl<S: StaticAtomSet> Table<S> {
+    ghost use Rattle.string_cache_core.specs.Kept.{Kept, Pair, map_of, IsSoundMap};
+    ghost use Rattle.string_cache_core.specs.Places.{IsPlace, IsFound};
+
+    /// A table in which nothing is held, with the greatest limits. `Memory` where its buckets find none.
+    pub fn new(alloc: Global) -> Result<Self, Fault>
+        ensures empty { IfOk result (λ table. map_of table ≡ empty_map 4096) }
+        ensures limits { IfOk result (λ table. table.limits ≡ record { holders = 2 ^ 63 - 1; serials = 2 ^ 50 - 1 }) }
+        ensures fault { IfErr result (λ fault. fault ≡ Memory) }
+    {
+        Table::with_limits(alloc, Limits::greatest())
+    }
+
+    /// A table in which nothing is held, with these limits. `Memory` where its buckets find none.
+    pub fn with_limits(alloc: Global, limits: Limits) -> Result<Self, Fault>
+        ensures empty { IfOk result (λ table. map_of table ≡ empty_map 4096) }
+        ensures limits { IfOk result (λ table. table.limits ≡ limits) }
+        ensures fault { IfErr result (λ fault. fault ≡ Memory) }
+    {
+        Ok(Table {
+            limits,
+            lasts: vec![in alloc; 0; 4096]?,
+            entries: IndexMap::new(alloc),
+            places: HashMap::new(alloc),
+            alloc,
+            statics: PhantomData,
+        })
+    }
+
+    /// The word of a text. A text of at most 7 bytes has its inline word and a static text its static word, which no limit
+    /// and no want of memory refuses. Any other has a ticket: one holder more where the text is held, and else its bucket's
+    /// next ticket, with one holder.
+    ///
+    /// `FullCount` where the text has as many holders as the limits allow, `TicketsSpent` where a text that isn't held finds
+    /// no serial left in its bucket, and `Memory` where it finds no memory. A refusal changes nothing.
+    pub fn intern(&mut self, text: &str) -> Result<u64, Fault>
+        ensures limits { self.new.limits ≡ self.old.limits }
+        ensures interns { Interns S.tables self.old.limits (map_of self.old) text.now result (map_of self.new) }
+        ensures fault { IfErr result IsInternFault }
+        ensures err { OnErr result (self.new ≡ self.old) }
+    {
+        match form_of_text::<S>(text) {
+            TextForm::Inline(word) => Ok(word),
+            TextForm::Static(index) => Ok(static_word(index)),
+            TextForm::Dynamic(hash) => self.intern_dynamic(text, hash),
+        }
+    }
+
+    /// The text of a static word or of a ticket that is held. `None` for any other word; an inline word holds its text
+    /// itself.
+    pub fn text(&self, word: u64) -> Option<&str>
+        ensures { MatchOption result ((text : List ℕ) → ¬ (IsTextOf S.tables (map_of self.now) word text)) (λ text. IsTextOf S.tables (map_of self.now) word text.now) }
+    {
+        self.is_sound();
+        match form_of(word)? {
+            Form::Inline(_) => None,
+            Form::Static(index) => static_text::<S>(index),
+            Form::Dynamic { .. } => self.ticket_text(word),
+        }
+    }
+
+    // ---- places
+
+    /// What every table keeps to.
+    fn is_sound(&self)
+        ensures { IsSoundMap S.tables (map_of self.now) }
+    {
+        let _ = &self.places;
+    }
+
+    /// Where the text stands, with its ticket and its holders.
+    fn find(&self, text: &str) -> Option<(usize, u64, u64)>
+        ensures { MatchOption result ((map_of self.now).held text.now ≡ None) (λ found. IsFound self.now text.now found.0 (record { ticket = found.1; holders = found.2 })) }
+    {
+        let (at, _, held) = self.entries.get_full(text)?;
+        Some((at, held.ticket(), held.holders()))
+    }
+
+    /// Where the ticket stands.
+    fn place_of(&self, ticket: u64) -> Option<usize>
+        ensures { MatchOption result (¬ (IsHeldTicket (map_of self.now) ticket)) (λ at. IsPlace self.now ticket at) }
+    {
+        let _ = self.entries.len();
+        let at = self.places.get(&ticket)?;
+        Some(*at)
+    }
+
+    /// The text of a ticket.
+    fn ticket_text(&self, ticket: u64) -> Option<&str>
+        ensures { MatchOption result (¬ (IsHeldTicket (map_of self.now) ticket)) (λ text. (holders : ℕ) × ((map_of self.now).held text.now ≡ Some (record { ticket = ticket; holders = holders }))) }
+    {
+        let at = self.place_of(ticket)?;
+        let (text, _) = self.entries.get_index(at)?;
+        Some(text.as_str())
+    }
+
+    /// The bucket of a dynamic text with this hash, and the bucket's last serial.
+    fn bucket_of(&self, hash: u64) -> (u16, u64)
+        ensures buckets { (map_of self.now).buckets ≡ 4096 }
+        ensures bucket { result.0 ≡ hash % (map_of self.now).buckets }
+        ensures last { result.1 ≡ (map_of self.now).last result.0 }
+    {
+        let bucket = (hash % 4096) as u16;
+        (bucket, self.lasts[bucket as usize])
+    }
+
+    // ---- changes
+
+    fn set_holders(&mut self, at: usize, holders: u64)
+        requires place { at < length self.old.pairs }
+        requires held { 0 < holders }
+        ensures limits { self.new.limits ≡ self.old.limits }
+        ensures map { (text : List ℕ) (had : Holding) → slice_get self.old.pairs at ≡ Some (text, had)
+            → map_of self.new ≡ with_held (map_of self.old) text (Some (record { ticket = had.ticket; holders = holders })) }
+    {
+        write_holders(&mut self.entries, at, holders);
+    }
+
+    /// Adds a text that isn't held, with its bucket's next ticket.
+    fn add(&mut self, text: &str, bucket: u16, serial: u64) -> Result<u64, Fault>
+        requires dynamic { fixed_word (form_of_text S.tables text.now) ≡ None }
+        requires bucket { bucket ≡ bucket_in S.tables (map_of self.old) text.now }
+        requires serial { serial ≡ (map_of self.old).last bucket + 1 }
+        requires range { serial < 2 ^ 50 }
+        requires absent { (map_of self.old).held text.now ≡ None }
+        ensures limits { self.new.limits ≡ self.old.limits }
+        ensures word { IfOk result (λ word. word ≡ ticket_of serial bucket) }
+        ensures ok { OnOk result (map_of self.new ≡ with_last (with_held (map_of self.old) text.now (Some (record { ticket = ticket_of serial bucket; holders = 1 }))) bucket serial) }
+        ensures err { OnErr result (self.new ≡ self.old) }
+        ensures fault { IfErr result (λ fault. fault ≡ Memory) }
+    {
+        self.entries.reserve(1)?;
+        self.places.reserve(1)?;
+        let key = String::from_str(self.alloc, text)?;
+        let ticket = ticket_word(serial, bucket);
+        let at = self.entries.len();
+        let Ok(_) = self.entries.insert(key, Held::new(ticket)) else {
+            unreachable!()
+        };
+        let Ok(_) = self.places.insert(ticket, at) else {
+            unreachable!()
+        };
+        self.lasts[bucket as usize] = serial;
+        Ok(ticket)
+    }
+
+    fn intern_dynamic(&mut self, text: &str, hash: u64) -> Result<u64, Fault>
+        requires { form_of_text S.tables text.now ≡ Dynamic hash }
+        ensures limits { self.new.limits ≡ self.old.limits }
+        ensures replies { (reply : MapReply) × MayReply S.tables self.old.limits (map_of self.old) (Intern text.now) reply (map_of self.new) × (result ≡ as_word reply) }
+        ensures fault { IfErr result IsInternFault }
+        ensures err { OnErr result (self.new ≡ self.old) }
+    {
+        if let Some((at, ticket, holders)) = self.find(text) {
+            if holders >= self.limits.holders() {
+                return Err(Fault::FullCount);
+            }
+            self.set_holders(at, holders + 1);
+            return Ok(ticket);
+        }
+        let (bucket, last) = self.bucket_of(hash);
+        if last >= self.limits.serials() {
+            return Err(Fault::TicketsSpent);
+        }
+        self.add(text, bucket, last + 1)
+    }
+}

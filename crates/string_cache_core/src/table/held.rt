@@ -1,0 +1,66 @@
+//! What a table keeps of a text.
+#![tactic(auto)]
+
+ghost use Rattle.std.specs.Prelude.{◌≡◌, ◌<◌, Some, slice_get};
+ghost use Rattle.indexmap.specs.IndexMap.{with_value_at, IsUnique, index_map_len, values};
+ghost use Rattle.std.specs.String.{string_eq};
+ghost use Rattle.string_cache_core.specs.Map.{Holding};
+
+use indexmap::IndexMap;
+use std::marker::Model;
+
+/// The ticket of a text, and how many hold it.
+#[derive(Drop)]
+pub struct Held {
+    ticket: u64,
+    holders: u64,
+}
+
+impl Model for Held {
+    ghost use Rattle.string_cache_core.specs.Map.{Holding};
+
+    ghost Value = { Holding };
+
+    ghost view = { λ h. record { ticket = h.ticket; holders = h.holders } };
+}
+
+impl Held {
+    /// A new text's ticket, with one holder.
+    pub fn new(ticket: u64) -> Held
+        ensures { result ≡ record { ticket = ticket; holders = 1 } }
+    {
+        Held { ticket, holders: 1 }
+    }
+
+    /// The ticket.
+    pub fn ticket(&self) -> u64
+        ensures { result ≡ self.now.ticket }
+    {
+        self.ticket
+    }
+
+    /// How many hold it.
+    pub fn holders(&self) -> u64
+        ensures { result ≡ self.now.holders }
+    {
+        self.holders
+    }
+
+    /// Lets so many hold it.
+    pub fn set_holders(&mut self, holders: u64)
+        ensures { self.new ≡ record { ticket = self.old.ticket; holders = holders } }
+    {
+        self.holders = holders;
+    }
+}
+
+/// Lets so many hold the text at a place.
+pub fn write_holders(entries: &mut IndexMap<String, Held>, at: usize, holders: u64)
+    requires { at < index_map_len entries.old }
+    ensures written { (held : Holding) → slice_get (values entries.old) at ≡ Some held
+        → entries.new ≡ with_value_at entries.old at (record { ticket = held.ticket; holders = holders }) }
+    ensures unique { IsUnique string_eq entries.old }
+{
+    let (_, held) = entries.pair_mut(at);
+    held.set_holders(holders);
+}
