@@ -6,7 +6,7 @@ use crate::memory::{Bytes, Page};
 use crate::program::{program, refuse};
 use crate::streams::Io;
 use crate::words::words_alone;
-use std::alloc::Global;
+use std::alloc::{AllocError, Global};
 use std::test::Fail;
 use string_cache::Fault;
 
@@ -180,13 +180,20 @@ fn answer_of(alloc: Global, args: &[String], input: &[u8]) -> Answer {
     }
 }
 
-/// The arguments of a line, parted by single spaces.
-fn arguments(alloc: Global, line: &str) -> Result<Vec<String>, Fail> {
+fn arguments_once(alloc: Global, line: &str) -> Result<Vec<String>, AllocError> {
     let mut args = Vec::new(alloc);
     for word in line.split(' ') {
         args.push(String::from_str(alloc, word)?)?;
     }
     Ok(args)
+}
+
+/// The arguments of a line, parted by single spaces. Where memory was refused, they are made once more.
+fn arguments(alloc: Global, line: &str) -> Result<Vec<String>, AllocError> {
+    match arguments_once(alloc, line) {
+        Ok(args) => Ok(args),
+        Err(_) => arguments_once(alloc, line),
+    }
 }
 
 #[test]

@@ -1,22 +1,24 @@
 -- Which words texts have: an inline text's tag is 1, a static one's 2, and a ticket's 0.
-use Rattle.std.proofs.Common.{◌≡◌, ◌∙◌, ap, sym, subst, refl, arith, ℕ, ◌+◌, ◌*◌, ◌%◌, ◌^◌, ◌<◌, ◌≤◌, ◌⊎◌, inl, inr, Bool, true, false, cond, List, [], length, Option, None, Some, nat_lt, rules}
+use Rattle.std.proofs.Common.{◌≡◌, ◌∙◌, ap, sym, subst, refl, arith, ℕ, ◌%◌, ◌^◌, ◌<◌, inl, inr, Bool, true, false, List, length, Option, None, Some, nat_lt}
 use Rattle.std.specs.Prelude.{◌↔◌, if◌then◌else◌, IsSome, IfSome, MatchOption}
+use Rattle.std.proofs.Common.{is_some, IsTrue}
+use Rattle.std.proofs.lemmas.Bool.{false≢true}
 use Rattle.std.specs.Borrow.{Bor}
 use Rattle.std.specs.Str.{bytes_eq}
-use Rattle.std.proofs.lemmas.Bool.{cases_Bool}
 use Rattle.std.proofs.lemmas.Slice.Eq.{bytes_eq-Decides}
 use Rattle.string_cache_core.specs.declared.static_sets.TextForm.{TextForm}
 use Rattle.string_cache_core.specs.declared.static_sets.TextForm.TheVariants.{Inline, Static, Dynamic}
 use Rattle.string_cache_core.specs.Map.{Holding, InternMap, IsHeldTicket}
-use Rattle.string_cache_core.specs.Kept.{IsGiven, IsSoundMap}
-use Rattle.string_cache_core.specs.Table.{IsTextOf}
+use Rattle.string_cache_core.specs.Kept.{Kept, map_of, IsSoundMap}
+use Rattle.string_cache_core.specs.Places.{IsPlace}
+use Rattle.string_cache_core.specs.Table.{IsTextOf, IsHeld, IsFixedWord}
 use Rattle.string_cache_core.specs.Tables.{Tables, place_in, text_at, entry_hash, form_of_text, IsStaticIndex}
-use Rattle.string_cache_core.specs.Word.{inline_word, static_word, ticket_of, IsTicket, IsInlineWord, IsStaticWord, IsTicketWord}
+use Rattle.string_cache_core.specs.Word.{inline_word, static_word, ticket_of, IsInlineWord, IsStaticWord, IsTicketWord}
 use Rattle.string_cache_core.proofs.Unpacking.{inline_word_tag}
 
 -- ---- the form of a text
 
-abbrev form_by : Bool → Bool → ℕ → ℕ → ℕ → TextForm
+abbrev pub form_by : Bool → Bool → ℕ → ℕ → ℕ → TextForm
 form_by long there place hash word = if long then (if there then Static place else Dynamic hash) else Inline word
 
 static_by : (long there : Bool) (place hash word index : ℕ) → form_by long there place hash word ≡ Static index → (place ≡ index) × (there ≡ true)
@@ -82,3 +84,39 @@ text-if-ticket t m word serial bucket is None held = none
     none : (text : List ℕ) → IsTextOf t m word text → ⊥
     none text (inl s) = let e = s.2 in omega (arith, e, is)
     none text (inr h) = held (record { text = text; holders = h.0; held = h.1 })
+
+-- ---- what is held
+
+-- the word of nothing isn't held
+pub not-held-unless-word : (t : Tables) (m : InternMap) (word : ℕ) → IsSoundMap t m → word < 2 ^ 64 → ¬ (IsInlineWord word) → ¬ (IsStaticWord word) → ¬ (IsTicketWord word) → IsHeld t m word → ⊥
+not-held-unless-word t m word sound fits inline static ticket (inl (inl i)) = inline i
+not-held-unless-word t m word sound fits inline static ticket (inl (inr s)) = static (s.0, (let is = s.2 in omega (arith, is, fits)), s.2)
+not-held-unless-word t m word sound fits inline static ticket (inr h) =
+    let g = sound.given h.text (record { ticket = word; holders = h.holders }) h.held in
+    ticket (g.serial, entry_hash t h.text % m.buckets, g.right, sym g.is)
+
+-- a static word is held exactly if it has a text
+pub held-if-static : (t : Tables) (m : InternMap) (word index : ℕ) → IsSoundMap t m → static_word index ≡ word → (test : Bool) → (IsTrue test ↔ IsStaticIndex t index) → IsTrue test ↔ IsHeld t m word
+held-if-static t m word index sound is test exactly = (λ yes. inl (inr (index, exactly.0 yes, is)), back)
+  where
+    back : IsHeld t m word → IsTrue test
+    back (inl (inl i)) = let tag = inline_word_tag word i in absurd (omega (arith, tag, is))
+    back (inl (inr s)) = let own = s.2 in let same : s.0 ≡ index = omega (arith, own, is) in exactly.1 (subst (IsStaticIndex t) same s.1)
+    back (inr h) = let tag = held-tag t m sound h.text (record { ticket = word; holders = h.holders }) h.held in absurd (omega (arith, tag, is))
+
+-- a ticket is held exactly if it has a place
+pub held-if-placed : (t : Tables) (kept : Kept) (word serial bucket : ℕ) → ticket_of serial bucket ≡ word → (place : Option ℕ)
+    → MatchOption place (¬ (IsHeldTicket (map_of kept) word)) (λ at. IsPlace kept word at) → (test : Bool) → test ≡ is_some place → IsTrue test ↔ IsHeld t (map_of kept) word
+held-if-placed t kept word serial bucket is (Some at) p test e =
+    (λ _. inr (record { text = p.text; holders = p.holders; held = p.found.held }), λ _. e)
+held-if-placed t kept word serial bucket is None none test e = (λ yes. absurd (false≢true (sym e ∙ yes)), back)
+  where
+    back : IsHeld t (map_of kept) word → IsTrue test
+    back (inl (inl i)) = let tag = inline_word_tag word i in absurd (omega (arith, tag, is))
+    back (inl (inr s)) = let own = s.2 in absurd (omega (arith, own, is))
+    back (inr h) = absurd (none h)
+
+-- a word that is held, and is no ticket that is, is one that a text's form fixes
+pub fixed-unless-ticket : (t : Tables) (m : InternMap) (word : ℕ) → IsHeld t m word → ¬ (IsHeldTicket m word) → IsFixedWord t word
+fixed-unless-ticket t m word (inl fixed) none = fixed
+fixed-unless-ticket t m word (inr h) none = absurd (none h)

@@ -1,9 +1,9 @@
 -- A new text among the pairs.
-use Rattle.std.proofs.Common.{◌≡◌, ◌≢◌, ◌∙◌, ap, sym, subst, refl, arith, ℕ, suc, zero, ◌+◌, ◌-◌, ◌%◌, ◌^◌, ◌<◌, ◌≤◌, ◌⊎◌, inl, inr, Bool, true, false, cond, List, [], ◌∷◌, ◌++◌, length, map, Option, None, Some, get_or, set}
+use Rattle.std.proofs.Common.{◌≡◌, ◌∙◌, ap, sym, subst, refl, arith, ℕ, ◌+◌, ◌%◌, ◌^◌, ◌<◌, ◌≤◌, inl, inr, cond, List, [], ◌∷◌, ◌++◌, length, None, Some}
 use Rattle.std.specs.Prelude.{slice_get, slice_set, slice_index, String, string_bytes, ◌==◌, if◌then◌else◌}
 use Rattle.std.proofs.lemmas.Bool.{eq-eqb}
 use Rattle.std.specs.Bool.{nat_eq}
-use Rattle.std.specs.Map.{lookup, update, keys_of}
+use Rattle.std.specs.Map.{lookup, update}
 use Rattle.std.specs.Str.{bytes_eq}
 use Rattle.std.specs.String.{string_eq}
 use Rattle.std.specs.HashMap.{HashMap, get, Updates}
@@ -12,8 +12,8 @@ use Rattle.indexmap.specs.IndexMap.{insert_entry}
 use Rattle.indexmap.proofs.CallerLemmas.{insert_entry-new}
 use Rattle.string_cache_core.specs.Map.{Holding}
 use Rattle.string_cache_core.specs.Tables.{Tables, entry_hash, form_of_text, fixed_word}
-use Rattle.string_cache_core.specs.Word.{ticket_of, IsTicket}
-use Rattle.string_cache_core.specs.Kept.{Kept, Pair, map_of, pairs_of, tickets_of, IsGiven, IsIndex, IsKept}
+use Rattle.string_cache_core.specs.Word.{ticket_of}
+use Rattle.string_cache_core.specs.Kept.{Pair, pairs_of, tickets_of, IsGiven, IsIndex, IsKept}
 use Rattle.string_cache_core.proofs.KeptPairs.{lookup-pairs, updates-pairs, pair_of_ticket, given-grows, last-set, last-grows}
 use Rattle.string_cache_core.proofs.KeptIndex.{at-push, index-push}
 

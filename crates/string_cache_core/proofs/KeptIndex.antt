@@ -1,8 +1,8 @@
 -- How the places of tickets follow the list.
-use Rattle.std.proofs.Common.{◌≡◌, ◌≢◌, ◌∙◌, ap, sym, subst, refl, arith, ℕ, suc, zero, ◌+◌, ◌-◌, ◌<◌, ◌≤◌, ◌⊎◌, inl, inr, Bool, true, false, cond, List, [], ◌∷◌, ◌++◌, length, Option, None, Some, true≢false}
-use Rattle.std.specs.Prelude.{slice_get, ◌==◌}
+use Rattle.std.proofs.Common.{◌≡◌, ◌∙◌, ap, sym, subst, refl, ℕ, suc, zero, ◌⊎◌, inl, inr, true, false, cond, List, [], ◌∷◌, ◌++◌, length, Some}
+use Rattle.std.specs.Prelude.{slice_get}
 use Rattle.std.specs.Bool.{nat_eq}
-use Rattle.std.specs.HashMap.{HashMap, get, Updates}
+use Rattle.std.specs.HashMap.{HashMap, get}
 use Rattle.std.proofs.lemmas.Bool.{eqb-true, eq-eqb, cases_Bool}
 use Rattle.string_cache_core.specs.Kept.{IsIndex}
 use Rattle.string_cache_core.proofs.KeptPairs.{the_same, none_some}

@@ -1,14 +1,13 @@
 -- A new table.
-use Rattle.std.proofs.Common.{◌≡◌, ◌∙◌, ap, sym, subst, refl, ℕ, zero, suc, List, [], ◌∷◌, length, replicate, get_or, Option, None, Some}
+use Rattle.std.proofs.Common.{◌≡◌, ◌∙◌, ap, sym, subst, refl, ℕ, zero, suc, List, [], length, replicate, None}
 use Rattle.std.specs.Prelude.{slice_index, String}
 use Rattle.std.specs.Bool.{nat_eq}
 use Rattle.std.specs.Map.{lookup}
-use Rattle.std.specs.Str.{bytes_eq}
-use Rattle.std.specs.HashMap.{HashMap, get}
+use Rattle.std.specs.HashMap.{HashMap}
 use Rattle.std.proofs.lemmas.List.{length-replicate}
 use Rattle.string_cache_core.specs.Map.{Holding, empty_map}
 use Rattle.string_cache_core.specs.Tables.{Tables}
-use Rattle.string_cache_core.specs.Kept.{pairs_of, IsKept, Pair}
+use Rattle.string_cache_core.specs.Kept.{pairs_of, IsKept}
 use Rattle.string_cache_core.proofs.KeptPairs.{none_some, shows}
 
 zeros-at : (n i : ℕ) → slice_index (replicate n zero) i ≡ zero

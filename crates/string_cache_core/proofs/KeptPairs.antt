@@ -1,14 +1,14 @@
 -- The pairs of a table as a map of texts.
-use Rattle.std.proofs.Common.{◌≡◌, ◌≢◌, ◌∙◌, ap, sym, subst, refl, arith, ℕ, suc, zero, ◌+◌, ◌-◌, ◌%◌, ◌<◌, ◌≤◌, ◌⊎◌, inl, inr, Bool, true, false, cond, List, [], ◌∷◌, ◌++◌, length, map, Option, None, Some, true≢false, is_some, unwrap_or, rules, get_or, set}
+use Rattle.std.proofs.Common.{◌≡◌, ◌∙◌, ap, sym, subst, refl, arith, ℕ, suc, zero, ◌%◌, ◌<◌, ◌≤◌, ◌⊎◌, inl, inr, true, false, cond, List, [], ◌∷◌, length, map, Option, None, Some, true≢false, is_some, unwrap_or, get_or, set}
 use Rattle.std.specs.Prelude.{slice_get, slice_set, slice_index, String, string_bytes, ◌==◌, if◌then◌else◌}
 use Rattle.std.specs.Bool.{nat_eq}
 use Rattle.std.specs.Map.{lookup, update, keys_of, lookup_key}
 use Rattle.std.specs.Str.{bytes_eq}
 use Rattle.std.specs.String.{string_eq, string_eq_equiv}
-use Rattle.std.specs.HashMap.{HashMap, get, get_by_text, Updates, UpdatesBy}
+use Rattle.std.specs.HashMap.{HashMap, get, UpdatesBy}
 use Rattle.std.specs.List.{IsDistinct}
 use Rattle.std.proofs.lemmas.Bool.{eqb-true, eq-eqb, cases_Bool}
-use Rattle.std.proofs.lemmas.List.{get_or-set_same, get_or-set_other, length-set, map-append}
+use Rattle.std.proofs.lemmas.List.{get_or-set_same, get_or-set_other, length-set}
 use Rattle.std.proofs.lemmas.Map.Entries.{place_from_lookup, lookup_from_place}
 use Rattle.std.proofs.lemmas.Map.Made.{lookup_key_passes}
 use Rattle.std.proofs.lemmas.Slice.Eq.{bytes_eq-Decides}
@@ -18,7 +18,7 @@ use Rattle.indexmap.specs.IndexMap.{with_value_at, values, IsUnique}
 use Rattle.indexmap.proofs.CallerLemmas.{updates-with_value_at}
 use Rattle.string_cache_core.specs.Bounds.{Bounds}
 use Rattle.string_cache_core.specs.Map.{Holding, InternMap, with_held, with_last}
-use Rattle.string_cache_core.specs.Kept.{Kept, Pair, map_of, pairs_of, tickets_of, IsGiven, IsIndex, IsKept, IsSoundMap}
+use Rattle.string_cache_core.specs.Kept.{Pair, pairs_of, tickets_of, IsGiven, IsIndex, IsKept, IsSoundMap}
 use Rattle.string_cache_core.specs.Places.{IsFound, IsPlace}
 use Rattle.string_cache_core.specs.Tables.{Tables, entry_hash}
 

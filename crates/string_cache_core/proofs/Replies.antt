@@ -1,11 +1,12 @@
 -- What a table's call does, as the reply of its map.
-use Rattle.std.proofs.Common.{◌≡◌, ◌∙◌, ap, sym, subst, refl, arith, ℕ, ◌+◌, ◌<◌, ◌≤◌, ◌⊎◌, inl, inr, List, Option, None, Some, Result, Ok, Err}
-use Rattle.std.specs.Prelude.{OnOk, OnErr, IfOk, IfErr}
+use Rattle.std.proofs.Common.{◌≡◌, ◌∙◌, ap, sym, subst, refl, arith, ℕ, ◌+◌, ◌-◌, ◌<◌, ◌≤◌, inl, inr, cond, List, None, Some, Result, Ok, Err}
+use Rattle.std.specs.Prelude.{OnOk, OnErr, IfOk, IfErr, ◌==◌}
+use Rattle.std.proofs.lemmas.Bool.{cases_Bool, eqb-true}
 use Rattle.string_cache_core.specs.declared.faults.Fault.{Fault}
 use Rattle.string_cache_core.specs.declared.faults.Fault.TheVariants.{Memory, FullCount, TicketsSpent}
 use Rattle.string_cache_core.specs.Bounds.{Bounds}
-use Rattle.string_cache_core.specs.Map.{Holding, InternMap, MapReply, Intern, MayReply, MayIntern, with_held, with_last, one_more, bucket_in}
-use Rattle.string_cache_core.specs.Table.{as_word}
+use Rattle.string_cache_core.specs.Map.{Holding, InternMap, IsHeldTicket, MapReply, Intern, MayReply, MayIntern, with_held, with_last, one_more, one_less, unless_given_up, bucket_in}
+use Rattle.string_cache_core.specs.Table.{as_word, Adds, Clones, Gives}
 use Rattle.string_cache_core.specs.Kept.{Kept, map_of}
 use Rattle.string_cache_core.specs.Tables.{Tables}
 use Rattle.string_cache_core.specs.Word.{ticket_of}
@@ -14,12 +15,26 @@ abbrev pub InternReply : Tables → Bounds → InternMap → List ℕ → Result
 InternReply t limits m text result new = (reply : MapReply) × MayReply t limits m (Intern text) reply new × (result ≡ as_word reply)
 
 -- a text that is held
-module _ (t : Tables) (limits : Bounds) (m : InternMap) (text : List ℕ) (had : Holding) (held : m.held text ≡ Some had) where
-  pub interned-full : limits.holders ≤ had.holders → InternReply t limits m text (Err FullCount) m
-  interned-full full = (Err FullCount, subst (λ o. MayIntern t limits m text o (Err FullCount) m) (sym held) (inr (full, refl, refl)), refl)
+pub interned-held : (t : Tables) (limits : Bounds) (m new : InternMap) (text : List ℕ) (had : Holding) (result : Result ℕ Fault) → m.held text ≡ Some had
+    → Adds limits m text had result new → InternReply t limits m text result new
+interned-held t limits m new text had result held a = (a.0, subst (λ o. MayIntern t limits m text o a.0 new) (sym held) a.1, a.2)
 
-  pub interned-held : (new : InternMap) (word : ℕ) → had.holders < limits.holders → word ≡ had.ticket → new ≡ with_held m text (Some (one_more had)) → InternReply t limits m text (Ok word) new
-  interned-held new word less is now = (Ok (one_more had), subst (λ o. MayIntern t limits m text o (Ok (one_more had)) new) (sym held) (inl (less, refl, now)), ap Ok is)
+pub full : (limits : Bounds) (m : InternMap) (text : List ℕ) (had : Holding) → limits.holders ≤ had.holders → Adds limits m text had (Err FullCount) m
+full limits m text had more = (Err FullCount, inr (more, refl, refl), refl)
+
+pub one_holder_more : (limits : Bounds) (m new : InternMap) (text : List ℕ) (had : Holding) (word : ℕ) → had.holders < limits.holders → word ≡ had.ticket
+    → new ≡ with_held m text (Some (one_more had)) → Adds limits m text had (Ok word) new
+one_holder_more limits m new text had word less is now = (Ok (one_more had), inl (less, refl, now), ap Ok is)
+
+-- what is left once one gave it
+pub none_left : (had : Holding) → had.holders ≡ 1 → unless_given_up (one_less had) ≡ None
+none_left had e = rw e refl
+
+pub some_left : (had : Holding) → 0 < had.holders → (had.holders ≡ 1 → ⊥) → unless_given_up (one_less had) ≡ Some (one_less had)
+some_left had some more = elim (cases_Bool ((had.holders - 1) == 0)) [
+  | inl same ↦ let e = eqb-true (had.holders - 1) 0 same in absurd (more (omega (arith, e, some)))
+  | inr apart ↦ ap (λ b. cond b None (Some (one_less had))) apart
+]
 
 abbrev pub first_of_bucket : ℕ → ℕ → Holding
 first_of_bucket serial bucket = record { ticket = ticket_of serial bucket; holders = 1 }
@@ -53,3 +68,16 @@ added t old new text bucket last (Ok word) own none read less is ok err fault =
     (ok ∙ ap (λ (l : ℕ). with_last (with_held (map_of old) text (Some (first_of_bucket (l + 1) bucket))) bucket (l + 1)) read) tt tt
 added t old new text bucket last (Err f) own none read less is ok err fault =
     interned-new t old.limits (map_of old) text bucket own none (map_of new) (Err f) (omega (arith, read, less)) tt tt (ap map_of err) fault
+
+-- ---- by ticket
+
+abbrev pub as_held : (m : InternMap) (ticket : ℕ) (text : List ℕ) (holders : ℕ) → m.held text ≡ Some (record { ticket = ticket; holders = holders }) → IsHeldTicket m ticket
+as_held m ticket text holders held = record { text = text; holders = holders; held = held }
+
+pub cloned-ticket : (t : Tables) (limits : Bounds) (m new : InternMap) (ticket : ℕ) (k : IsHeldTicket m ticket) (result : Result ℕ Fault) → Adds limits m k.text (record { ticket = ticket; holders = k.holders }) result new
+    → Clones t limits m ticket result new
+cloned-ticket t limits m new ticket k result a = inr (a.0, (k, a.1), a.2)
+
+pub given-ticket : (t : Tables) (limits : Bounds) (m new : InternMap) (ticket : ℕ) (k : IsHeldTicket m ticket) → new ≡ with_held m k.text (unless_given_up (one_less (record { ticket = ticket; holders = k.holders })))
+    → Gives t limits m ticket new
+given-ticket t limits m new ticket k is = inr (Ok (one_less (record { ticket = ticket; holders = k.holders })), (k, (refl, is)))

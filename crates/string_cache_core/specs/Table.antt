@@ -1,9 +1,10 @@
 -- What the calls of a table do, as calls of the map that it is.
-use Rattle.std.specs.Prelude.{◌≡◌, ℕ, ◌⊎◌, List, Option, None, Some, Result, Ok, Err}
+use Rattle.std.specs.Prelude.{◌≡◌, ℕ, ◌⊎◌, ◌↔◌, List, Option, None, Some, Result, Ok, Err}
+use Rattle.std.specs.Str.{IsUtf8}
 use Rattle.string_cache_core.specs.Bounds.{Bounds}
 use Rattle.string_cache_core.specs.declared.faults.Fault.{Fault}
 use Rattle.string_cache_core.specs.declared.static_sets.TextForm.TheVariants as form
-use Rattle.string_cache_core.specs.Map.{InternMap, MapReply, Intern, MayReply}
+use Rattle.string_cache_core.specs.Map.{Holding, InternMap, IsHeldTicket, MapReply, Intern, Clone, Give, MayReply, MayAdd}
 use Rattle.string_cache_core.specs.Tables.{Tables, form_of_text, fixed_word, IsStaticTextWord}
 use Rattle.string_cache_core.specs.Word.{static_word, IsInlineWord}
 
@@ -11,6 +12,10 @@ use Rattle.string_cache_core.specs.Word.{static_word, IsInlineWord}
 abbrev pub as_word : MapReply → Result ℕ Fault
 as_word (Ok had) = Ok had.ticket
 as_word (Err fault) = Err fault
+
+-- one holder more of a text that is held, or a refusal
+abbrev pub Adds : Bounds → InternMap → List ℕ → Holding → Result ℕ Fault → InternMap → Type 0
+Adds limits m text had result new = (reply : MapReply) × MayAdd limits m text had reply new × (result ≡ as_word reply)
 
 -- interning, by the word that the text's form fixes: that word, and nothing changes; or the map's call
 abbrev pub InternsBy : Tables → Bounds → InternMap → List ℕ → Option ℕ → Result ℕ Fault → InternMap → Type 0
@@ -25,3 +30,39 @@ abbrev pub IsTextOf : Tables → InternMap → ℕ → List ℕ → Type 0
 IsTextOf t m word text =
     ((index : ℕ) × (form_of_text t text ≡ form.Static index) × (word ≡ static_word index))
     ⊎ ((holders : ℕ) × (m.held text ≡ Some (record { ticket = word; holders = holders })))
+
+-- ---- words that are held
+
+-- the word of a text whose form fixes it
+abbrev pub IsFixedWord : Tables → ℕ → Type 0
+IsFixedWord t word = IsInlineWord word ⊎ IsStaticTextWord t word
+
+-- the word is one that a text's form fixes, or a ticket that the map holds
+abbrev pub IsHeld : Tables → InternMap → ℕ → Type 0
+IsHeld t m word = IsFixedWord t word ⊎ IsHeldTicket m word
+
+-- cloning a word that is held: nothing changes at a fixed word, and a ticket is the map's call
+abbrev pub Clones : Tables → Bounds → InternMap → ℕ → Result ℕ Fault → InternMap → Type 0
+Clones t limits m word result new =
+    (IsFixedWord t word × (result ≡ Ok word) × (new ≡ m))
+    ⊎ ((reply : MapReply) × MayReply t limits m (Clone word) reply new × (result ≡ as_word reply))
+
+-- giving a word that is held: nothing changes at a fixed word, and a ticket is the map's call
+abbrev pub Gives : Tables → Bounds → InternMap → ℕ → InternMap → Type 0
+Gives t limits m word new =
+    (IsFixedWord t word × (new ≡ m))
+    ⊎ ((reply : MapReply) × MayReply t limits m (Give word) reply new)
+
+-- ---- whose word it is
+
+abbrev pub HasWordBy : InternMap → List ℕ → Option ℕ → ℕ → Type 0
+HasWordBy m text (Some own) word = word ≡ own
+HasWordBy m text None word = (holders : ℕ) × (m.held text ≡ Some (record { ticket = word; holders = holders }))
+
+-- the text has the word: the one that its form fixes, or the ticket that it is held with
+abbrev pub HasWord : Tables → InternMap → List ℕ → ℕ → Type 0
+HasWord t m text word = HasWordBy m text (fixed_word (form_of_text t text)) word
+
+-- Two words that texts have at once are equal exactly if the texts are.
+abbrev pub HasOneTextEach : Tables → InternMap → Type 0
+HasOneTextEach t m = (text other : List ℕ) (word also : ℕ) → IsUtf8 text → IsUtf8 other → HasWord t m text word → HasWord t m other also → (word ≡ also) ↔ (text ≡ other)

@@ -1,4 +1,4 @@
-//! The pure core of `string_cache`: words, hashes, static tables and the table for one thread.
+//! The pure core of `string_cache`: words, hashes, static tables, the table for one thread, and the core of atomic steps.
 #![tactic(auto)]
 
 mod faults;
@@ -6,6 +6,7 @@ pub mod phf;
 #[cfg(test)]
 mod samples;
 pub mod static_sets;
+pub mod steps;
 pub mod table;
 #[cfg(test)]
 mod tests;

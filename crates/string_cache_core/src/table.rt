@@ -1,16 +1,21 @@
 //! The table of texts for one thread.
 #![tactic(auto)]
 
-ghost use Rattle.std.specs.Prelude.{◌≡◌, ℕ, ◌+◌, ◌-◌, ◌^◌, ◌%◌, ◌<◌, ◌≤◌, OnOk, OnErr, IfOk, IfErr, MatchOption, Option, None, Some, slice_get, length, List};
+ghost use Rattle.std.specs.Prelude.{IsTrue, ◌≡◌, ℕ, ◌+◌, ◌-◌, ◌^◌, ◌%◌, ◌<◌, ◌≤◌, OnOk, OnErr, IfOk, IfErr, MatchOption, Option, None, Some, slice_get, length, List, ◌↔◌};
 ghost use Rattle.string_cache_core.specs.Bounds.{Bounds};
 ghost use Rattle.string_cache_core.specs.Faults.{IsInternFault};
-ghost use Rattle.string_cache_core.specs.declared.faults.Fault.TheVariants.{Memory};
+ghost use Rattle.string_cache_core.specs.declared.faults.Fault.TheVariants.{FullCount, Memory};
+ghost use Rattle.string_cache_core.specs.Calls.{Answers, Replays};
+ghost use Rattle.std.specs.List.{IsDistinct, sum_by};
+ghost use Rattle.std.specs.Map.{keys_of};
+ghost use Rattle.std.specs.Str.{bytes_eq};
 ghost use Rattle.string_cache_core.specs.Map.{Holding, InternMap, IsHeldTicket, Intern, MapReply, MayReply, empty_map, with_held, with_last, bucket_in};
-ghost use Rattle.string_cache_core.specs.Table.{Interns, IsTextOf, as_word};
+ghost use Rattle.string_cache_core.specs.Table.{Adds, Interns, Clones, Gives, HasOneTextEach, IsHeld, IsTextOf, as_word};
 ghost use Rattle.string_cache_core.specs.Tables.{form_of_text, fixed_word, entry_hash};
 ghost use Rattle.string_cache_core.specs.Word.{ticket_of};
 ghost use Rattle.string_cache_core.specs.declared.static_sets.TextForm.TheVariants.{Dynamic};
 
+mod call;
 mod held;
 mod places;
 #[cfg(test)]
@@ -19,6 +24,7 @@ mod tests;
 use crate::Fault;
 use crate::static_sets::{StaticAtomSet, TextForm, form_of_text, static_text};
 use crate::word::{Form, Limits, form_of, static_word, ticket_word};
+pub use call::{Call, TableReply};
 use held::{Held, write_holders};
 use indexmap::IndexMap;
 use places::{forget, move_to};
@@ -108,6 +114,92 @@ impl<S: StaticAtomSet> Table<S> {
         }
     }
 
+    /// Whether a word is held: an inline word always is, a static word where the static type has its text, and a ticket where
+    /// someone holds it.
+    pub fn holds(&self, word: u64) -> bool
+        ensures { IsTrue result ↔ IsHeld S.tables (map_of self.now) word }
+    {
+        self.is_sound();
+        match form_of(word) {
+            Some(Form::Inline(_)) => true,
+            Some(Form::Static(index)) => static_text::<S>(index).is_some(),
+            Some(Form::Dynamic { .. }) => self.place_of(word).is_some(),
+            None => false,
+        }
+    }
+
+    /// One holder more of a word that is held. An inline word and a static word have no number of holders: nothing changes.
+    ///
+    /// `FullCount` where the ticket's text has as many holders as the limits allow. A refusal changes nothing.
+    pub fn clone_word(&mut self, word: u64) -> Result<u64, Fault>
+        requires { IsHeld S.tables (map_of self.old) word }
+        ensures limits { self.new.limits ≡ self.old.limits }
+        ensures clones { Clones S.tables self.old.limits (map_of self.old) word result (map_of self.new) }
+        ensures fault { IfErr result (λ fault. fault ≡ FullCount) }
+        ensures err { OnErr result (self.new ≡ self.old) }
+    {
+        match self.place_of(word) {
+            Some(at) => self.add_holder(at),
+            None => Ok(word),
+        }
+    }
+
+    /// One holder less of a word that is held. The last holder of a ticket takes the text with it; the bucket keeps its last
+    /// serial, so that the ticket never comes again.
+    pub fn give(&mut self, word: u64)
+        requires { IsHeld S.tables (map_of self.old) word }
+        ensures limits { self.new.limits ≡ self.old.limits }
+        ensures gives { Gives S.tables self.old.limits (map_of self.old) word (map_of self.new) }
+    {
+        let Some(at) = self.place_of(word) else {
+            return;
+        };
+        let (_, holders) = self.held_at(at);
+        if holders == 1 {
+            self.take_out(at);
+        } else {
+            self.set_holders(at, holders - 1);
+        }
+    }
+
+    /// How many dynamic texts are held.
+    pub fn entries(&self) -> usize
+        ensures count { result ≡ length self.now.pairs }
+        ensures distinct { IsDistinct bytes_eq (keys_of self.now.pairs) }
+    {
+        self.entries.len() // each text once
+    }
+
+    /// How many bytes the dynamic texts that are held have. It looks at each of them.
+    pub fn text_bytes(&self) -> u128
+        ensures { result ≡ sum_by (λ pair. length pair.0) self.now.pairs }
+    {
+        let mut bytes = 0u128;
+        for at in 0..self.entries() {
+            bytes += self.bytes_at(at) as u128;
+        }
+        bytes
+    }
+
+    /// Makes the calls in order, with a reply for each. `Memory` where there is no place for the replies; then no call was
+    /// made.
+    pub fn run(&mut self, calls: &[Call]) -> Result<Vec<TableReply>, Fault>
+        ensures limits { self.new.limits ≡ self.old.limits }
+        ensures replays { IfOk result (λ replies. Replays S.tables self.old.limits (map_of self.old) calls.now replies.items (map_of self.new)) }
+        ensures apart { OnOk result (HasOneTextEach S.tables (map_of self.new)) }
+        ensures grow { OnOk result ((bucket : ℕ) → (map_of self.old).last bucket ≤ (map_of self.new).last bucket) }
+        ensures fault { IfErr result (λ fault. fault ≡ Memory) }
+        ensures err { OnErr result (self.new ≡ self.old) }
+    {
+        let mut replies = Vec::with_capacity(self.alloc, calls.len())?;
+        for call in calls {
+            let reply = self.call(call);
+            replies.push_reserved(reply);
+        }
+        self.is_sound();
+        Ok(replies)
+    }
+
     // ---- places
 
     /// What every table keeps to.
@@ -117,12 +209,12 @@ impl<S: StaticAtomSet> Table<S> {
         let _ = &self.places;
     }
 
-    /// Where the text stands, with its ticket and its holders.
-    fn find(&self, text: &str) -> Option<(usize, u64, u64)>
-        ensures { MatchOption result ((map_of self.now).held text.now ≡ None) (λ found. IsFound self.now text.now found.0 (record { ticket = found.1; holders = found.2 })) }
+    /// Where the text stands.
+    fn find(&self, text: &str) -> Option<usize>
+        ensures { MatchOption result ((map_of self.now).held text.now ≡ None) (λ at. (had : Holding) × IsFound self.now text.now at had) }
     {
-        let (at, _, held) = self.entries.get_full(text)?;
-        Some((at, held.ticket(), held.holders()))
+        let (at, _, _) = self.entries.get_full(text)?;
+        Some(at)
     }
 
     /// Where the ticket stands.
@@ -132,6 +224,26 @@ impl<S: StaticAtomSet> Table<S> {
         let _ = self.entries.len();
         let at = self.places.get(&ticket)?;
         Some(*at)
+    }
+
+    /// The ticket and the holders of the text at a place.
+    fn held_at(&self, at: usize) -> (u64, u64)
+        requires { at < length self.now.pairs }
+        ensures { (pair : Pair) → slice_get self.now.pairs at ≡ Some pair → pair.1 ≡ record { ticket = result.0; holders = result.1 } }
+    {
+        let held = &self.entries[at];
+        (held.ticket(), held.holders())
+    }
+
+    /// How many bytes the text at a place has.
+    fn bytes_at(&self, at: usize) -> usize
+        requires { at < length self.now.pairs }
+        ensures { (pair : Pair) → slice_get self.now.pairs at ≡ Some pair → result ≡ length pair.0 }
+    {
+        let Some((text, _)) = self.entries.get_index(at) else {
+            unreachable!()
+        };
+        text.as_str().len()
     }
 
     /// The text of a ticket.
@@ -155,6 +267,7 @@ impl<S: StaticAtomSet> Table<S> {
 
     // ---- changes
 
+    /// Lets so many hold the text at a place.
     fn set_holders(&mut self, at: usize, holders: u64)
         requires place { at < length self.old.pairs }
         requires held { 0 < holders }
@@ -163,6 +276,23 @@ impl<S: StaticAtomSet> Table<S> {
             → map_of self.new ≡ with_held (map_of self.old) text (Some (record { ticket = had.ticket; holders = holders })) }
     {
         write_holders(&mut self.entries, at, holders);
+    }
+
+    /// One holder more of the text at a place.
+    fn add_holder(&mut self, at: usize) -> Result<u64, Fault>
+        requires { at < length self.old.pairs }
+        ensures limits { self.new.limits ≡ self.old.limits }
+        ensures adds { (text : List ℕ) (had : Holding) → slice_get self.old.pairs at ≡ Some (text, had)
+            → Adds self.old.limits (map_of self.old) text had result (map_of self.new) }
+        ensures fault { IfErr result (λ fault. fault ≡ FullCount) }
+        ensures err { OnErr result (self.new ≡ self.old) }
+    {
+        let (ticket, holders) = self.held_at(at);
+        if holders >= self.limits.holders() {
+            return Err(Fault::FullCount);
+        }
+        self.set_holders(at, holders + 1);
+        Ok(ticket)
     }
 
     /// Adds a text that isn't held, with its bucket's next ticket.
@@ -193,6 +323,24 @@ impl<S: StaticAtomSet> Table<S> {
         Ok(ticket)
     }
 
+    /// Takes the text at a place out. The last one comes in its place.
+    fn take_out(&mut self, at: usize)
+        requires { at < length self.old.pairs }
+        ensures limits { self.new.limits ≡ self.old.limits }
+        ensures map { (text : List ℕ) (had : Holding) → slice_get self.old.pairs at ≡ Some (text, had) → map_of self.new ≡ with_held (map_of self.old) text None }
+    {
+        let ticket = self.entries[at].ticket();
+        let Some(_) = self.entries.swap_remove_index(at) else {
+            unreachable!()
+        };
+        forget(&mut self.places, ticket);
+        if at < self.entries.len() {
+            let moved = self.entries[at].ticket();
+            move_to(&mut self.places, moved, at);
+        }
+    }
+
+    /// Interns a dynamic text with this hash.
     fn intern_dynamic(&mut self, text: &str, hash: u64) -> Result<u64, Fault>
         requires { form_of_text S.tables text.now ≡ Dynamic hash }
         ensures limits { self.new.limits ≡ self.old.limits }
@@ -200,17 +348,35 @@ impl<S: StaticAtomSet> Table<S> {
         ensures fault { IfErr result IsInternFault }
         ensures err { OnErr result (self.new ≡ self.old) }
     {
-        if let Some((at, ticket, holders)) = self.find(text) {
-            if holders >= self.limits.holders() {
-                return Err(Fault::FullCount);
-            }
-            self.set_holders(at, holders + 1);
-            return Ok(ticket);
+        if let Some(at) = self.find(text) {
+            return self.add_holder(at);
         }
         let (bucket, last) = self.bucket_of(hash);
         if last >= self.limits.serials() {
             return Err(Fault::TicketsSpent);
         }
         self.add(text, bucket, last + 1)
+    }
+
+    fn call(&mut self, call: &Call) -> TableReply
+        ensures limits { self.new.limits ≡ self.old.limits }
+        ensures answers { Answers S.tables self.old.limits (map_of self.old) call.now result (map_of self.new) }
+    {
+        match call {
+            Call::Intern(text) => TableReply::of(self.intern(text.as_str())),
+            Call::Clone(word) => {
+                if !self.holds(*word) {
+                    return TableReply::NotHeld;
+                }
+                TableReply::of(self.clone_word(*word))
+            }
+            Call::Give(word) => {
+                if !self.holds(*word) {
+                    return TableReply::NotHeld;
+                }
+                self.give(*word);
+                TableReply::Given
+            }
+        }
     }
 }

@@ -2,13 +2,65 @@
 
 ghost use Rattle.std.specs.Prelude.{◌<◌};
 
-use super::Table;
+use super::{Call, Table, TableReply};
 use crate::Fault;
 use crate::phf::hash;
 use crate::samples::One;
-use crate::static_sets::EmptyStaticAtomSet;
+use crate::static_sets::{EmptyStaticAtomSet, StaticAtomSet};
 use crate::word::{Form, Limits, form_of, ticket_word};
+use std::alloc::Global;
+use std::process::Abort;
 use std::test::Fail;
+
+// These say nothing of what they do, so that each test is proved in a moment.
+
+fn intern<S: StaticAtomSet>(table: &mut Table<S>, text: &str) -> Result<u64, Fault> {
+    table.intern(text)
+}
+
+fn holds<S: StaticAtomSet>(table: &Table<S>, word: u64) -> bool {
+    table.holds(word)
+}
+
+fn has_text<S: StaticAtomSet>(table: &Table<S>, word: u64, text: &str) -> bool {
+    match table.text(word) {
+        Some(own) => own == text,
+        None => false,
+    }
+}
+
+fn keeps<S: StaticAtomSet>(table: &Table<S>, entries: usize, bytes: u128) -> bool {
+    table.entries() == entries && table.text_bytes() == bytes
+}
+
+fn run<S: StaticAtomSet>(table: &mut Table<S>, calls: &[Call]) -> Result<Vec<TableReply>, Fault> {
+    table.run(calls)
+}
+
+/// Gives a word that has to be held.
+fn give(rt: &impl Abort, table: &mut Table<EmptyStaticAtomSet>, word: u64) {
+    assert!(rt; table.holds(word));
+    table.give(word);
+}
+
+/// Clones a word that has to be held.
+fn clone_word(
+    rt: &impl Abort,
+    table: &mut Table<EmptyStaticAtomSet>,
+    word: u64,
+) -> Result<u64, Fault> {
+    assert!(rt; table.holds(word));
+    table.clone_word(word)
+}
+
+/// Whether it is the first ticket of its bucket.
+fn is_first(word: u64) -> bool {
+    matches!(form_of(word), Some(Form::Dynamic { serial: 1, .. }))
+}
+
+fn next_ticket(word: u64) -> Option<u64> {
+    word.checked_add(16384)
+}
 
 #[test]
 fn short_texts_have_inline_words(rt: HostRuntime) -> Result<(), Fail> {
@@ -21,34 +73,125 @@ fn short_texts_have_inline_words(rt: HostRuntime) -> Result<(), Fail> {
         ("foo", 0x6f6f_6631),
         ("abcdefg", 0x6766_6564_6362_6171),
     ] {
-        assert_eq!(rt; table.intern(text)?, word);
-        assert!(rt; table.text(word).is_none());
+        assert_eq!(rt; intern(&mut table, text)?, word);
+        assert!(rt; !has_text(&table, word, text));
+        assert!(rt; holds(&table, word));
     }
+    assert!(rt; keeps(&table, 0, 0));
     Ok(())
 }
 
 #[test]
 fn one_text_has_one_ticket(rt: HostRuntime) -> Result<(), Fail> {
     let mut table = Table::<EmptyStaticAtomSet>::new(rt.alloc())?;
-    let word = table.intern("abcdefgh")?;
-    assert!(rt; matches!(form_of(word), Some(Form::Dynamic { serial: 1, .. })));
-    let other = table.intern("interned")?;
+    let word = intern(&mut table, "abcdefgh")?;
+    assert!(rt; is_first(word));
+    let other = intern(&mut table, "interned")?;
     assert!(rt; word != other);
-    assert_eq!(rt; table.intern("interned")?, other);
-    assert_eq!(rt; table.text(word).ok_or("no text")?, "abcdefgh");
-    assert_eq!(rt; table.text(other).ok_or("no text")?, "interned");
-    assert!(rt; table.text(other ^ 1 << 60).is_none());
+    assert_eq!(rt; intern(&mut table, "interned")?, other);
+    assert!(rt; has_text(&table, word, "abcdefgh"));
+    assert!(rt; has_text(&table, other, "interned"));
     Ok(())
 }
 
 #[test]
 fn static_texts_have_static_words(rt: HostRuntime) -> Result<(), Fail> {
     let mut table = Table::<One>::new(rt.alloc())?;
-    assert_eq!(rt; table.intern("sentence")?, 2);
-    assert_eq!(rt; table.text(2).ok_or("no text")?, "sentence");
-    assert!(rt; table.text((1 << 32) + 2).is_none());
-    let word = table.intern("sentencf")?;
-    assert!(rt; matches!(form_of(word), Some(Form::Dynamic { serial: 1, .. })));
+    assert_eq!(rt; intern(&mut table, "sentence")?, 2);
+    assert!(rt; has_text(&table, 2, "sentence"));
+    assert!(rt; holds(&table, 2));
+    assert!(rt; !holds(&table, 1 << 32 | 2));
+    assert!(rt; is_first(intern(&mut table, "sentencf")?));
+    Ok(())
+}
+
+#[test]
+fn a_word_goes_with_its_last_holder(rt: HostRuntime) -> Result<(), Fail> {
+    let mut table = Table::<EmptyStaticAtomSet>::new(rt.alloc())?;
+    let word = intern(&mut table, "interned")?;
+    assert_eq!(rt; intern(&mut table, "interned")?, word);
+    assert!(rt; keeps(&table, 1, 8));
+    give(&rt, &mut table, word);
+    give(&rt, &mut table, word);
+    assert!(rt; !holds(&table, word));
+    assert!(rt; !has_text(&table, word, "interned"));
+    assert!(rt; keeps(&table, 0, 0));
+    let next = intern(&mut table, "interned")?;
+    assert_eq!(rt; next_ticket(word), Some(next));
+    Ok(())
+}
+
+#[test]
+fn the_last_text_comes_in_the_place_of_one_that_goes(rt: HostRuntime) -> Result<(), Fail> {
+    let mut table = Table::<EmptyStaticAtomSet>::new(rt.alloc())?;
+    let first = intern(&mut table, "the first")?;
+    let second = intern(&mut table, "the second")?;
+    let third = intern(&mut table, "the third")?;
+    give(&rt, &mut table, first);
+    assert!(rt; has_text(&table, second, "the second"));
+    assert!(rt; has_text(&table, third, "the third"));
+    assert_eq!(rt; intern(&mut table, "the third")?, third);
+    assert!(rt; keeps(&table, 2, 19));
+    Ok(())
+}
+
+fn intern_call(alloc: Global, text: &str) -> Result<Call, Fault> {
+    Ok(Call::Intern(String::from_str(alloc, text)?))
+}
+
+/// The reply to one call that is run.
+fn run_one(
+    alloc: Global,
+    table: &mut Table<EmptyStaticAtomSet>,
+    call: Call,
+) -> Result<TableReply, Fault> {
+    let mut calls = Vec::new(alloc);
+    calls.push(call)?;
+    match run(table, &calls)?.get(0) {
+        Some(reply) => Ok(*reply),
+        None => Err(Fault::NotText),
+    }
+}
+
+#[test]
+fn calls_are_run(rt: HostRuntime) -> Result<(), Fail> {
+    let alloc = rt.alloc();
+    let mut table = Table::<EmptyStaticAtomSet>::new(alloc)?;
+    let word = intern(&mut table, "interned")?;
+    let next = next_ticket(word).ok_or("no next ticket")?;
+    for (call, reply) in [
+        (Call::Clone(word), TableReply::Word(word)),
+        (Call::Give(word), TableReply::Given),
+        (Call::Give(word), TableReply::Given),
+        (Call::Give(word), TableReply::NotHeld),
+        (Call::Clone(word), TableReply::NotHeld),
+        (Call::Clone(3), TableReply::NotHeld),
+        (Call::Clone(0x6111), TableReply::Word(0x6111)),
+        (Call::Give(0x6111), TableReply::Given),
+        (intern_call(alloc, "foo")?, TableReply::Word(0x6f6f_6631)),
+        (intern_call(alloc, "interned")?, TableReply::Word(next)),
+    ] {
+        assert_eq!(rt; run_one(alloc, &mut table, call)?, reply);
+    }
+    assert!(rt; keeps(&table, 1, 8));
+    Ok(())
+}
+
+#[test]
+fn a_run_replies_to_each_call_in_order(rt: HostRuntime) -> Result<(), Fail> {
+    let alloc = rt.alloc();
+    let mut table = Table::<EmptyStaticAtomSet>::new(alloc)?;
+    let mut calls = Vec::new(alloc);
+    calls.push(intern_call(alloc, "interned")?)?;
+    calls.push(Call::Give(0x6111))?;
+    calls.push(Call::Give(0))?;
+    calls.push(intern_call(alloc, "interned")?)?;
+    let replies = run(&mut table, &calls)?;
+    let [first, TableReply::Given, TableReply::NotHeld, last] = replies.as_slice() else {
+        return Err("other replies".into());
+    };
+    assert_eq!(rt; *first, *last);
+    assert!(rt; keeps(&table, 1, 8));
     Ok(())
 }
 
@@ -56,10 +199,13 @@ fn static_texts_have_static_words(rt: HostRuntime) -> Result<(), Fail> {
 fn a_text_has_no_more_holders_than_its_limit(rt: HostRuntime) -> Result<(), Fail> {
     let limits = Limits::new(2, 1).ok_or("limits")?;
     let mut table = Table::<EmptyStaticAtomSet>::with_limits(rt.alloc(), limits)?;
-    let word = table.intern("interned")?;
-    assert_eq!(rt; table.intern("interned")?, word);
-    assert_eq!(rt; table.intern("interned"), Err(Fault::FullCount));
-    assert_eq!(rt; table.text(word).ok_or("no text")?, "interned");
+    let word = intern(&mut table, "interned")?;
+    assert_eq!(rt; intern(&mut table, "interned")?, word);
+    assert_eq!(rt; intern(&mut table, "interned"), Err(Fault::FullCount));
+    assert_eq!(rt; clone_word(&rt, &mut table, word), Err(Fault::FullCount));
+    give(&rt, &mut table, word);
+    assert_eq!(rt; clone_word(&rt, &mut table, word)?, word);
+    assert_eq!(rt; clone_word(&rt, &mut table, 0x6111)?, 0x6111);
     Ok(())
 }
 
@@ -71,13 +217,13 @@ fn bucket_of(text: &str) -> usize
 }
 
 /// Two of the texts `word0000` to `word4096` with one bucket.
-fn bucket_mates(rt: &HostRuntime) -> Result<(String, String), Fail> {
-    let mut first = vec![in rt.alloc(); None; 4096]?;
+fn bucket_mates(alloc: Global) -> Result<(String, String), Fail> {
+    let mut first = vec![in alloc; None; 4096]?;
     for number in 0..4097u16 {
-        let text = format!(in rt.alloc(); "word{number:04}")?;
+        let text = format!(in alloc; "word{number:04}")?;
         let bucket = bucket_of(&text);
         if let Some(other) = first[bucket] {
-            return Ok((format!(in rt.alloc(); "word{other:04}")?, text));
+            return Ok((format!(in alloc; "word{other:04}")?, text));
         }
         first[bucket] = Some(number);
     }
@@ -86,13 +232,15 @@ fn bucket_mates(rt: &HostRuntime) -> Result<(String, String), Fail> {
 
 #[test]
 fn a_bucket_gives_no_more_tickets_than_its_limit(rt: HostRuntime) -> Result<(), Fail> {
-    let (first, second) = bucket_mates(&rt)?;
+    let (first, second) = bucket_mates(rt.alloc())?;
     let limits = Limits::new(1, 1).ok_or("limits")?;
     let mut table = Table::<EmptyStaticAtomSet>::with_limits(rt.alloc(), limits)?;
-    let word = table.intern(&first)?;
-    assert!(rt; matches!(form_of(word), Some(Form::Dynamic { serial: 1, .. })));
-    assert_eq!(rt; table.intern(&second), Err(Fault::TicketsSpent));
-    assert_eq!(rt; table.intern("abc")?, 0x6362_6131);
+    let word = intern(&mut table, &first)?;
+    assert!(rt; is_first(word));
+    assert_eq!(rt; intern(&mut table, &second), Err(Fault::TicketsSpent));
+    give(&rt, &mut table, word);
+    assert_eq!(rt; intern(&mut table, &first), Err(Fault::TicketsSpent));
+    assert_eq!(rt; intern(&mut table, "abc")?, 0x6362_6131);
     Ok(())
 }
 
@@ -109,14 +257,18 @@ fn refused_memory(rt: HostRuntime) {
     };
     let bucket = bucket_of("interned") as u16;
     let first = ticket_word(1, bucket);
-    let word = match table.intern("interned") {
+    let word = match intern(&mut table, "interned") {
         Ok(word) => word,
         Err(fault) => {
             assert_eq!(rt; fault, Fault::Memory);
-            assert_eq!(rt; table.text(first), None);
-            table.intern("interned").expect(&rt, "a ticket")
+            assert!(rt; keeps(&table, 0, 0));
+            intern(&mut table, "interned").expect(&rt, "a ticket")
         }
     };
     assert_eq!(rt; word, first);
-    assert_eq!(rt; table.intern("interned"), Ok(word), "it takes no memory");
+    assert_eq!(rt;
+        intern(&mut table, "interned"),
+        Ok(word),
+        "it takes no memory"
+    );
 }

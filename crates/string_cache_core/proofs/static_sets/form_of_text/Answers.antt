@@ -1,7 +1,6 @@
-use Rattle.std.proofs.Common.{◌≡◌, ℕ, ◌<◌, length, arith, refl, sym, ap, ◌∙◌, true, false, rules}
+use Rattle.std.proofs.Common.{◌<◌, length, refl, sym, ap, ◌∙◌, rules}
 use Rattle.std.specs.Str.{bytes_eq}
 use Rattle.string_cache_core.specs.declared.static_sets.TextForm.TheVariants.{Dynamic}
-use Rattle.string_cache_core.specs.Tables.{text_at, place_in, entry_hash}
 use Rattle.string_cache_core.proofs.TableLemmas.{static_form, dynamic_form, looked_up, stands, hashed_as}
 use Rattle.string_cache_core.proofs.static_sets.form_of_text.Goals as goal
 

@@ -1,5 +1,5 @@
-use Rattle.std.proofs.Common.{◌≡◌, ◌∙◌, ap, sym, subst, refl, arith, ℕ, Some, None, Option, length, List, cond, map, ◌<◌, ◌%◌, ◌+◌}
-use Rattle.std.specs.Prelude.{slice_get, slice_set, string_bytes}
+use Rattle.std.proofs.Common.{◌≡◌, ◌∙◌, ap, sym, subst, arith, ℕ, Some, length, cond, ◌%◌, ◌+◌}
+use Rattle.std.specs.Prelude.{slice_set}
 use Rattle.std.specs.Bool.{nat_eq}
 use Rattle.std.specs.Map.{lookup}
 use Rattle.std.specs.HashMap.{get}

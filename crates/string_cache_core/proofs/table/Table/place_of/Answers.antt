@@ -1,6 +1,6 @@
 use Rattle.std.proofs.Common.{sym, subst, rules}
 use Rattle.string_cache_core.specs.Map.{IsHeldTicket}
-use Rattle.string_cache_core.specs.Kept.{Kept, pairs_of, map_of}
+use Rattle.string_cache_core.specs.Kept.{Kept, map_of}
 use Rattle.string_cache_core.specs.Places.{IsPlace}
 use Rattle.string_cache_core.proofs.KeptPairs.{not-placed, is-placed}
 use Rattle.string_cache_core.proofs.table.Table.place_of.Goals as goal

@@ -1,4 +1,4 @@
-use Rattle.std.proofs.Common.{◌≡◌, sym, subst, List, ℕ, Some, None, Option}
+use Rattle.std.proofs.Common.{sym, subst, List, ℕ, Some, Option}
 use Rattle.std.specs.Prelude.{MatchOption}
 use Rattle.std.specs.Borrow.{Bor}
 use Rattle.string_cache_core.specs.declared.word.Form.{Form}

@@ -1,0 +1,88 @@
+-- Every run from the opening world.
+use Rattle.std.proofs.Common.{◌≡◌, ℕ, ◌<◌, ◌≤◌, ◌≢◌, true, List, [], ◌∷◌, ◌++◌, Option, None, Some, refl, ap, subst, zero, suc}
+use Rattle.std.specs.List.{AllByRecursion}
+use Rattle.string_cache_core.specs.declared.steps.Step.TheVariants.{Free}
+use Rattle.string_cache_core.specs.declared.steps.StepReply.TheVariants as reply
+use Rattle.string_cache_core.specs.Tables.{Tables}
+use Rattle.string_cache_core.specs.Bounds.{Bounds}
+use Rattle.string_cache_core.specs.World.{Entry, World}
+use Rattle.string_cache_core.specs.Steps.{entry_at, opening}
+use Rattle.string_cache_core.specs.Sound.{At, Sound, is_living}
+use Rattle.string_cache_core.specs.Runs.{Event, Leads}
+use Rattle.string_cache_core.specs.Theorem.{event, places_in_bag, IsSoundRun}
+use Rattle.string_cache_core.proofs.StepHistory.{keeps_all, opening_sound, one_map}
+use Rattle.string_cache_core.proofs.StepEntries.{frees_soundly, sound_by}
+use Rattle.string_cache_core.proofs.StepZeros.{zeros_go_all}
+use Rattle.string_cache_core.proofs.StepSweeps.{only_held}
+use Rattle.string_cache_core.proofs.StepInterns.{interns_at_most, interns_once, calls_in_order}
+
+no_entry : {x : Entry} {P : Type 0} → ◌≡◌ {A = Option Entry} None (Some x) → P
+no_entry e = absurd cc
+
+no_event : {x : Event} {P : Type 0} → ◌≡◌ {A = Option Event} None (Some x) → P
+no_event e = absurd cc
+
+all_at : {X : Type 0} (P : X → Type 0) (xs : List X) (k : ℕ) (x : X) → AllByRecursion P xs → At xs k x → P x
+all_at {X} P [] k x all at = absurd (let e : ◌≡◌ {A = Option X} None (Some x) = at in cc)
+all_at P (y ∷ xs) zero x all at = let is : y ≡ x = cc in subst P is all.0
+all_at P (y ∷ xs) (suc k) x all at = all_at P xs k x all.1 at
+
+module _ (tables : Tables) where
+  tickets_apart : (w : World) → Sound tables w → (j k : ℕ) (x y : Entry) → entry_at w j ≡ Some x → entry_at w k ≡ Some y → x.ticket ≡ y.ticket → j ≡ k
+  tickets_apart w sound zero k x y a b e = no_entry a
+  tickets_apart w sound (suc j) zero x y a b e = no_entry b
+  tickets_apart w sound (suc j) (suc k) x y a b e = ap suc (sound.table.apart j k x y a b e)
+
+  texts_apart : (w : World) → Sound tables w → (j k : ℕ) (x y : Entry) → entry_at w j ≡ Some x → entry_at w k ≡ Some y → is_living x ≡ true → is_living y ≡ true → x.text ≡ y.text → j ≡ k
+  texts_apart w sound zero k x y a b lx ly e = no_entry a
+  texts_apart w sound (suc j) zero x y a b lx ly e = no_entry b
+  texts_apart w sound (suc j) (suc k) x y a b lx ly e = ap suc (sound.table.one j k x y a b lx ly e)
+
+  counts_places : (w : World) → Sound tables w → (e : ℕ) (x : Entry) → entry_at w e ≡ Some x → x.count ≡ places_in_bag w x.ticket
+  counts_places w sound zero x a = no_entry a
+  counts_places w sound (suc k) x a = sound.table.counted k x a
+
+  -- Once an entry was freed, no later event frees it.
+  freed_before : (w : World) → Sound tables w → (first : Event) (events : List Event) (new : World) → Leads tables w (first ∷ events) new
+      → (j p q e : ℕ) → first ≡ event p (Free e) reply.Freed → At events j (event q (Free e) reply.Freed) → ⊥
+  freed_before w sound first events new leads j p q e is later =
+      let leads' : Leads tables w (event p (Free e) reply.Freed ∷ events) new = subst (λ (x : Event). Leads tables w (x ∷ events) new) is leads in
+      let frees = frees_soundly tables w sound p e events leads'.0 new leads'.1 leads'.2 in
+      all_at (λ (x : Event). x.does ≡ Free e → x.reply ≢ reply.Freed) events j (event q (Free e) reply.Freed) frees.once later refl refl
+
+  freed_apart : (w : World) → Sound tables w → (events : List Event) (new : World) → Leads tables w events new
+      → (i j p q e : ℕ) → At events i (event p (Free e) reply.Freed) → At events j (event q (Free e) reply.Freed) → i ≡ j
+  freed_apart w sound [] new leads i j p q e a b = no_event a
+  freed_apart w sound (x ∷ events) new leads zero zero p q e a b = refl
+  freed_apart w sound (x ∷ events) new leads zero (suc j) p q e a b =
+      absurd (freed_before w sound x events new leads j p q e (let is : x ≡ event p (Free e) reply.Freed = cc in is) b)
+  freed_apart w sound (x ∷ events) new leads (suc i) zero p q e a b =
+      absurd (freed_before w sound x events new leads i q p e (let is : x ≡ event q (Free e) reply.Freed = cc in is) a)
+  freed_apart w sound (x ∷ events) new leads (suc i) (suc j) p q e a b =
+      ap suc (freed_apart leads.0 (sound_by tables w sound x leads.0 leads.1) events new leads.2 i j p q e a b)
+
+  pub every_run : (limits : Bounds) (n : ℕ) (events : List Event) (new : World) → 0 < n → n ≤ 4096 → Leads tables (opening limits n) events new
+      → IsSoundRun tables (opening limits n) events new
+  every_run limits n events new some few leads =
+      let first = opening_sound tables limits n some few in
+      let all = (keeps_all tables (opening limits n) first events new leads).sound in
+      let at : (before : List Event) (w : World) → Leads tables (opening limits n) before w → Sound tables w =
+      λ before w came. (keeps_all tables (opening limits n) first before w came).sound in
+      record {
+        steps = leads;
+        one_map = one_map tables limits n some few events new leads;
+        distinct_tickets = tickets_apart new all;
+        distinct_texts = texts_apart new all;
+        counts = counts_places new all;
+        frees = λ w v party e later part. frees_soundly tables w (at part.before w part.came) party e later part.leads.0 v part.leads.1 part.leads.2;
+        freed_once = freed_apart (opening limits n) first events new leads;
+        in_order = λ party. calls_in_order tables party (opening limits n) events;
+        interns = λ w v party take since text part is. interns_at_most tables w v party take text is since part.leads;
+        interned = λ w v party take middle text part is. interns_once tables w v party take text is middle part.leads;
+        zeros_go = λ w v party take middle bucket part b. zeros_go_all tables w (at part.before w part.came) party bucket take middle v b part.leads;
+        swept = λ w v party part is alone sweeps. only_held tables w (at is.before w is.came) party part v is.leads alone sweeps;
+      }
+
+  pub leads-join : (w u v : World) (xs ys : List Event) → Leads tables w xs u → Leads tables u ys v → Leads tables w (xs ++ ys) v
+  leads-join w u v [] ys first rest = subst (λ (m : World). Leads tables m ys v) first rest
+  leads-join w u v (x ∷ xs) ys first rest = (first.0, first.1, leads-join first.0 u v xs ys first.2 rest)

@@ -1,0 +1,21 @@
+use Rattle.std.proofs.Common.{◌≡◌, ◌∙◌, ◌-◌, ap, refl}
+use Rattle.std.specs.Prelude.{slice_get, slice_set}
+use Rattle.std.specs.Vec.{with_item}
+use Rattle.string_cache_core.specs.World.{Entry, World}
+use Rattle.string_cache_core.proofs.StepLists.{get_or_at}
+use Rattle.string_cache_core.proofs.StepBag.{lowered_world}
+use Rattle.string_cache_core.proofs.steps.state.State.give_share.Goals as goal
+
+pub returns : goal.returns
+returns c = λ entry there.
+    let old = c.self.inside.entries.items in
+    let k = c.args.k in
+    let item : c.index_mut-entry.result.now ≡ entry = c.index_mut-entry.ensures.value ∙ get_or_at old k _ entry (ap (λ (v : World). slice_get v.entries k) c.self.view_is ∙ there) in
+    let changed : c.drop_holder.new.self ≡ record entry { count = entry.count - 1 } = c.drop_holder.ensures ∙ ap (λ (entry : Entry). record entry { count = entry.count - 1 }) item in
+    let es = with_item c.self.inside.entries k c.drop_holder.new.self in
+    let is : es.items ≡ slice_set c.args.self.now.entries k (record entry { count = entry.count - 1 }) =
+    ap (λ (e : Entry). slice_set old k e) changed ∙ ap (λ (v : World). slice_set v.entries k (record entry { count = entry.count - 1 })) c.self.view_is in
+    let now = c.entry.view_is ∙ changed in (
+      ap (λ (e : Entry). e.count) now,
+      lowered_world _ c.args.self.now c.self.view_is refl c.requires.sound k entry there (c.requires.held entry there) es.items is,
+    )

@@ -1,0 +1,57 @@
+use Rattle.std.proofs.Common.{◌∙◌, ap, sym, arith, ℕ, ◌+◌}
+use Rattle.std.specs.Prelude.{is_some}
+use Rattle.string_cache_core.specs.World.{Pass}
+use Rattle.string_cache_core.proofs.StepPlaces.{within}
+use Rattle.string_cache_core.proofs.StepLists.{at_one}
+use Rattle.string_cache_core.specs.Tables.{empty_tables}
+use Rattle.string_cache_core.proofs.StepDoes.{link_no, link_spent, link_memory, link_linked, text_to_link}
+use Rattle.string_cache_core.proofs.steps.state.State.link.Goals as goal
+
+pub returns-then-not-may_link-clause-ok : goal.returns-then-not-may_link-clause-ok
+returns-then-not-may_link-clause-ok c = λ tables.
+    let p = c.in-Some.ensures in
+    link_no tables _ _ _ _ p (sym (c.may_link.ensures p.pass p.there) ∙ c.if-not-may_link.true)
+
+pub last_at-last-requires : goal.last_at-last-requires
+last_at-last-requires c = within _ _ _ c.in-Some.ensures.there
+
+pub decide-requires : goal.decide-requires
+decide-requires c = within _ _ _ c.in-Some.ensures.there
+
+pub decide-requires-then-not-room : goal.decide-requires-then-not-room
+decide-requires-then-not-room c = within _ _ _ c.in-Some.ensures.there
+
+pub link_entry-requires-clause-pass : goal.link_entry-requires-clause-pass
+link_entry-requires-clause-pass c = within _ _ _ c.in-Some.ensures.there
+
+pub link_entry-requires-clause-wanted : goal.link_entry-requires-clause-wanted
+link_entry-requires-clause-wanted c = λ pass there.
+    let p = c.in-Some.ensures in
+    let t = text_to_link empty_tables _ _ _ c.args.room p (sym (c.may_link.ensures p.pass p.there) ∙ c.if-not-may_link.false) in (
+      ap (λ (q : Pass). is_some q.wanted) (at_one c.args.self.now.passes c.in-Some.at pass p.pass there p.there) ∙ ap is_some t.1,
+      ap (λ (n : ℕ). n + 1) (c.last_at-last.ensures pass there),
+    )
+
+pub returns-then-last-serials-clause-ok : goal.returns-then-last-serials-clause-ok
+returns-then-last-serials-clause-ok c = λ tables.
+    let p = c.in-Some.ensures in
+    link_spent tables _ _ _ _ p (sym (c.may_link.ensures p.pass p.there) ∙ c.if-not-may_link.false)
+    (let last = c.last_at-last.ensures p.pass p.there in let limit = c.serials.ensures.value in omega (arith, last, limit, c.if-last-serials.true))
+    _ (c.decide.ensures p.pass p.there)
+
+pub returns-then-not-room-clause-ok : goal.returns-then-not-room-clause-ok
+returns-then-not-room-clause-ok c = λ tables.
+    let p = c.in-Some.ensures in
+    link_memory tables _ _ _ _ p (sym (c.may_link.ensures p.pass p.there) ∙ c.if-not-may_link.false)
+    (let last = c.last_at-last.ensures p.pass p.there in let limit = c.serials.ensures.value in omega (arith, last, limit, c.if-last-serials.false))
+    c.if-not-room.true _ (c.decide-then-not-room.ensures p.pass p.there)
+
+pub returns-clause-ok : goal.returns-clause-ok
+returns-clause-ok c = λ tables.
+    let p = c.in-Some.ensures in
+    let may = sym (c.may_link.ensures p.pass p.there) ∙ c.if-not-may_link.false in
+    let t = text_to_link tables _ _ _ c.args.room p may in
+    let linked = c.in_ok-entry.ensures.ok p.pass t.0 p.there t.1 in
+    link_linked tables _ _ _ _ p may
+    (let last = c.last_at-last.ensures p.pass p.there in let limit = c.serials.ensures.value in omega (arith, last, limit, c.if-last-serials.false))
+    c.if-not-room.false (c.last_at-last.result + 1) _ _ _ (ap (λ (n : ℕ). n + 1) (c.last_at-last.ensures p.pass p.there)) linked.0 linked.1 linked.2

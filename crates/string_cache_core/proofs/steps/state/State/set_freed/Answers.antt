@@ -1,0 +1,19 @@
+use Rattle.std.proofs.Common.{◌≡◌, ◌∙◌, ap, refl}
+use Rattle.std.specs.Prelude.{slice_get, slice_set}
+use Rattle.std.specs.Vec.{with_item}
+use Rattle.string_cache_core.specs.declared.steps.entry.Place.TheVariants as place
+use Rattle.string_cache_core.specs.World.{Entry, World}
+use Rattle.string_cache_core.proofs.StepLists.{get_or_at}
+use Rattle.string_cache_core.proofs.StepBag.{moved_world}
+use Rattle.string_cache_core.proofs.steps.state.State.set_freed.Goals as goal
+
+pub returns : goal.returns
+returns c = λ entry there.
+    let old = c.self.inside.entries.items in
+    let k = c.args.k in
+    let item : c.index_mut-entry.result.now ≡ entry = c.index_mut-entry.ensures.value ∙ get_or_at old k _ entry (ap (λ (v : World). slice_get v.entries k) c.self.view_is ∙ there) in
+    let changed : c.free.new.self ≡ record entry { place = place.Freed } = c.free.ensures ∙ ap (λ (entry : Entry). record entry { place = place.Freed }) item in
+    let es = with_item c.self.inside.entries k c.free.new.self in
+    let is : es.items ≡ slice_set c.args.self.now.entries k (record entry { place = place.Freed }) =
+    ap (λ (e : Entry). slice_set old k e) changed ∙ ap (λ (v : World). slice_set v.entries k (record entry { place = place.Freed })) c.self.view_is in
+    moved_world _ c.args.self.now c.self.view_is refl k entry place.Freed there es.items is

@@ -1,0 +1,20 @@
+use Rattle.std.proofs.Common.{refl, inl}
+use Rattle.std.proofs.lemmas.Option.{slice_get_within}
+use Rattle.string_cache_core.specs.Kept.{map_of}
+use Rattle.string_cache_core.proofs.HeldWords.{fixed-unless-ticket}
+use Rattle.string_cache_core.proofs.Replies.{as_held, cloned-ticket}
+use Rattle.string_cache_core.proofs.table.Table.clone_word.Goals as goal
+
+pub add_holder-requires : goal.add_holder-requires
+add_holder-requires g c = slice_get_within _ _ _ c.in-Some.ensures.found.there
+
+pub returns-in-Some-clause-clones : goal.returns-in-Some-clause-clones
+returns-in-Some-clause-clones g c =
+    let p = c.in-Some.ensures in
+    let m = map_of c.args.self.now in
+    cloned-ticket g.S.StaticAtomSet.tables c.args.self.now.limits m (map_of c.add_holder.new.self) c.args.word (as_held m c.args.word p.text p.holders p.found.held) c.add_holder.result
+    (c.add_holder.ensures.adds p.text (record { ticket = c.args.word; holders = p.holders }) p.found.there)
+
+pub returns-in-None-clause-clones : goal.returns-in-None-clause-clones
+returns-in-None-clause-clones g c =
+    inl (fixed-unless-ticket g.S.StaticAtomSet.tables (map_of c.args.self.now) c.args.word c.requires c.in-None.ensures, refl, refl)

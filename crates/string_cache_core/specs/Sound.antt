@@ -1,0 +1,51 @@
+-- What every world keeps that steps lead to.
+use Rattle.std.specs.Prelude.{◌≡◌, ◌≢◌, ℕ, ◌<◌, ◌≤◌, ◌==◌, ◌&&◌, nat_lt, Bool, true, List, length, count_by, Some, slice_get, slice_index, suc}
+use Rattle.std.specs.List.{AllByRecursion}
+use Rattle.string_cache_core.specs.Tables.{Tables}
+use Rattle.string_cache_core.specs.Word.{ticket_of}
+use Rattle.string_cache_core.specs.World.{Entry, Pass, World, is_linked}
+use Rattle.string_cache_core.specs.Steps.{bucket_of, has}
+
+-- x stands at place k
+abbrev pub At : {X : Type 0} → List X → ℕ → X → Type 0
+At xs k x = slice_get xs k ≡ Some x
+
+-- how often a list has a number
+abbrev pub times : ℕ → List ℕ → ℕ
+times x xs = count_by (λ y. y == x) xs
+
+-- the entry is found, and has a holder
+abbrev pub is_living : Entry → Bool
+is_living entry = is_linked entry.place && nat_lt 0 entry.count
+
+-- The entry has a ticket of its bucket, with a serial that the bucket gave.
+abbrev pub IsNumbered : List ℕ → Entry → Type 0
+IsNumbered lasts x = (serial : ℕ) × (x.ticket ≡ ticket_of serial x.bucket) × (serial ≤ slice_index lasts x.bucket) × (x.bucket < length lasts)
+
+pub record SoundTable (entries : List Entry) (lasts bag : List ℕ) : Type 0 where
+  pub some : 0 < length lasts
+  pub few : length lasts ≤ 4096
+  pub numbered : (k : ℕ) (x : Entry) → At entries k x → IsNumbered lasts x
+  -- no ticket comes twice
+  pub apart : (j k : ℕ) (x y : Entry) → At entries j x → At entries k y → x.ticket ≡ y.ticket → j ≡ k
+  -- a text has one living entry
+  pub one : (j k : ℕ) (x y : Entry) → At entries j x → At entries k y → is_living x ≡ true → is_living y ≡ true → x.text ≡ y.text → j ≡ k
+  -- the bag has each entry's ticket as often as it counts, and no other
+  pub counted : (k : ℕ) (x : Entry) → At entries k x → x.count ≡ times x.ticket bag
+  pub bagged : (ticket : ℕ) → ((k : ℕ) (x : Entry) → At entries k x → x.ticket ≢ ticket) → times ticket bag ≡ 0
+  -- what has a holder is linked
+  pub linked : (k : ℕ) (x : Entry) → At entries k x → 0 < x.count → is_linked x.place ≡ true
+
+-- The number is an entry's that has no holder.
+abbrev pub IsDead : List Entry → ℕ → Type 0
+IsDead entries e = (k : ℕ) × (x : Entry) × (e ≡ suc k) × At entries k x × (x.count ≡ 0)
+
+pub record SoundPass (t : Tables) (buckets : ℕ) (entries : List Entry) (pass : Pass) : Type 0 where
+  pub below : pass.bucket < buckets
+  pub right : (text : List ℕ) → pass.wanted ≡ Some text → pass.bucket ≡ bucket_of t buckets text
+  -- what it found dying is at zero for good
+  pub dead : (e : ℕ) → has pass.dying e ≡ true → IsDead entries e
+
+pub record Sound (t : Tables) (w : World) : Type 0 where
+  pub table : SoundTable w.entries w.lasts w.bag
+  pub each : AllByRecursion (SoundPass t (length w.lasts) w.entries) w.passes
