@@ -17,3 +17,11 @@ pub use Rattle.string_cache_core.specs.Tables
 pub use Rattle.string_cache_core.specs.Theorem
 pub use Rattle.string_cache_core.specs.Word
 pub use Rattle.string_cache_core.specs.World
+pub mod AtomForm
+pub mod AtomValue
+pub mod Chain
+pub mod Link
+pub mod Packed
+pub mod Share
+pub mod Stop
+pub mod Walked

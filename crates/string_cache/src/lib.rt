@@ -1,9 +1,17 @@
-//! Interned strings: the words, hashes, static tables and the one-thread table of `string_cache_core`, under the names
-//! of Rust's `string_cache` 0.11.0.
+//! Interned strings: sets of texts that threads share, and the atoms that borrow them. The words, hashes, static tables,
+//! the table for one thread and the core of atomic steps of `string_cache_core` stand here as well, all under the names of
+//! Rust's `string_cache` 0.11.0.
 #![tactic(auto)]
 
-pub use string_cache_core::static_sets::{EmptyStaticAtomSet, PhfStrSet, StaticAtomSet};
-pub use string_cache_core::{Fault, phf, static_sets, table, word};
-
+pub mod atom;
+pub mod dynamic_set;
+#[cfg(test)]
+mod examples;
+#[cfg(test)]
+mod samples;
 #[cfg(test)]
 mod tests;
+
+pub use atom::{Atom, DefaultAtom};
+pub use string_cache_core::static_sets::{EmptyStaticAtomSet, PhfStrSet, StaticAtomSet};
+pub use string_cache_core::{Fault, phf, static_sets, steps, table, word};

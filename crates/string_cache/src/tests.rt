@@ -1,40 +1,210 @@
-// The examples of the documents.
+// What no contract says: words and texts that come from outside, and sets that threads share.
 #![tactic(auto)]
 
-use crate::table::Table;
-use crate::word::{Form, form_of};
-use crate::{EmptyStaticAtomSet, Fault};
+use crate::dynamic_set::{Bucket, Set, Share};
+use crate::samples::{One, Short, Twice};
+use crate::static_sets::{EmptyStaticAtomSet, StaticAtomSet, TextForm, form_of_text};
+use crate::word::{Limits, ticket_word};
+use crate::{Atom, DefaultAtom, Fault};
 use std::alloc::Global;
+use std::sync::Wait;
 use std::test::Fail;
+use std::thread;
 
-/// The README's example.
-fn same_word(alloc: Global) -> Result<bool, Fault> {
-    let mut table = Table::<EmptyStaticAtomSet>::new(alloc)?;
-    let first = table.intern("interned")?;
-    let again = table.intern("interned")?;
-    Ok(first == again && table.text(first) == Some("interned"))
+/// Compiles only for what threads may share and send.
+fn crosses<T: Send + Sync>(_value: &T) {}
+
+/// Whether atoms of the two texts, from two sets, are equal.
+fn are_equal<'s, R: Wait>(
+    rt: &R,
+    left: (&'s Set<EmptyStaticAtomSet>, &str),
+    right: (&'s Set<EmptyStaticAtomSet>, &str),
+) -> Result<bool, Fault> {
+    Ok(Atom::from_str_in(left.0, rt, left.1)? == Atom::from_str_in(right.0, rt, right.1)?)
 }
 
 #[test]
-fn readme(rt: HostRuntime) -> Result<(), Fail> {
-    assert!(rt; same_word(rt.alloc())?);
+fn inline_atoms(rt: HostRuntime) -> Result<(), Fail> {
+    let set: Set<EmptyStaticAtomSet> = Set::new(rt.alloc())?;
+    for (text, word) in [
+        ("", 0x01),
+        ("a", 0x6111),
+        ("foo", 0x6f6f_6631),
+        ("abcdefg", 0x6766_6564_6362_6171),
+        ("\0", 0x11),
+        ("é", 0xa9_c321),
+    ] {
+        let atom = Atom::from_str_in(&set, &rt, text)?;
+        assert!(rt; atom.is_inline());
+        assert!(rt; atom.unsafe_data() == word);
+        assert!(rt; atom.as_bytes() == text.as_bytes());
+    }
+    assert!(rt; !are_equal(&rt, (&set, "\0"), (&set, ""))?);
     Ok(())
 }
 
-/// Of the words of the original's example, exactly four are dynamic.
 #[test]
-fn forms_of_the_example(rt: HostRuntime) -> Result<(), Fail> {
-    let text =
-        "here is a sentence of text that will be tokenised and\ninterned and some repeated tokens is of text and";
-    let mut table = Table::<EmptyStaticAtomSet>::new(rt.alloc())?;
-    for word in text.split_whitespace() {
-        let form = form_of(table.intern(word)?);
-        let is_dynamic = matches!(form, Some(Form::Dynamic { .. }));
-        let wanted = ["sentence", "tokenised", "interned", "repeated"];
-        assert_eq!(rt; is_dynamic, wanted.contains(&word), "of {word:?}");
-        if !is_dynamic {
-            assert!(rt; matches!(form, Some(Form::Inline(_))), "of {word:?}");
-        }
+fn dynamic_atoms(rt: HostRuntime) -> Result<(), Fail> {
+    let set: Set<EmptyStaticAtomSet> = Set::new(rt.alloc())?;
+    // The low 12 bits of f1 are the bucket: of 0x86f9a2c5, 0x06a47210 and 0xb9737e77.
+    for (text, bucket) in [
+        ("abcdefgh", 0x2c5),
+        ("interned", 0x210),
+        ("tokenised", 0xe77),
+        ("abcdefgh", 0x2c5),
+    ] {
+        let atom = Atom::from_str_in(&set, &rt, text)?;
+        assert!(rt; atom.is_dynamic());
+        assert!(rt; atom.unsafe_data() == ticket_word(1, bucket));
+        assert!(rt; atom.as_str() == text);
     }
+    Ok(())
+}
+
+/// A new set, asked for once more where it was refused for want of memory.
+fn set_at_last(alloc: Global) -> Result<Set<EmptyStaticAtomSet>, Fault> {
+    match Set::new(alloc) {
+        Err(Fault::Memory) => Set::new(alloc),
+        made => made,
+    }
+}
+
+/// The atom of a text, asked for once more where it was refused for want of memory.
+fn atom_at_last<'s, R: Wait>(
+    set: &'s Set<EmptyStaticAtomSet>,
+    rt: &R,
+    text: &str,
+) -> Result<DefaultAtom<'s>, Fault> {
+    match Atom::from_str_in(set, rt, text) {
+        Err(Fault::Memory) => Atom::from_str_in(set, rt, text),
+        made => made,
+    }
+}
+
+/// Passes also where one allocation fails, as under `rt try --test --fail-alloc N`: a call that is made again gives what it
+/// gives the first time.
+#[test]
+fn refused_calls_made_again(rt: HostRuntime) -> Result<(), Fail> {
+    let set = set_at_last(rt.alloc())?;
+    let atom = atom_at_last(&set, &rt, "abcdefgh")?;
+    assert!(rt; atom.unsafe_data() == ticket_word(1, 0x2c5));
+    Ok(())
+}
+
+#[test]
+fn atoms_of_two_sets(rt: HostRuntime) -> Result<(), Fail> {
+    let one: Set<EmptyStaticAtomSet> = Set::new(rt.alloc())?;
+    let other: Set<EmptyStaticAtomSet> = Set::new(rt.alloc())?;
+    assert!(rt; are_equal(&rt, (&one, "abcdefgh"), (&other, "abcdefgh"))?);
+    assert!(rt; !are_equal(&rt, (&one, "abcdefgh"), (&other, "interned"))?);
+    Ok(())
+}
+
+#[test]
+fn packed_inline(rt: HostRuntime) {
+    for (n, len, text) in [(0xa9_c300, 2, "é"), (0, 1, "\0"), (0, 0, "")] {
+        let atom = DefaultAtom::pack_inline(n, len).expect(&rt, "an inline word");
+        assert!(rt; atom.as_str() == text);
+        assert!(rt; atom.unsafe_data() == n + 16 * u64::from(len) + 1);
+    }
+    for (n, len) in [
+        (0xc300, 1),
+        (0x62_6100, 1),
+        (0, 8),
+        (1, 0),
+        (0x80_c000, 2),
+        (0xff00, 1),
+        (0, u8::MAX),
+        (u64::MAX, 7),
+    ] {
+        assert!(rt;
+            DefaultAtom::pack_inline(n, len).is_none(),
+            "of {n:#x} and {len}"
+        );
+    }
+}
+
+#[test]
+fn static_atoms(rt: HostRuntime) -> Result<(), Fail> {
+    let set: Set<One> = Set::new(rt.alloc())?;
+    for atom in [
+        Atom::from_str_in(&set, &rt, "sentence")?,
+        Atom::try_static("sentence").expect(&rt, "a static text"),
+        Atom::pack_static(0).expect(&rt, "a static text"),
+    ] {
+        assert!(rt; atom.is_static());
+        assert!(rt; atom.unsafe_data() == 2);
+        assert!(rt; atom.as_str() == "sentence");
+    }
+    assert!(rt; Atom::from_str_in(&set, &rt, "sentencf")?.is_dynamic());
+    Ok(())
+}
+
+#[test]
+fn not_static(rt: HostRuntime) {
+    assert!(rt; DefaultAtom::try_static("").is_none());
+    assert!(rt; DefaultAtom::pack_static(0).is_none());
+    assert!(rt; Atom::<One>::try_static("sentencf").is_none());
+    assert!(rt; Atom::<One>::pack_static(1).is_none());
+    assert!(rt; Atom::<Short>::try_static("short").is_none());
+    assert!(rt; Atom::<Short>::pack_static(0).is_none());
+}
+
+#[test]
+fn odd_tables(rt: HostRuntime) -> Result<(), Fail> {
+    assert!(rt; One::get().check() && Short::get().check() && !Twice::get().check());
+
+    let set: Set<Twice> = Set::new(rt.alloc())?;
+    // The low bit of f2, 0x56e93a5c, is the place of "sentence" among two.
+    assert!(rt; Atom::from_str_in(&set, &rt, "sentence")?.unsafe_data() == 2);
+    assert!(rt; Atom::<Twice>::pack_static(0).is_some());
+    assert!(rt; Atom::<Twice>::pack_static(1).is_none());
+
+    let set: Set<Short> = Set::new(rt.alloc())?;
+    assert!(rt; Atom::from_str_in(&set, &rt, "short")?.unsafe_data() == 0x7472_6f68_7351);
+    Ok(())
+}
+
+fn link(
+    bucket: &mut Bucket<EmptyStaticAtomSet>,
+    text: &str,
+    limits: &Limits,
+) -> Option<Result<Share, Fault>> {
+    match form_of_text::<EmptyStaticAtomSet>(text) {
+        TextForm::Dynamic(hash) => Some(bucket.link(text, hash, limits)),
+        TextForm::Inline(_) | TextForm::Static(_) => None,
+    }
+}
+
+#[test]
+fn spent_tickets(rt: HostRuntime) -> Result<(), Fail> {
+    let limits = Limits::new(1, 2).expect(&rt, "limits");
+    let mut bucket = Bucket::new(rt.alloc());
+    for serial in [1, 2] {
+        let share = link(&mut bucket, "tokenised", &limits).expect(&rt, "a dynamic text")?;
+        assert!(rt; share.ticket() == ticket_word(serial, 0xe77));
+        assert!(rt; share.text() == "tokenised");
+    }
+    let refused = link(&mut bucket, "tokenised", &limits).expect(&rt, "a dynamic text");
+    assert!(rt; matches!(refused, Err(Fault::TicketsSpent)));
+    Ok(())
+}
+
+#[test]
+fn shared_by_threads(rt: HostRuntime) -> Result<(), Fail> {
+    let set: Set<EmptyStaticAtomSet> = Set::new(rt.alloc())?;
+    crosses(&set);
+    let (shared, handle) = (&set, &rt);
+    let intern = |own: &str| -> Result<_, Fault> {
+        let both = Atom::from_str_in(shared, handle, "tokenised")?;
+        let own = Atom::from_str_in(shared, handle, own)?;
+        Ok((both, own))
+    };
+    let (left, right) = thread::join(&rt, || intern("sentence"), || intern("repeated"));
+    let (left, right) = (left?, right?);
+    crosses(&left);
+    assert!(rt; left.0 == right.0 && left.1 != right.1);
+    assert!(rt; left.0.unsafe_data() == right.0.unsafe_data());
+    assert!(rt; left.1.as_str() == "sentence" && right.1.as_str() == "repeated");
     Ok(())
 }

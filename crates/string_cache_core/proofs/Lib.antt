@@ -16,6 +16,7 @@ pub mod StepDoesMore
 pub mod StepEntries
 pub mod StepHistory
 pub mod StepInterns
+pub mod StepListed
 pub mod StepLists
 pub mod StepLoop
 pub mod StepPasses

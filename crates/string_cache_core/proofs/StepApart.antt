@@ -11,7 +11,7 @@ use Rattle.string_cache_core.specs.declared.steps.StepReply.{StepReply}
 use Rattle.string_cache_core.specs.Steps.{bucket_of, is_dynamic, pass_of, is_free, is_linked_in, wants, has, take_bucket, add, link, clone, give, unlink, all_found_dying, all_looked_at, replaced, without_party, finds_dying, looks_at, decides, last_of, step}
 use Rattle.string_cache_core.specs.World.{Entry, Pass, World, is_linked, is_unlinked_by}
 use Rattle.string_cache_core.specs.Runs.{Event, Leads}
-use Rattle.string_cache_core.specs.Sound.{At, Sound, SoundPass}
+use Rattle.string_cache_core.specs.Sound.{At, SoundPass, DiffersFrom, Apart, SoundWorld}
 use Rattle.string_cache_core.proofs.StepLists.{at_set_cases, at_push_cases, at_set_same, at_push_old, at_one, bind_case, guard_case, if_case, find-all}
 use Rattle.string_cache_core.proofs.StepSound.{all_replaced, all_without_party}
 use Rattle.string_cache_core.proofs.StepEntries.{set_other, sound_by}
@@ -41,13 +41,6 @@ pub record Goes (w : World) (q : ℕ) (o : StepReply × World) : Type 0 where
   pub passes : PassesGo w q o.1.passes
 
 -- ---- no two passes have one party or one bucket
-
-abbrev pub DiffersFrom : Pass → Pass → Type 0
-DiffersFrom p o = (o.party ≢ p.party) × (o.bucket ≢ p.bucket)
-
-abbrev pub Apart : List Pass → Type 0
-Apart [] = Unit {0}
-Apart (p ∷ ps) = AllByRecursion (DiffersFrom p) ps × Apart ps
 
 all_push_one : (P : Pass → Type 0) (xs : List Pass) (y : Pass) → AllByRecursion P xs → P y → AllByRecursion P (xs ++ y ∷ [])
 all_push_one P [] y all py = (py, tt)
@@ -246,14 +239,9 @@ module _ (tables : Tables) where
         bind_case G (pass_of w q) _ _ (nothing _) (λ pass p.
         guard_case G (is_none pass.wanted && all_looked_at w pass) _ _ (nothing _) (λ ok. record { entries = Stay refl; passes = One_less refl }))
 
-  -- ---- what every reached world keeps tables besides
+  -- ---- what every reached world keeps besides
 
-  pub record Held (w : World) : Type 0 where
-    pub sound : Sound tables w
-    pub apart : Apart w.passes
-    pub placed : (k : ℕ) (x : Entry) → At w.entries k x → x.bucket ≡ bucket_of tables (length w.lasts) x.text
-
-  module _ (w : World) (held : Held w) (q : ℕ) where
+  module _ (w : World) (held : SoundWorld tables w) (q : ℕ) where
     right_pass : (pass : Pass) (text : List ℕ) → pass_of w q ≡ Some pass → pass.wanted ≡ Some text → pass.bucket ≡ bucket_of tables (length w.lasts) text
     right_pass pass text p wanted = (find-all (of_party q) (SoundPass tables (length w.lasts) w.entries) w.passes pass p held.sound.each).right text wanted
 
@@ -277,7 +265,12 @@ module _ (tables : Tables) where
       | inr (i, f) ↦ ap (λ (v : Entry). v.bucket) f ∙ bucket ∙ right_pass pass y.text p wanted ∙ ap (λ (v : Entry). bucket_of tables (length w.lasts) v.text) (sym f)
     ]
 
-  pub held_by : (w : World) → Held w → (e : Event) (mid : World) → step tables w e.party e.does ≡ (e.reply, mid) → Held mid
+  -- an entry of the text that a pass wants stands in the pass's bucket
+  pub placed_in : (w : World) → SoundWorld tables w → (party : ℕ) (pass : Pass) (text : List ℕ) → pass_of w party ≡ Some pass → pass.wanted ≡ Some text
+      → (k : ℕ) (x : Entry) → At w.entries k x → x.text ≡ text → x.bucket ≡ pass.bucket
+  placed_in w held party pass text found wanted k x at is = held.placed k x at ∙ ap (bucket_of tables (length w.lasts)) is ∙ sym (right_pass w held party pass text found wanted)
+
+  pub held_by : (w : World) → SoundWorld tables w → (e : Event) (mid : World) → step tables w e.party e.does ≡ (e.reply, mid) → SoundWorld tables mid
   held_by w held e mid does =
       let g : Goes w e.party (e.reply, mid) = subst (Goes w e.party) does (goes w e.party e.does) in
       let same : length mid.lasts ≡ length w.lasts = subst (λ (o : StepReply × World). length o.1.lasts ≡ length w.lasts) does (keeps tables w held.sound e.party e.does).buckets in
@@ -287,13 +280,13 @@ module _ (tables : Tables) where
         placed = λ k x at. still_placed w held e.party mid.entries g.entries k x at ∙ ap (λ (n : ℕ). bucket_of tables n x.text) (sym same);
       }
 
-  pub held_all : (w : World) → Held w → (events : List Event) (v : World) → Leads tables w events v → Held v
-  held_all w held [] v leads = subst Held (sym leads) held
+  pub held_all : (w : World) → SoundWorld tables w → (events : List Event) (v : World) → Leads tables w events v → SoundWorld tables v
+  held_all w held [] v leads = subst (SoundWorld tables) (sym leads) held
   held_all w held (e ∷ events) v leads = held_all leads.0 (held_by w held e leads.0 leads.1) events v leads.2
 
   -- ---- the entries of a held bucket, while others make steps
 
-  module _ (w : World) (held : Held w) (party : ℕ) (pass : Pass) (found : pass_of w party ≡ Some pass) (q : ℕ) (n : q ≢ party) where
+  module _ (w : World) (held : SoundWorld tables w) (party : ℕ) (pass : Pass) (found : pass_of w party ≡ Some pass) (q : ℕ) (n : q ≢ party) where
     others_same : (es : List Entry) → EntriesGo w q es → SameIn pass.bucket w.entries es
     others_same es (Stay e) = subst (SameIn pass.bucket w.entries) (sym e) (same_in pass.bucket w.entries)
     others_same es (Change k x y at text bucket back forth e) =

@@ -135,7 +135,7 @@ module _ (tables : Tables) where
     goes Leave =
         bind_case To (pass_of w party) _ _ (goes_same w.entries) (λ pass p. guard_case To (is_none pass.wanted && all_looked_at w pass) _ _ (goes_same w.entries) (λ ok. goes_same w.entries))
 
-  -- an event, as a step tables
+  -- an event, as a step
   pub goes_by : (w : World) → Sound tables w → (e : Event) (mid : World) → step tables w e.party e.does ≡ (e.reply, mid) → Goes w.entries mid.entries
   goes_by w sound e mid does = subst (λ (o : StepReply × World). Goes w.entries o.1.entries) does (goes w sound e.party e.does)
 
@@ -155,7 +155,7 @@ module _ (tables : Tables) where
 
   -- ---- what is freed
 
-  -- Free was enabled: the entry, that the party had unlinked it, and what the step tables left.
+  -- Free was enabled: the entry, that the party had unlinked it, and what the step left.
   pub record WasFreed (w : World) (party k : ℕ) (new : World) : Type 0 where
     pub entry : Entry
     pub at : At w.entries k entry

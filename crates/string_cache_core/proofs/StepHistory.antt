@@ -430,7 +430,7 @@ module _ (tables : Tables) where
         let z = unlinked_counts_zero k x at u in
         record { sound = moved_sound k x at z place.Freed; limits = refl; buckets = refl; told = moved_seen k x at z place.Freed }
 
-    -- ---- any step tables
+    -- ---- any step
 
     pub keeps : (s : Step) → Keeps w party s (step tables w party s)
     keeps (TakeIntern t) =

@@ -1,9 +1,9 @@
 -- Facts about lists and tests that the proofs on steps use.
-use Rattle.std.proofs.Common.{◌≡◌, ℕ, ◌+◌, ◌<◌, ◌≢◌, ◌⊎◌, inl, inr, Bool, true, false, cond, List, [], ◌∷◌, ◌++◌, length, get_or, drop, Option, None, Some, refl, sym, ap, ◌∙◌, subst, arith, zero, suc}
+use Rattle.std.proofs.Common.{◌≡◌, ℕ, ◌+◌, ◌<◌, ◌≢◌, ◌⊎◌, inl, inr, Bool, true, false, cond, not, List, [], ◌∷◌, ◌++◌, length, get_or, drop, Option, None, Some, refl, sym, ap, ◌∙◌, subst, arith, zero, suc}
 use Rattle.std.specs.Prelude.{slice_set, ◌==◌, ◌&&◌, ◌||◌}
 use Rattle.std.specs.List.{find, filter, list_all, enumerate_from, AllByRecursion}
 use Rattle.std.specs.Option.{unwrap_or}
-use Rattle.std.proofs.lemmas.Bool.{and_parts, false_from_ne_true, eqb-true, eq-eqb, cases_Bool}
+use Rattle.std.proofs.lemmas.Bool.{and_parts, and_from, or_cases, false_from_ne_true, eqb-true, eq-eqb, cases_Bool}
 use Rattle.std.proofs.lemmas.List.{at_drop_more}
 use Rattle.std.proofs.lemmas.List.Sums.{sum_by-cons}
 use Rattle.string_cache_core.specs.Steps.{◌>>=◌, only_if, has, with_one, without_one}
@@ -217,3 +217,35 @@ pub get_or_at : {X : Type 0} (xs : List X) (k : ℕ) (d x : X) → At xs k x →
 get_or_at {X} [] k d x at = absurd (let e : ◌≡◌ {A = Option X} None (Some x) = at in cc)
 get_or_at (y ∷ xs) zero d x at = cc
 get_or_at (y ∷ xs) (suc k) d x at = get_or_at xs k d x at
+
+-- ---- tests of numbers
+
+pub has_first : (a b : Bool) → a ≡ true → (a || b) ≡ true
+has_first true b e = refl
+has_first false b e = absurd (let f : false ≡ true = e in cc)
+
+pub has_then : (a b : Bool) → b ≡ true → (a || b) ≡ true
+has_then true b e = refl
+has_then false b e = e
+
+pub implied : (a b : Bool) → (a ≡ true → b ≡ true) → (not a || b) ≡ true
+implied true b h = h refl
+implied false b h = refl
+
+pub has_old : (xs : List ℕ) (x y : ℕ) → has xs y ≡ true → has (xs ++ x ∷ []) y ≡ true
+has_old [] x y h = absurd (let f : false ≡ true = h in cc)
+has_old (z ∷ xs) x y h = elim (or_cases (z == y) (has xs y) h) [
+  | inl e ↦ has_first (z == y) (has (xs ++ x ∷ []) y) e
+  | inr e ↦ has_then (z == y) (has (xs ++ x ∷ []) y) (has_old xs x y e)
+]
+
+pub has_new : (xs : List ℕ) (x y : ℕ) → x ≡ y → has (xs ++ x ∷ []) y ≡ true
+has_new [] x y e = has_first (x == y) false (eq-eqb x y e)
+has_new (z ∷ xs) x y e = has_then (z == y) (has (xs ++ x ∷ []) y) (has_new xs x y e)
+
+pub numbered_all : {X : Type 0} (p : ℕ × X → Bool) (xs : List X) (n : ℕ) → ((k : ℕ) (x : X) → At xs k x → p (n + k, x) ≡ true) → list_all p (enumerate_from n xs) ≡ true
+numbered_all {X} p [] n h = refl
+numbered_all {X} p (x ∷ xs) n h =
+    let zero_more : n + 0 ≡ n = omega arith in
+    and_from (p (n, x)) (list_all p (enumerate_from (n + 1) xs)) (subst (λ (m : ℕ). p (m, x) ≡ true) zero_more (h zero x refl))
+    (numbered_all p xs (n + 1) (λ k y at. let e : n + suc k ≡ n + 1 + k = omega arith in subst (λ (m : ℕ). p (m, y) ≡ true) e (h (suc k) y at)))

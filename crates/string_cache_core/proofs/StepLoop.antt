@@ -6,11 +6,11 @@ use Rattle.string_cache_core.specs.declared.steps.Step.{Step}
 use Rattle.string_cache_core.specs.declared.steps.StepReply.{StepReply}
 use Rattle.string_cache_core.specs.Tables.{Tables}
 use Rattle.string_cache_core.specs.World.{Entry, World, is_linked}
-use Rattle.string_cache_core.specs.Sound.{Sound}
+use Rattle.string_cache_core.specs.Sound.{SoundWorld}
 use Rattle.string_cache_core.specs.Steps.{step, IsStep, entry_at, opening}
 use Rattle.string_cache_core.specs.Runs.{Script, Leads, events_of}
 use Rattle.string_cache_core.specs.Theorem.{HasRun}
-use Rattle.string_cache_core.proofs.StepHistory.{keeps}
+use Rattle.string_cache_core.proofs.StepApart.{held_by}
 use Rattle.string_cache_core.proofs.StepRuns.{every_run, leads-join}
 
 -- the replies and the world that the table of steps gives
@@ -24,15 +24,15 @@ world_after t w (s ∷ steps) = world_after t (step t w s.0 s.1).1 steps
 
 module _ (tables : Tables) where
   -- a step leads from a sound world to a sound world
-  pub sound_step : (w : World) (party : ℕ) (s : Step) (reply : StepReply) (new : World) → Sound tables w → IsStep tables w party s reply new → Sound tables new
-  sound_step w party s reply new sound does = subst (λ (o : StepReply × World). Sound tables o.1) does (keeps tables w sound party s).sound
+  pub sound_step : (w : World) (party : ℕ) (s : Step) (reply : StepReply) (new : World) → SoundWorld tables w → IsStep tables w party s reply new → SoundWorld tables new
+  sound_step w party s reply new sound does = held_by tables w sound (record { party = party; does = s; reply = reply }) new does
 
   -- what isn't linked has no holder
-  pub unlinked_zero : (w : World) → Sound tables w → (number : ℕ) (x : Entry) → entry_at w number ≡ Some x → is_linked x.place ≡ false → x.count ≡ 0
+  pub unlinked_zero : (w : World) → SoundWorld tables w → (number : ℕ) (x : Entry) → entry_at w number ≡ Some x → is_linked x.place ≡ false → x.count ≡ 0
   unlinked_zero w sound zero x at gone = absurd (let e : ◌≡◌ {A = Option Entry} None (Some x) = at in cc)
   unlinked_zero w sound (suc k) x at gone = elim (cases_eq x.count 0) [
     | inl e ↦ e
-    | inr n ↦ absurd (let linked = sound.table.linked k x at (omega arith) in let clash : true ≡ false = sym linked ∙ gone in cc)
+    | inr n ↦ absurd (let linked = sound.sound.table.linked k x at (omega arith) in let clash : true ≡ false = sym linked ∙ gone in cc)
   ]
 
   world_after-append : (w : World) (xs ys : Script) → world_after tables w (xs ++ ys) ≡ world_after tables (world_after tables w xs) ys

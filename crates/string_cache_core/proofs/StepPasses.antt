@@ -202,7 +202,7 @@ module _ (tables : Tables) where
         bind_case Kept (pass_of w q) _ _ found (λ old p.
         guard_case Kept (is_none old.wanted && all_looked_at w old) _ _ found (λ ok. without_other w.passes q party n ∙ found))
 
-  -- ---- a step tables of the party itself: it goes on with its pass, or leaves
+  -- ---- a step of the party itself: it goes on with its pass, or leaves
 
   module _ (w : World) (party : ℕ) (pass : Pass) (found : pass_of w party ≡ Some pass) where
     abbrev Own : Step → StepReply × World → Type 0
@@ -343,7 +343,7 @@ module _ (tables : Tables) where
         let parts = and_parts (is_none pass.wanted) (all_looked_at w pass) ok in
         inr (record { left = refl; decided = none_is pass.wanted parts.0; all = parts.1; nothing = refl })))
 
-  -- ---- an event, live_map from a pass
+  -- ---- an event, seen from a pass
 
   pub own_event : (w : World) (party : ℕ) (pass : Pass) → pass_of w party ≡ Some pass → (e : Event) (mid : World) → e.party ≡ party → step tables w e.party e.does ≡ (e.reply, mid)
       → GoesOn w party pass e.does (e.reply, mid) ⊎ Leaves w party pass e.does (e.reply, mid)

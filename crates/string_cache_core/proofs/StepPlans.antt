@@ -1,7 +1,7 @@
 -- A pass over a bucket's list is steps that are all enabled.
-use Rattle.std.proofs.Common.{◌≡◌, ℕ, ◌+◌, ◌<◌, ◌≤◌, ◌≢◌, ◌⊎◌, inl, inr, Bool, true, false, not, List, [], ◌∷◌, ◌++◌, length, map, reverse, append_assoc, Option, None, Some, refl, sym, ap, ◌∙◌, subst, arith, zero, suc}
+use Rattle.std.proofs.Common.{◌≡◌, ℕ, ◌+◌, ◌<◌, ◌≤◌, ◌≢◌, ◌⊎◌, inl, inr, Bool, true, false, List, [], ◌∷◌, ◌++◌, length, map, reverse, append_assoc, Option, None, Some, refl, sym, ap, ◌∙◌, subst, arith, zero, suc}
 use Rattle.std.specs.Prelude.{slice_get, slice_set, nat_lt, ◌==◌, ◌&&◌, ◌||◌, is_none, IsSome}
-use Rattle.std.specs.List.{find, filter, list_all, enumerate_from, AllByRecursion}
+use Rattle.std.specs.List.{find, filter, enumerate_from, AllByRecursion}
 use Rattle.std.specs.Option.{unwrap_or, option_map_or}
 use Rattle.std.specs.Str.{bytes_eq}
 use Rattle.std.proofs.lemmas.Bool.{eqb-true, eq-eqb, and_parts, and_from, or_cases}
@@ -20,13 +20,13 @@ use Rattle.string_cache_core.specs.Runs.{Script}
 use Rattle.string_cache_core.specs.Pass as th
 use Rattle.string_cache_core.specs.PassSteps.{steps_of_all, end_of, plan_of, Planned, planned, any_reply, is_added, is_full, is_dying, is_unlinked, is_kept, steps_of, linked_in, AllEnabled, PassIsSteps}
 use Rattle.string_cache_core.specs.Theorem.{text_taken}
-use Rattle.string_cache_core.specs.Sound.{At, SoundPass}
-use Rattle.string_cache_core.proofs.StepLists.{at_set_cases, at_push_cases, at_one, if_case, find-all}
+use Rattle.string_cache_core.specs.Sound.{At, SoundPass, Apart, SoundWorld}
+use Rattle.string_cache_core.proofs.StepLists.{has_first, has_then, implied, has_old, has_new, numbered_all, at_set_cases, at_push_cases, at_one, if_case, find-all}
 use Rattle.string_cache_core.proofs.StepSound.{same_text}
 use Rattle.string_cache_core.proofs.StepHistory.{opening_sound}
 use Rattle.string_cache_core.proofs.StepEntries.{set_other}
 use Rattle.string_cache_core.proofs.StepPasses.{of_party, replaced_same, others_keep, took_event, is_party}
-use Rattle.string_cache_core.proofs.StepApart.{Apart, Held, SameIn, same_in, same_change, held_all, held_by, others_leave}
+use Rattle.string_cache_core.proofs.StepApart.{SameIn, same_in, same_change, held_all, held_by, others_leave}
 use Rattle.string_cache_core.specs.Tables.{Tables}
 
 -- ---- a plan, entry by entry
@@ -133,36 +133,6 @@ abbrev pub Falls : ℕ → List (ℕ × Entry) → Type 0
 Falls n [] = Unit {0}
 Falls n (e ∷ es) = (e.0 < n) × Falls e.0 es
 
-has_first : (a b : Bool) → a ≡ true → (a || b) ≡ true
-has_first true b e = refl
-has_first false b e = absurd (let f : false ≡ true = e in cc)
-
-has_then : (a b : Bool) → b ≡ true → (a || b) ≡ true
-has_then true b e = refl
-has_then false b e = e
-
-implied : (a b : Bool) → (a ≡ true → b ≡ true) → (not a || b) ≡ true
-implied true b h = h refl
-implied false b h = refl
-
-has_old : (xs : List ℕ) (x y : ℕ) → has xs y ≡ true → has (xs ++ x ∷ []) y ≡ true
-has_old [] x y h = absurd (let f : false ≡ true = h in cc)
-has_old (z ∷ xs) x y h = elim (or_cases (z == y) (has xs y) h) [
-  | inl e ↦ has_first (z == y) (has (xs ++ x ∷ []) y) e
-  | inr e ↦ has_then (z == y) (has (xs ++ x ∷ []) y) (has_old xs x y e)
-]
-
-has_new : (xs : List ℕ) (x y : ℕ) → x ≡ y → has (xs ++ x ∷ []) y ≡ true
-has_new [] x y e = has_first (x == y) false (eq-eqb x y e)
-has_new (z ∷ xs) x y e = has_then (z == y) (has (xs ++ x ∷ []) y) (has_new xs x y e)
-
-numbered_all : {X : Type 0} (p : ℕ × X → Bool) (xs : List X) (n : ℕ) → ((k : ℕ) (x : X) → At xs k x → p (n + k, x) ≡ true) → list_all p (enumerate_from n xs) ≡ true
-numbered_all {X} p [] n h = refl
-numbered_all {X} p (x ∷ xs) n h =
-    let zero_more : n + 0 ≡ n = omega arith in
-    and_from (p (n, x)) (list_all p (enumerate_from (n + 1) xs)) (subst (λ (m : ℕ). p (m, x) ≡ true) zero_more (h zero x refl))
-    (numbered_all p xs (n + 1) (λ k y at. let e : n + suc k ≡ n + 1 + k = omega arith in subst (λ (m : ℕ). p (m, y) ≡ true) e (h (suc k) y at)))
-
 -- ---- a pass on its way through the list
 
 -- The numbered entry stands in the bucket, with its text.
@@ -222,7 +192,7 @@ module _ (tables : Tables) where
           elim (m.dying k old.0 old.1 old.2 (less old.0.text (t ∙ ap (λ (s : List ℕ). Some s) old.3))) [ inl e ↦ inl e | inr e ↦ inr (dying (suc k) e) ];
     }
 
-    pub others_go : Held tables w → (q : ℕ) → q ≢ party → (s : Step) → Midway (step tables w q s).1 party pass wanted rest
+    pub others_go : SoundWorld tables w → (q : ℕ) → q ≢ party → (s : Step) → Midway (step tables w q s).1 party pass wanted rest
     others_go held q n s =
         let same = others_leave tables w held party pass m.found q n s in
         record {
@@ -270,7 +240,7 @@ module _ (tables : Tables) where
   not_linked : {P : Type 0} → ◌≡◌ {A = Bool} false true → P
   not_linked e = absurd cc
 
-  module _ (w : World) (held : Held tables w) (party : ℕ) (pass : Pass) (wanted : Option (List ℕ)) (e : ℕ × Entry) (rest : List (ℕ × Entry)) (m : Midway w party pass wanted (e ∷ rest)) where
+  module _ (w : World) (held : SoundWorld tables w) (party : ℕ) (pass : Pass) (wanted : Option (List ℕ)) (e : ℕ × Entry) (rest : List (ℕ × Entry)) (m : Midway w party pass wanted (e ∷ rest)) where
     here : Stands w.entries pass.bucket e
     here = m.there.0
 
@@ -403,7 +373,7 @@ module _ (tables : Tables) where
     | inr (i, f) ↦ (let number : length es + 1 ≡ suc k = omega (arith, i) in has_new looked (length es + 1) (suc k) number)
   ]
 
-  module _ (w : World) (held : Held tables w) (party : ℕ) (pass : Pass) where
+  module _ (w : World) (held : SoundWorld tables w) (party : ℕ) (pass : Pass) where
     none_left : (n : ℕ) {P : Type 0} → has [] n ≡ true → P
     none_left n h = not_linked h
 
@@ -481,16 +451,16 @@ module _ (tables : Tables) where
   ready w party pass wanted [] m plan is = ready_end w party pass wanted m plan is
   ready w party pass wanted (e ∷ rest) m plan is = ready_entry w party pass wanted e rest m is.0 is.1 plan is.2 is.3 is.4
 
-  -- ---- another's step tables
+  -- ---- another's step
 
-  pub ready_other : (w : World) → Held tables w → (party : ℕ) (plan : List Planned) → Ready w party plan → (q : ℕ) → q ≢ party → (s : Step) → Ready (step tables w q s).1 party plan
+  pub ready_other : (w : World) → SoundWorld tables w → (party : ℕ) (plan : List Planned) → Ready w party plan → (q : ℕ) → q ≢ party → (s : Step) → Ready (step tables w q s).1 party plan
   ready_other w held party plan (Done is) q n s = Done is
   ready_other w held party plan (To_leave pass m is) q n s = To_leave pass (others_go w party pass None [] m held q n s) is
   ready_other w held party plan (To_link pass text room m is) q n s = To_link pass text room (others_go w party pass (Some text) [] m held q n s) is
   ready_other w held party plan (To_add pass wanted e rest told later m a t is p) q n s = To_add pass wanted e rest told later (others_go w party pass wanted (e ∷ rest) m held q n s) a t is p
   ready_other w held party plan (To_unlink pass wanted e rest fits later m d is p) q n s = To_unlink pass wanted e rest fits later (others_go w party pass wanted (e ∷ rest) m held q n s) d is p
 
-  -- ---- the next step tables of the plan
+  -- ---- the next step of the plan
 
   abbrev pub Next : World → ℕ → List Planned → Type 0
   Next w party [] = Unit {0}
@@ -511,7 +481,7 @@ module _ (tables : Tables) where
   not_dying_full reply.Dying d a = not_linked a
   not_dying_full r d a = not_linked d
 
-  next_add : (w : World) → Held tables w → (party : ℕ) (pass : Pass) (wanted : Option (List ℕ)) (e : ℕ × Entry) (rest : List (ℕ × Entry)) (told : Told) (later : List Planned) → Midway w party pass wanted (e ∷ rest)
+  next_add : (w : World) → SoundWorld tables w → (party : ℕ) (pass : Pass) (wanted : Option (List ℕ)) (e : ℕ × Entry) (rest : List (ℕ × Entry)) (told : Told) (later : List Planned) → Midway w party pass wanted (e ∷ rest)
       → is_of_add told ≡ true → wanted ≡ Some e.1.text → IsPlan (still_wanted told wanted) rest later → Next w party (steps_of e.0 told ++ later)
   next_add w held party pass wanted e rest (th.added s) later m a t p =
       enabled w party (Add e.0) is_added later _ (add_enabled w held party pass wanted e rest m t) (λ fits. elim (after_add w held party pass wanted e rest m) [
@@ -531,7 +501,7 @@ module _ (tables : Tables) where
   next_add w held party pass wanted e rest th.gone later m a t p = not_linked a
   next_add w held party pass wanted e rest th.stays later m a t p = not_linked a
 
-  pub ready_own : (w : World) → Held tables w → (party : ℕ) (plan : List Planned) → Ready w party plan → Next w party plan
+  pub ready_own : (w : World) → SoundWorld tables w → (party : ℕ) (plan : List Planned) → Ready w party plan → Next w party plan
   ready_own w held party plan (Done is) = subst (Next w party) (sym is) tt
   ready_own w held party plan (To_leave pass m is) =
       subst (Next w party) (sym is) (enabled w party Leave any_reply [] _ (leave_enabled w held party pass m) (λ fits. Done refl))
@@ -544,10 +514,10 @@ module _ (tables : Tables) where
       subst (Next w party) (sym is) (enabled w party (Unlink e.0) fits later _ (unlink_enabled w held party pass wanted e rest m)
       (λ f. let after = after_unlink w held party pass wanted e rest m d in ready _ party after.0 wanted rest after.1 later p))
 
-  held_step : (w : World) → Held tables w → (q : ℕ) (s : Step) → Held tables (step tables w q s).1
+  held_step : (w : World) → SoundWorld tables w → (q : ℕ) (s : Step) → SoundWorld tables (step tables w q s).1
   held_step w held q s = held_by tables w held (record { party = q; does = s; reply = (step tables w q s).0 }) (step tables w q s).1 refl
 
-  pub all_enabled : (w : World) → Held tables w → (party : ℕ) (plan : List Planned) → Ready w party plan → (script : Script) → AllEnabled tables w party plan script
+  pub all_enabled : (w : World) → SoundWorld tables w → (party : ℕ) (plan : List Planned) → Ready w party plan → (script : Script) → AllEnabled tables w party plan script
   all_enabled w held party plan r [] = tt
   all_enabled w held party [] r (s ∷ script) = λ n. all_enabled (step tables w s.0 s.1).1 (held_step w held s.0 s.1) party [] (ready_other w held party [] r s.0 n s.1) script
   all_enabled w held party (next ∷ plan) r (s ∷ script) =
@@ -670,7 +640,7 @@ module _ (tables : Tables) where
   unfolding opening
   no_entries limits n k x at = absurd (let e : ◌≡◌ {A = Option Entry} None (Some x) = at in cc)
 
-  held_opening : (limits : Bounds) (n : ℕ) → 0 < n → n ≤ 4096 → Held tables (opening limits n)
+  pub held_opening : (limits : Bounds) (n : ℕ) → 0 < n → n ≤ 4096 → SoundWorld tables (opening limits n)
   held_opening limits n some few = record { sound = opening_sound tables limits n some few; apart = no_passes limits n; placed = no_entries limits n }
 
 pub pass_is_steps_all : PassIsSteps

@@ -191,7 +191,7 @@ module _ (es : List Entry) (lasts bag : List ℕ) (y : Entry) (table : SoundTabl
   pub dead-push : (e : ℕ) → IsDead es e → IsDead (es ++ y ∷ []) e
   dead-push e d = (d.0, d.1, d.2, at_push_old es y d.0 d.1 d.3, d.4)
 
--- ---- what is live_map
+-- ---- what is seen
 
 pub same_map : (m n : InternMap) → m.buckets ≡ n.buckets → ((text : List ℕ) → m.held text ≡ n.held text) → ((b : ℕ) → m.last b ≡ n.last b) → m ≡ n
 same_map m n s h l = λ i. record { buckets = s i; held = λ text. h text i; last = λ b. l b i }
@@ -250,7 +250,7 @@ module _ (es : List Entry) (lasts bag : List ℕ) (table : SoundTable es lasts b
       (let other : x.text ≢ text = λ p. absurd (let q : bytes_eq x.text text ≡ true = (bytes_eq-Decides x.text text).1 p in let r : false ≡ true = sym e ∙ q in cc) in
       find-set (is_living_of text) es k x y a (unmatched text x other) (unmatched text y (λ p. other (sym ch.text ∙ p)))))
 
-  -- what changes while it is not living is not live_map
+  -- what changes while it is not living is not seen
   pub living_at-dead : (k : ℕ) (x y : Entry) → At es k x → is_living x ≡ false → is_living y ≡ false → (text : List ℕ) → living_at (slice_set es k y) text ≡ living_at es text
   unfolding living_at
   living_at-dead k x y a dead dead' text =

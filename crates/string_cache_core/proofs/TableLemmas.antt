@@ -1,4 +1,4 @@
--- A text that is looked up in static tables, whose texts lie behind references.
+-- Texts in static tables, which lie behind references.
 use Rattle.std.proofs.Common.{◌≡◌, ℕ, ◌<◌, List, [], length, get_or, true, false, refl, sym, ap, ◌∙◌, map, nat_lt}
 use Rattle.std.specs.Borrow.{Bor}
 use Rattle.std.specs.Str.{bytes_eq}
@@ -7,7 +7,8 @@ use Rattle.std.proofs.lemmas.Bool.{lt-ltb}
 use Rattle.string_cache_core.specs.declared.phf.Hashes.{Hashes}
 use Rattle.string_cache_core.specs.declared.static_sets.TextForm.TheVariants.{Static, Dynamic}
 use Rattle.string_cache_core.specs.Phf.{hashes_of, hash_of_hashes, place_of}
-use Rattle.string_cache_core.specs.Tables.{Tables, place_in, text_at, entry_hash, form_of_text}
+use Rattle.std.specs.Cmp.Lexicographic.{bytes_decides}
+use Rattle.string_cache_core.specs.Tables.{Tables, place_in, text_at, entry_hash, form_of_text, AllAreStatic}
 
 abbrev pub parts : ℕ → List (ℕ × ℕ) → List (Bor (List ℕ)) → List ℕ → Tables
 parts key disps atoms hashes = record { key = key; disps = disps; atoms = map (λ text. text.now) atoms; hashes = hashes }
@@ -18,6 +19,22 @@ static_form t text p long place same = let l : nat_lt 7 (length text) ≡ true =
 
 pub dynamic_form : (t : Tables) (text : List ℕ) (p : ℕ) → 7 < length text → place_in t text ≡ p → bytes_eq (text_at t p) text ≡ false → Dynamic (entry_hash t text) ≡ form_of_text t text
 dynamic_form t text p long place differ = let l : nat_lt 7 (length text) ≡ true = lt-ltb 7 (length text) long in rw (l, place, differ) refl
+
+-- where each listed text has its index as its place, it is found there
+pub placed_static : (t : Tables) → ((i : ℕ) → i < length t.atoms → place_in t (text_at t i) ≡ i) → AllAreStatic t
+placed_static t placed i below long =
+    let text = text_at t i in
+    sym (static_form t text i long (placed i below) ((bytes_decides text text).1 refl))
+
+-- a listed text that is hashed and placed
+module _ (key : ℕ) (disps : List (ℕ × ℕ)) (atoms : List (Bor (List ℕ))) (hashes : List ℕ) (i : ℕ) (d : Bor (List ℕ)) (below : i < length atoms) where
+  pub place_of_listed : (h : Hashes) (len p : ℕ) → len ≡ length atoms → h ≡ hashes_of (get_or atoms i d).now key → p ≡ place_of h disps len
+      → p ≡ place_in (parts key disps atoms hashes) (text_at (parts key disps atoms hashes) i)
+  unfolding place_in
+  place_of_listed h len p count hashed is =
+      let there : text_at (parts key disps atoms hashes) i ≡ (get_or atoms i d).now = get_or-map (λ (text : Bor (List ℕ)). text.now) atoms i d [] below in
+      is ∙ (λ j. place_of (hashed j) disps ((count ∙ sym (length-map atoms (λ (text : Bor (List ℕ)). text.now))) j))
+      ∙ ap (λ text. place_of (hashes_of text key) disps (length (map (λ (text : Bor (List ℕ)). text.now) atoms))) (sym there)
 
 module _ (t : Tables) (key : ℕ) (disps : List (ℕ × ℕ)) (atoms : List (Bor (List ℕ))) (hashes : List ℕ) (is : parts key disps atoms hashes ≡ t) (text : List ℕ) where
   pub looked_up : (h : Hashes) (len p : ℕ) → len ≡ length atoms → h ≡ hashes_of text key → p ≡ place_of h disps len → place_in t text ≡ p

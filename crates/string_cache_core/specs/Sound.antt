@@ -1,5 +1,5 @@
 -- What every world keeps that steps lead to.
-use Rattle.std.specs.Prelude.{◌≡◌, ◌≢◌, ℕ, ◌<◌, ◌≤◌, ◌==◌, ◌&&◌, nat_lt, Bool, true, List, length, count_by, Some, slice_get, slice_index, suc}
+use Rattle.std.specs.Prelude.{◌≡◌, ◌≢◌, ℕ, ◌<◌, ◌≤◌, ◌==◌, ◌&&◌, nat_lt, Bool, true, List, [], ◌∷◌, length, count_by, Some, slice_get, slice_index, suc}
 use Rattle.std.specs.List.{AllByRecursion}
 use Rattle.string_cache_core.specs.Tables.{Tables}
 use Rattle.string_cache_core.specs.Word.{ticket_of}
@@ -49,3 +49,17 @@ pub record SoundPass (t : Tables) (buckets : ℕ) (entries : List Entry) (pass :
 pub record Sound (t : Tables) (w : World) : Type 0 where
   pub table : SoundTable w.entries w.lasts w.bag
   pub each : AllByRecursion (SoundPass t (length w.lasts) w.entries) w.passes
+
+-- No two passes have one party or one bucket.
+abbrev pub DiffersFrom : Pass → Pass → Type 0
+DiffersFrom p o = (o.party ≢ p.party) × (o.bucket ≢ p.bucket)
+
+abbrev pub Apart : List Pass → Type 0
+Apart [] = Unit {0}
+Apart (p ∷ ps) = AllByRecursion (DiffersFrom p) ps × Apart ps
+
+-- all of it: also, an entry stands in its text's bucket
+pub record SoundWorld (t : Tables) (w : World) : Type 0 where
+  pub sound : Sound t w
+  pub apart : Apart w.passes
+  pub placed : (k : ℕ) (x : Entry) → At w.entries k x → x.bucket ≡ bucket_of t (length w.lasts) x.text

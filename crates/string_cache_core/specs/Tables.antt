@@ -29,6 +29,12 @@ place_in t text = place_of (hashes_of text t.key) t.disps (length t.atoms)
 abbrev pub text_at : Tables → ℕ → List ℕ
 text_at t index = slice_index_or t.atoms index []
 
+-- tables in which each text is listed once and stands at its place
+pub record IsPerfectTable (t : Tables) : Type 0 where
+  pub usable : AreUsable t
+  pub distinct : (i j : ℕ) → i < length t.atoms → j < length t.atoms → text_at t i ≡ text_at t j → i ≡ j
+  pub placed : (i : ℕ) → i < length t.atoms → place_in t (text_at t i) ≡ i
+
 -- the hash of an entry, of which the low bits are its bucket
 unfoldable pub entry_hash : Tables → List ℕ → ℕ
 entry_hash t text = hash_of_hashes (hashes_of text t.key)
@@ -60,6 +66,10 @@ hash_number t text = hash_number_of_form t (form_of_text t text)
 -- the index is the place of the text that stands there, a text of more than 7 bytes
 abbrev pub IsStaticIndex : Tables → ℕ → Type 0
 IsStaticIndex t index = form_of_text t (text_at t index) ≡ Static index
+
+-- each text of more than 7 bytes is static, at the index where it is listed
+abbrev pub AllAreStatic : Tables → Type 0
+AllAreStatic t = (i : ℕ) → i < length t.atoms → 7 < length (text_at t i) → IsStaticIndex t i
 
 -- the word is that of a static text
 abbrev pub IsStaticTextWord : Tables → ℕ → Type 0

@@ -1,13 +1,14 @@
 //! Static tables of texts, and the form that they give a text.
 #![tactic(auto)]
 
-ghost use Rattle.std.specs.Prelude.{◌≡◌, ◌↔◌, IfSome, IsSome};
-ghost use Rattle.string_cache_core.specs.Tables.{Tables, AreUsable, IsStaticIndex, empty_tables, form_of_text, text_at};
+ghost use Rattle.std.specs.Prelude.{◌≡◌, ◌↔◌, IfSome, IsSome, IsTrue};
+ghost use Rattle.string_cache_core.specs.Tables.{Tables, AreUsable, AllAreStatic, IsPerfectTable, IsStaticIndex, empty_tables, form_of_text, text_at};
 
 use crate::phf::{hash, place};
 use crate::word::pack_inline_word;
 
 /// Static tables: each text stands at the place that its hashes and its pair of displacements give it.
+#[derive(Drop)]
 pub struct PhfStrSet {
     /// The key of the hash.
     pub key: u64,
@@ -17,6 +18,34 @@ pub struct PhfStrSet {
     pub atoms: &'static [&'static str],
     /// The number that an atom of each text hashes as.
     pub hashes: &'static [u64],
+}
+
+impl PhfStrSet {
+    ghost use Rattle.string_cache_core.specs.PhfStrSet.{tables_of};
+
+    /// Whether a static type may have these tables and each text is listed once, at its place. Then every text of more
+    /// than 7 bytes in them is static. The hashes are only counted.
+    pub fn check(&self) -> bool
+        ensures perfect { IsTrue result ↔ IsPerfectTable (tables_of self.now) }
+        ensures found { IsTrue result → AllAreStatic (tables_of self.now) }
+    {
+        let Ok(len) = u32::try_from(self.atoms.len()) else {
+            return false;
+        };
+        if len == 0
+            || self.disps.is_empty()
+            || self.disps.len() > u32::MAX as usize
+            || self.hashes.len() != self.atoms.len()
+        {
+            return false;
+        }
+        for (i, text) in self.atoms.iter().enumerate() {
+            if place(&hash(text, self.key), self.disps, len) as usize != i {
+                return false;
+            }
+        }
+        true
+    }
 }
 
 /// The type of a static set.

@@ -10,6 +10,7 @@ ghost use Rattle.string_cache_core.specs.Theorem.{HasRun};
 ghost use Rattle.string_cache_core.specs.PassSteps.{PassIsSteps};
 
 mod entry;
+mod listed;
 mod pass;
 mod state;
 #[cfg(test)]
@@ -103,13 +104,13 @@ pub struct World<S: StaticAtomSet> {
 
 impl<S: StaticAtomSet> Model for World<S> {
     ghost use Rattle.string_cache_core.specs.World as world;
-    ghost use Rattle.string_cache_core.specs.Sound.{Sound};
+    ghost use Rattle.string_cache_core.specs.Sound.{SoundWorld};
 
     ghost Value = { world.World };
 
     ghost view = { λ a. a.state };
 
-    ghost invariant = { λ a. Sound S.tables a.state };
+    ghost invariant = { λ a. SoundWorld S.tables a.state };
 }
 
 impl<S: StaticAtomSet> World<S> {

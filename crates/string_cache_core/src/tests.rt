@@ -4,7 +4,9 @@
 use crate::Fault;
 use crate::phf::{Hashes, hash, place, sip24};
 use crate::samples::{One, Short, Twice};
-use crate::static_sets::{EmptyStaticAtomSet, StaticAtomSet, TextForm, form_of_text, static_text};
+use crate::static_sets::{
+    EmptyStaticAtomSet, PhfStrSet, StaticAtomSet, TextForm, form_of_text, static_text,
+};
 use crate::word::{
     Form, Limits, form_of, pack_inline_word, static_word, ticket_word, unpack_inline,
 };
@@ -154,6 +156,41 @@ fn static_texts(rt: HostRuntime) {
     );
     assert_eq!(rt; static_text::<Short>(0), None);
     assert_eq!(rt; static_text::<EmptyStaticAtomSet>(0), None);
+}
+
+fn is_perfect(
+    disps: &'static [(u32, u32)],
+    atoms: &'static [&'static str],
+    hashes: &'static [u64],
+) -> bool {
+    let set = PhfStrSet {
+        key: 0,
+        disps,
+        atoms,
+        hashes,
+    };
+    set.check()
+}
+
+#[test]
+fn checked_tables(rt: HostRuntime) {
+    assert!(rt; One::get().check() && Short::get().check() && !Twice::get().check());
+    assert!(rt; EmptyStaticAtomSet::get().check());
+    assert!(rt; is_perfect(&[(0, 0)], &["sentence"], &[0]));
+    assert!(rt; is_perfect(&[(u32::MAX, u32::MAX)], &["sentence"], &[1]));
+
+    // The low bits of f2, 0x56e93a5c and 0x56f756b3, are the places of the two among two.
+    assert!(rt; is_perfect(&[(0, 0)], &["sentence", "interned"], &[1, 2]));
+    assert!(rt; !is_perfect(&[(0, 0)], &["interned", "sentence"], &[1, 2]));
+}
+
+#[test]
+fn unusable_tables(rt: HostRuntime) {
+    assert!(rt; !is_perfect(&[], &["sentence"], &[1]));
+    assert!(rt; !is_perfect(&[(0, 0)], &[], &[]));
+    assert!(rt; !is_perfect(&[(0, 0)], &[], &[1]));
+    assert!(rt; !is_perfect(&[(0, 0)], &["sentence"], &[]));
+    assert!(rt; !is_perfect(&[(0, 0)], &["sentence"], &[1, 2]));
 }
 
 #[test]

@@ -8,11 +8,12 @@ ghost use Rattle.std.specs.String.{string_bytes};
 ghost use Rattle.string_cache_core.specs.Tables.{Tables};
 ghost use Rattle.string_cache_core.specs.Word.{ticket_of};
 ghost use Rattle.string_cache_core.specs.World.{is_unlinked_by};
-ghost use Rattle.string_cache_core.specs.Sound.{Sound, SoundTable};
-ghost use Rattle.string_cache_core.specs.Steps.{IsStep, all_found_dying, all_looked_at, decides, entry_at, finds_dying, has, is_found_dying, is_free, is_linked_in, is_looked_at, last_of, looks_at, opening, pass_of, take_bucket, wants, with_one, without_one};
+ghost use Rattle.string_cache_core.specs.Sound.{SoundTable, SoundWorld};
+ghost use Rattle.string_cache_core.specs.Steps.{IsStep, all_found_dying, all_looked_at, decides, entry_at, finds_dying, has, is_free, is_linked_in, last_of, looks_at, opening, pass_of, take_bucket, wants, with_one, without_one};
 ghost use Rattle.string_cache_core.specs.StepPlaces.{PassAt, EntryAt};
 
 use super::entry::{Entry, Place};
+use super::listed::Listed;
 use super::pass::Pass;
 use super::{Step, StepReply};
 use crate::faults::Fault;
@@ -26,6 +27,8 @@ pub struct State {
     limits: Limits,
     lasts: Vec<u64>,
     entries: Vec<Entry>,
+    // Of each bucket the numbers of its linked entries. One may stand there whose entry is linked elsewhere, or isn't yet.
+    linked: Vec<Listed>,
     passes: Vec<Pass>,
 }
 
@@ -33,12 +36,13 @@ impl Model for State {
     ghost use Rattle.std.specs.Prelude.{◌≡◌, length};
     ghost use Rattle.string_cache_core.specs.World as world;
     ghost use Rattle.string_cache_core.specs.StepPlaces.{held_places};
+    ghost use Rattle.string_cache_core.specs.Listed.{IsKept};
 
     ghost Value = { world.World };
 
     ghost view = { λ a. record { limits = a.limits; lasts = a.lasts.items; entries = a.entries.items; passes = a.passes.items; bag = held_places a.entries.items } };
 
-    ghost invariant = { λ a. length a.lasts.items ≡ 4096 };
+    ghost invariant = { λ a. IsKept a.entries.items a.lasts.items a.linked.items };
 }
 
 fn place_of(passes: &[Pass], party: u32) -> Option<usize>
@@ -53,32 +57,15 @@ fn is_free(passes: &[Pass], bucket: u16) -> bool
     passes.iter().all(|pass| pass.bucket != bucket)
 }
 
-fn contains(numbers: &[u64], number: u64) -> bool
-    ensures { result ≡ has numbers.now number }
+fn empty_lists(alloc: Global) -> Result<Vec<Listed>, Fault>
+    ensures ok { IfOk result (λ lists. length lists.items ≡ 4096) }
+    ensures err { OnErr result (result ≡ Err Fault.Memory) }
 {
-    numbers.iter().any(|other| *other == number)
-}
-
-fn all_found_dying(entries: &[Entry], dying: &[u64], text: &str) -> bool
-    ensures { result ≡ list_all (is_found_dying dying.now text.now) (enumerate_from 1 entries.now) }
-{
-    for (k, entry) in entries.iter().enumerate() {
-        if entry.is_linked_of(text) && !contains(dying, k as u64 + 1) {
-            return false;
-        }
+    let mut lists = Vec::with_capacity(alloc, 4096)?;
+    for _turn in 0..4096usize {
+        lists.push(Listed::new(alloc))?;
     }
-    true
-}
-
-fn all_looked_at(entries: &[Entry], looked: &[u64], bucket: u16) -> bool
-    ensures { result ≡ list_all (is_looked_at bucket looked.now) (enumerate_from 1 entries.now) }
-{
-    for (k, entry) in entries.iter().enumerate() {
-        if entry.is_linked_in(bucket) && !contains(looked, k as u64 + 1) {
-            return false;
-        }
-    }
-    true
+    Ok(lists)
 }
 
 impl State {
@@ -89,10 +76,12 @@ impl State {
         ensures err { OnErr result (result ≡ Err Fault.Memory) }
     {
         let lasts = vec![in alloc; 0; 4096]?;
+        let linked = empty_lists(alloc)?;
         Ok(State {
             limits,
             lasts,
             entries: Vec::new(alloc),
+            linked,
             passes: Vec::new(alloc),
         })
     }
@@ -193,15 +182,29 @@ impl State {
         entry.is_linked_in(pass.bucket) && pass.wants(entry.text.as_str())
     }
 
+    // Whether the pass has found each linked entry of the text dying.
+    fn all_dying(&self, at: usize, text: &str) -> bool
+        requires pass { at < length self.now.passes }
+        requires placed { (pass : world.Pass) (k : ℕ) (entry : world.Entry) → slice_get self.now.passes at ≡ Some pass → slice_get self.now.entries k ≡ Some entry
+            → entry.text ≡ text.now → entry.bucket ≡ pass.bucket }
+        ensures { (pass : world.Pass) → slice_get self.now.passes at ≡ Some pass → result ≡ all_found_dying self.now pass text.now }
+    {
+        let pass = &self.passes[at];
+        let listed = &self.linked[pass.bucket as usize];
+        listed.all_dying(&self.entries, text, &pass.dying)
+    }
+
     fn may_link(&self, at: usize) -> bool
-        requires { at < length self.now.passes }
+        requires pass { at < length self.now.passes }
+        requires placed { (pass : world.Pass) (text : List ℕ) (k : ℕ) (entry : world.Entry) → slice_get self.now.passes at ≡ Some pass → pass.wanted ≡ Some text
+            → slice_get self.now.entries k ≡ Some entry → entry.text ≡ text → entry.bucket ≡ pass.bucket }
         ensures { (pass : world.Pass) → slice_get self.now.passes at ≡ Some pass
             → result ≡ option_map_or (λ text. all_found_dying self.now pass text) pass.wanted false }
     {
         let pass = &self.passes[at];
         match &pass.wanted {
             None => false,
-            Some(text) => all_found_dying(&self.entries, &pass.dying, text.as_str()),
+            Some(text) => self.all_dying(at, text.as_str()),
         }
     }
 
@@ -222,12 +225,22 @@ impl State {
         self.entries[k].is_unlinked_by(party)
     }
 
+    // Whether the pass has looked at each entry of its bucket.
+    fn all_seen(&self, at: usize) -> bool
+        requires { at < length self.now.passes }
+        ensures { (pass : world.Pass) → slice_get self.now.passes at ≡ Some pass → result ≡ all_looked_at self.now pass }
+    {
+        let pass = &self.passes[at];
+        let listed = &self.linked[pass.bucket as usize];
+        listed.all_seen(&self.entries, pass.bucket, &pass.looked)
+    }
+
     fn may_leave(&self, at: usize) -> bool
         requires { at < length self.now.passes }
         ensures { (pass : world.Pass) → slice_get self.now.passes at ≡ Some pass → result ≡ (is_none pass.wanted && all_looked_at self.now pass) }
     {
         let pass = &self.passes[at];
-        !pass.is_undecided() && all_looked_at(&self.entries, &pass.looked, pass.bucket)
+        !pass.is_undecided() && self.all_seen(at)
     }
 
     // Whether the bag has the entry's ticket.
@@ -359,6 +372,7 @@ impl State {
         let number = self.entries.len() as u64 + 1;
         let pass = &mut self.passes[at];
         let bucket = pass.bucket;
+        self.linked[bucket as usize].add(number)?;
         pass.look_at(number)?;
         let text = pass.take_wanted();
         let ticket = ticket_word(serial, bucket);
@@ -373,11 +387,15 @@ impl State {
         Ok((number, ticket))
     }
 
-    fn set_unlinked(&mut self, k: usize, party: u32)
-        requires { k < length self.old.entries }
+    // Takes the entry out of the list of the pass's bucket.
+    fn set_unlinked(&mut self, at: usize, k: usize, party: u32)
+        requires pass { at < length self.old.passes }
+        requires entry { k < length self.old.entries }
         ensures { (entry : world.Entry) → slice_get self.old.entries k ≡ Some entry
             → self.new ≡ record self.old { entries = slice_set self.old.entries k (record entry { place = Place.UnlinkedBy party }) } }
     {
+        let pass = &self.passes[at];
+        self.linked[pass.bucket as usize].take_out(k as u64 + 1);
         let entry = &mut self.entries[k];
         entry.unlink(party);
     }
@@ -454,8 +472,8 @@ impl State {
         Ok(StepReply::Added { ticket, holders })
     }
 
-    fn link(&mut self, party: u32, room: bool) -> Result<StepReply, Fault>
-        requires { SoundTable self.old.entries self.old.lasts self.old.bag }
+    fn link<S: StaticAtomSet>(&mut self, party: u32, room: bool) -> Result<StepReply, Fault>
+        requires { SoundWorld S.tables self.old }
         ensures ok { IfOk result (λ reply. (t : Tables) → IsStep t self.old party (Step.Link room) reply self.new) }
         ensures err { OnErr result ((self.new ≡ self.old) × (result ≡ Err Fault.Memory)) }
     {
@@ -525,7 +543,7 @@ impl State {
             return Ok(StepReply::No);
         }
         if self.count_at(k) == 0 {
-            self.set_unlinked(k, party);
+            self.set_unlinked(at, k, party);
             return Ok(StepReply::Unlinked);
         }
         self.look_at(at, number)?;
@@ -560,7 +578,7 @@ impl State {
 
     /// One step of a party. An `Err` changes nothing.
     pub fn apply<S: StaticAtomSet>(&mut self, party: u32, step: &Step) -> Result<StepReply, Fault>
-        requires { Sound S.tables self.old }
+        requires { SoundWorld S.tables self.old }
         ensures ok { IfOk result (λ reply. IsStep S.tables self.old party step.now reply self.new) }
         ensures err { OnErr result ((self.new ≡ self.old) × (result ≡ Err Fault.Memory)) }
     {
@@ -568,7 +586,7 @@ impl State {
             Step::TakeIntern(text) => self.take_intern::<S>(party, text),
             Step::TakeSweep(bucket) => self.take_sweep(party, *bucket),
             Step::Add(number) => self.add(party, *number),
-            Step::Link(room) => self.link(party, *room),
+            Step::Link(room) => self.link::<S>(party, *room),
             Step::Clone(number) => Ok(self.clone_entry(*number)),
             Step::Give(number) => Ok(self.give(*number)),
             Step::Unlink(number) => self.unlink(party, *number),

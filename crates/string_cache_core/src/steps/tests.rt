@@ -1,21 +1,41 @@
 // The steps on small scripts. Expected replies are those of the table of steps, worked out by hand.
 use super::{Step, StepReply, World};
-use crate::faults::Fault;
 use crate::static_sets::{EmptyStaticAtomSet, TextForm, form_of_text};
 use crate::word::Limits;
-use StepReply::{Dying, Freed, Full, Kept, Left, Memory, No, Spent, Taken, Unlinked};
+use StepReply::{
+    Added, Cloned, Dying, Freed, Full, Given, Kept, Left, Linked, Memory, No, Spent, Taken,
+    Unlinked,
+};
 use std::alloc::{AllocError, Global};
 use std::process::Abort;
 use std::test::Fail;
 
-type Script = Vec<(u32, Step)>;
-
-fn world(alloc: Global, limits: Limits) -> Result<World<EmptyStaticAtomSet>, Fault> {
-    World::new(alloc, limits)
+// A step whose text is a literal.
+#[derive(Clone, Copy)]
+enum Do {
+    Intern(&'static str),
+    Sweep(u32),
+    Add(u64),
+    Link(bool),
+    Clone(u64),
+    Give(u64),
+    Unlink(u64),
+    Free(u64),
+    Leave,
 }
 
-fn intern(alloc: Global, text: &str) -> Result<Step, AllocError> {
-    Ok(Step::TakeIntern(String::from_str(alloc, text)?))
+fn step_of(alloc: Global, step: Do) -> Result<Step, AllocError> {
+    Ok(match step {
+        Do::Intern(text) => Step::TakeIntern(String::from_str(alloc, text)?),
+        Do::Sweep(bucket) => Step::TakeSweep(bucket),
+        Do::Add(entry) => Step::Add(entry),
+        Do::Link(room) => Step::Link(room),
+        Do::Clone(entry) => Step::Clone(entry),
+        Do::Give(entry) => Step::Give(entry),
+        Do::Unlink(entry) => Step::Unlink(entry),
+        Do::Free(entry) => Step::Free(entry),
+        Do::Leave => Step::Leave,
+    })
 }
 
 // The ticket of a bucket's serial, the bucket being that of the text.
@@ -26,273 +46,172 @@ fn ticket_of(text: &str, serial: u64) -> u64 {
     }
 }
 
-// The replies by `run`, and how often each of the first entries is held then. The same steps one by one reply the same.
-fn replies(
+// By `step` and by `run`: each row's step of its party has that reply, and then the entries are held so often. A run that
+// was refused memory goes on from the replies appended.
+fn check(
     rt: &impl Abort,
     alloc: Global,
     limits: Limits,
-    script: Script,
-) -> Result<(Vec<StepReply>, Vec<Option<u64>>), Fail> {
-    let mut by_run = Vec::new(alloc);
-    let mut ran = world(alloc, limits)?;
-    ran.run(script.as_slice(), &mut by_run)?;
-    let mut by_step = Vec::new(alloc);
-    let mut stepped = world(alloc, limits)?;
-    for (party, step) in script {
-        by_step.push(stepped.step(party, step)?)?;
+    rows: &[(u32, Do, StepReply)],
+    held: &[u64],
+) -> Result<(), Fail> {
+    let mut stepped = World::<EmptyStaticAtomSet>::new(alloc, limits)?;
+    let mut script = Vec::new(alloc);
+    let mut want = Vec::new(alloc);
+    for (party, step, reply) in rows {
+        let given = stepped.step(*party, step_of(alloc, *step)?)?;
+        assert_eq!(rt; given, *reply);
+        script.push((*party, step_of(alloc, *step)?))?;
+        want.push(*reply)?;
     }
-    assert!(rt; by_run == by_step);
-    let mut counts = Vec::new(alloc);
-    for entry in 0..4 {
-        assert!(rt; ran.count(entry) == stepped.count(entry));
-        counts.push(ran.count(entry))?;
+    let mut ran = World::<EmptyStaticAtomSet>::new(alloc, limits)?;
+    let mut given = Vec::new(alloc);
+    if ran.run(script.as_slice(), &mut given).is_err() {
+        if let Some(rest) = script.get(given.len()..) {
+            ran.run(rest, &mut given)?;
+        }
     }
-    Ok((by_run, counts))
+    assert!(rt; given == want);
+    for (k, count) in held.iter().enumerate() {
+        let entry = k as u64 + 1;
+        assert_eq!(rt; stepped.count(entry), Some(*count));
+        assert_eq!(rt; ran.count(entry), Some(*count));
+    }
+    assert!(rt; ran.count(0).is_none() && ran.count(held.len() as u64 + 1).is_none());
+    Ok(())
 }
 
 #[test]
 fn two_parties_share_an_entry(rt: HostRuntime) -> Result<(), Fail> {
-    let alloc = rt.alloc();
-    let script = vec![in alloc;
-        (1, intern(alloc, "interned")?),
-        (2, intern(alloc, "interned")?),
-        (1, Step::Link(true)),
-        (1, Step::Leave),
-        (2, intern(alloc, "interned")?),
-        (2, Step::Link(true)),
-        (2, Step::Add(1)),
-        (2, Step::Leave),
-    ]?;
     let ticket = ticket_of("interned", 1);
-    let (given, counts) = replies(&rt, alloc, Limits::greatest(), script)?;
-    let want = [
-        Taken,
-        No,
-        StepReply::Linked { entry: 1, ticket },
-        Left,
-        Taken,
-        No,
-        StepReply::Added { ticket, holders: 2 },
-        Left,
+    let rows = [
+        (1, Do::Intern("interned"), Taken),
+        (2, Do::Intern("interned"), No),
+        (1, Do::Link(true), Linked { entry: 1, ticket }),
+        (1, Do::Leave, Left),
+        (2, Do::Intern("interned"), Taken),
+        (2, Do::Link(true), No),
+        (2, Do::Add(1), Added { ticket, holders: 2 }),
+        (2, Do::Leave, Left),
     ];
-    assert_eq!(rt; given.as_slice(), want.as_slice());
-    assert_eq!(rt; counts.as_slice(), [None, Some(2), None, None].as_slice());
-    Ok(())
+    check(&rt, rt.alloc(), Limits::greatest(), &rows, &[2])
 }
 
 #[test]
 fn a_dying_entry_is_linked_anew(rt: HostRuntime) -> Result<(), Fail> {
-    let alloc = rt.alloc();
-    let script = vec![in alloc;
-        (1, intern(alloc, "tokenised")?),
-        (1, Step::Link(true)),
-        (1, Step::Leave),
-        (2, intern(alloc, "tokenised")?),
-        (1, Step::Give(1)),
-        (2, Step::Add(1)),
-        (2, Step::Link(true)),
-        (2, Step::Unlink(1)),
-        (2, Step::Leave),
-        (2, Step::Free(1)),
-        (2, Step::Free(1)),
-    ]?;
-    let (given, counts) = replies(&rt, alloc, Limits::greatest(), script)?;
-    let want = [
-        Taken,
-        StepReply::Linked {
-            entry: 1,
-            ticket: ticket_of("tokenised", 1),
-        },
-        Left,
-        Taken,
-        StepReply::Given { left: 0 },
-        Dying,
-        StepReply::Linked {
-            entry: 2,
-            ticket: ticket_of("tokenised", 2),
-        },
-        Unlinked,
-        Left,
-        Freed,
-        No,
+    let first = ticket_of("tokenised", 1);
+    let second = ticket_of("tokenised", 2);
+    let rows = [
+        (1, Do::Intern("tokenised"), Taken),
+        (
+            1,
+            Do::Link(true),
+            Linked {
+                entry: 1,
+                ticket: first,
+            },
+        ),
+        (1, Do::Leave, Left),
+        (2, Do::Intern("tokenised"), Taken),
+        (1, Do::Give(1), Given { left: 0 }),
+        (2, Do::Add(1), Dying),
+        (
+            2,
+            Do::Link(true),
+            Linked {
+                entry: 2,
+                ticket: second,
+            },
+        ),
+        (2, Do::Unlink(1), Unlinked),
+        (2, Do::Leave, Left),
+        (2, Do::Free(1), Freed),
+        (2, Do::Free(1), No),
     ];
-    assert_eq!(rt; given.as_slice(), want.as_slice());
-    assert_eq!(rt;
-        counts.as_slice(),
-        [None, Some(0), Some(1), None].as_slice()
-    );
-    Ok(())
+    check(&rt, rt.alloc(), Limits::greatest(), &rows, &[0, 1])
 }
 
 #[test]
 fn limits_of_one(rt: HostRuntime) -> Result<(), Fail> {
-    let alloc = rt.alloc();
-    let script = vec![in alloc;
-        (1, intern(alloc, "tokenised")?),
-        (1, Step::Link(true)),
-        (1, Step::Leave),
-        (1, Step::Clone(1)),
-        (2, intern(alloc, "tokenised")?),
-        (2, Step::Leave),
-        (2, Step::Add(1)),
-        (2, Step::Leave),
-        (1, Step::Give(1)),
-        (2, intern(alloc, "tokenised")?),
-        (2, Step::Add(1)),
-        (2, Step::Link(true)),
-        (2, Step::Leave),
-        (2, Step::Unlink(1)),
-        (2, Step::Leave),
-        (2, Step::Free(1)),
-    ]?;
     let ticket = ticket_of("tokenised", 1);
-    let Some(limits) = Limits::new(1, 1) else {
-        assert!(rt; false);
-        return Ok(());
-    };
-    let (given, counts) = replies(&rt, alloc, limits, script)?;
-    let want = [
-        Taken,
-        StepReply::Linked { entry: 1, ticket },
-        Left,
-        Full,
-        Taken,
-        No,
-        Full,
-        Left,
-        StepReply::Given { left: 0 },
-        Taken,
-        Dying,
-        Spent,
-        No,
-        Unlinked,
-        Left,
-        Freed,
+    let rows = [
+        (1, Do::Intern("tokenised"), Taken),
+        (1, Do::Link(true), Linked { entry: 1, ticket }),
+        (1, Do::Leave, Left),
+        (1, Do::Clone(1), Full),
+        (2, Do::Intern("tokenised"), Taken),
+        (2, Do::Leave, No),
+        (2, Do::Add(1), Full),
+        (2, Do::Leave, Left),
+        (1, Do::Give(1), Given { left: 0 }),
+        (2, Do::Intern("tokenised"), Taken),
+        (2, Do::Add(1), Dying),
+        (2, Do::Link(true), Spent),
+        (2, Do::Leave, No),
+        (2, Do::Unlink(1), Unlinked),
+        (2, Do::Leave, Left),
+        (2, Do::Free(1), Freed),
     ];
-    assert_eq!(rt; given.as_slice(), want.as_slice());
-    assert_eq!(rt; counts.as_slice(), [None, Some(0), None, None].as_slice());
-    Ok(())
+    let limits = Limits::new(1, 1);
+    assert!(rt; limits.is_some());
+    check(
+        &rt,
+        rt.alloc(),
+        limits.unwrap_or(Limits::greatest()),
+        &rows,
+        &[0],
+    )
 }
 
 #[test]
 fn a_link_without_room(rt: HostRuntime) -> Result<(), Fail> {
-    let alloc = rt.alloc();
-    let script = vec![in alloc;
-        (1, intern(alloc, "interned")?),
-        (1, Step::Link(false)),
-        (1, Step::Leave),
-        (1, Step::Link(true)),
-        (1, intern(alloc, "short")?),
-    ]?;
-    let (given, counts) = replies(&rt, alloc, Limits::greatest(), script)?;
-    let want = [Taken, Memory, Left, No, No];
-    assert_eq!(rt; given.as_slice(), want.as_slice());
-    assert_eq!(rt; counts.as_slice(), [None, None, None, None].as_slice());
-    Ok(())
+    let rows = [
+        (1, Do::Intern("interned"), Taken),
+        (1, Do::Link(false), Memory),
+        (1, Do::Leave, Left),
+        (1, Do::Link(true), No),
+        (1, Do::Intern("short"), No),
+    ];
+    check(&rt, rt.alloc(), Limits::greatest(), &rows, &[])
 }
 
 #[test]
 fn a_holder_outside_of_a_pass(rt: HostRuntime) -> Result<(), Fail> {
-    let alloc = rt.alloc();
-    let script = vec![in alloc;
-        (1, intern(alloc, "interned")?),
-        (1, Step::Link(true)),
-        (2, Step::Clone(1)),
-        (1, Step::Leave),
-        (2, Step::Give(1)),
-    ]?;
     let ticket = ticket_of("interned", 1);
-    let (given, counts) = replies(&rt, alloc, Limits::greatest(), script)?;
-    let want = [
-        Taken,
-        StepReply::Linked { entry: 1, ticket },
-        StepReply::Cloned { holders: 2 },
-        Left,
-        StepReply::Given { left: 1 },
+    let rows = [
+        (1, Do::Intern("interned"), Taken),
+        (1, Do::Link(true), Linked { entry: 1, ticket }),
+        (2, Do::Clone(1), Cloned { holders: 2 }),
+        (1, Do::Leave, Left),
+        (2, Do::Give(1), Given { left: 1 }),
     ];
-    assert_eq!(rt; given.as_slice(), want.as_slice());
-    assert_eq!(rt; counts.as_slice(), [None, Some(1), None, None].as_slice());
-    Ok(())
+    check(&rt, rt.alloc(), Limits::greatest(), &rows, &[1])
 }
 
 #[test]
 fn an_undecided_pass_stays(rt: HostRuntime) -> Result<(), Fail> {
-    let alloc = rt.alloc();
-    let script = vec![in alloc;
-        (1, intern(alloc, "interned")?),
-        (1, Step::Link(true)),
-        (1, Step::Leave),
-        (1, intern(alloc, "interned")?),
-        (2, intern(alloc, "interned")?),
-        (1, Step::Unlink(1)),
-        (1, Step::Leave),
-        (1, Step::Add(1)),
-        (1, Step::Leave),
-    ]?;
     let ticket = ticket_of("interned", 1);
-    let (given, counts) = replies(&rt, alloc, Limits::greatest(), script)?;
-    let want = [
-        Taken,
-        StepReply::Linked { entry: 1, ticket },
-        Left,
-        Taken,
-        No,
-        Kept,
-        No,
-        StepReply::Added { ticket, holders: 2 },
-        Left,
+    let rows = [
+        (1, Do::Intern("interned"), Taken),
+        (1, Do::Link(true), Linked { entry: 1, ticket }),
+        (1, Do::Leave, Left),
+        (1, Do::Intern("interned"), Taken),
+        (2, Do::Intern("interned"), No),
+        (1, Do::Unlink(1), Kept),
+        (1, Do::Leave, No),
+        (1, Do::Add(1), Added { ticket, holders: 2 }),
+        (1, Do::Leave, Left),
     ];
-    assert_eq!(rt; given.as_slice(), want.as_slice());
-    assert_eq!(rt; counts.as_slice(), [None, Some(2), None, None].as_slice());
-    Ok(())
+    check(&rt, rt.alloc(), Limits::greatest(), &rows, &[2])
 }
 
 #[test]
 fn sweeps_of_the_last_buckets(rt: HostRuntime) -> Result<(), Fail> {
-    let alloc = rt.alloc();
-    let script = vec![in alloc;
-        (1, Step::TakeSweep(4095)),
-        (1, Step::Leave),
-        (1, Step::TakeSweep(4096)),
-        (1, Step::Give(1)),
-    ]?;
-    let (given, _counts) = replies(&rt, alloc, Limits::greatest(), script)?;
-    let want = [Taken, Left, No, No];
-    assert_eq!(rt; given.as_slice(), want.as_slice());
-    Ok(())
-}
-
-// A run that was refused memory goes on from the replies appended, and the replies are those of one run.
-#[test]
-fn a_refused_run_goes_on(rt: HostRuntime) -> Result<(), Fail> {
-    let alloc = rt.alloc();
-    let script = vec![in alloc;
-        (1, intern(alloc, "interned")?),
-        (1, Step::Link(true)),
-        (1, Step::Leave),
-        (2, intern(alloc, "interned")?),
-        (2, Step::Add(1)),
-        (2, Step::Leave),
-    ]?;
-    let ticket = ticket_of("interned", 1);
-    let mut ran = world(alloc, Limits::greatest())?;
-    let mut given = Vec::new(alloc);
-    if ran.run(script.as_slice(), &mut given).is_err() {
-        let made = given.len();
-        let Some(rest) = script.get(made..) else {
-            assert!(rt; false);
-            return Ok(());
-        };
-        ran.run(rest, &mut given)?;
-    }
-    let want = [
-        Taken,
-        StepReply::Linked { entry: 1, ticket },
-        Left,
-        Taken,
-        StepReply::Added { ticket, holders: 2 },
-        Left,
+    let rows = [
+        (1, Do::Sweep(4095), Taken),
+        (1, Do::Leave, Left),
+        (1, Do::Sweep(4096), No),
+        (1, Do::Give(1), No),
     ];
-    assert_eq!(rt; given.as_slice(), want.as_slice());
-    Ok(())
+    check(&rt, rt.alloc(), Limits::greatest(), &rows, &[])
 }

@@ -1,8 +1,9 @@
-use Rattle.std.proofs.Common.{◌≡◌, ◌∙◌, ◌+◌, ap, refl}
+use Rattle.std.proofs.Common.{sym, subst, length, ◌<◌, ◌≡◌, ◌∙◌, ◌+◌, ap, refl}
 use Rattle.std.specs.Prelude.{slice_get, slice_set}
 use Rattle.std.specs.Vec.{with_item}
-use Rattle.string_cache_core.specs.World.{Entry, World}
+use Rattle.string_cache_core.specs.World.{is_linked, Entry, World}
 use Rattle.string_cache_core.proofs.StepLists.{get_or_at}
+use Rattle.string_cache_core.proofs.StepListed.{kept_change}
 use Rattle.string_cache_core.proofs.StepBag.{raised_world}
 use Rattle.string_cache_core.proofs.steps.state.State.add_share.Goals as goal
 
@@ -20,3 +21,8 @@ returns c = λ entry there.
       ap (λ (e : Entry). e.count) now,
       raised_world _ c.args.self.now c.self.view_is refl c.requires.sound k entry there (c.requires.fits entry there).0 es.items is,
     )
+
+pub invariant_of-self : goal.invariant_of-self
+invariant_of-self c =
+    kept_change c.self.inside.entries.items c.self.inside.lasts.items c.self.inside.linked.items c.self.invariant c.args.k c.index_mut-entry.result.now c.add_holder.new.self _
+    (subst (λ (v : World). c.args.k < length v.entries) (sym c.self.view_is) c.requires.entry) c.index_mut-entry.ensures.value (ap (λ (e : Entry). e.bucket) c.add_holder.ensures) (λ l. sym (ap (λ (e : Entry). is_linked e.place) c.add_holder.ensures) ∙ l)

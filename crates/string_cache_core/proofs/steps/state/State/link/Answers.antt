@@ -1,6 +1,8 @@
-use Rattle.std.proofs.Common.{◌∙◌, ap, sym, arith, ℕ, ◌+◌}
+use Rattle.std.proofs.Common.{◌≡◌, Some, ◌∙◌, ap, sym, arith, ℕ, ◌+◌}
 use Rattle.std.specs.Prelude.{is_some}
 use Rattle.string_cache_core.specs.World.{Pass}
+use Rattle.string_cache_core.specs.Steps.{pass_of}
+use Rattle.string_cache_core.proofs.StepApart.{placed_in}
 use Rattle.string_cache_core.proofs.StepPlaces.{within}
 use Rattle.string_cache_core.proofs.StepLists.{at_one}
 use Rattle.string_cache_core.specs.Tables.{empty_tables}
@@ -8,24 +10,24 @@ use Rattle.string_cache_core.proofs.StepDoes.{link_no, link_spent, link_memory, 
 use Rattle.string_cache_core.proofs.steps.state.State.link.Goals as goal
 
 pub returns-then-not-may_link-clause-ok : goal.returns-then-not-may_link-clause-ok
-returns-then-not-may_link-clause-ok c = λ tables.
+returns-then-not-may_link-clause-ok g c = λ tables.
     let p = c.in-Some.ensures in
     link_no tables _ _ _ _ p (sym (c.may_link.ensures p.pass p.there) ∙ c.if-not-may_link.true)
 
 pub last_at-last-requires : goal.last_at-last-requires
-last_at-last-requires c = within _ _ _ c.in-Some.ensures.there
+last_at-last-requires g c = within _ _ _ c.in-Some.ensures.there
 
 pub decide-requires : goal.decide-requires
-decide-requires c = within _ _ _ c.in-Some.ensures.there
+decide-requires g c = within _ _ _ c.in-Some.ensures.there
 
 pub decide-requires-then-not-room : goal.decide-requires-then-not-room
-decide-requires-then-not-room c = within _ _ _ c.in-Some.ensures.there
+decide-requires-then-not-room g c = within _ _ _ c.in-Some.ensures.there
 
 pub link_entry-requires-clause-pass : goal.link_entry-requires-clause-pass
-link_entry-requires-clause-pass c = within _ _ _ c.in-Some.ensures.there
+link_entry-requires-clause-pass g c = within _ _ _ c.in-Some.ensures.there
 
 pub link_entry-requires-clause-wanted : goal.link_entry-requires-clause-wanted
-link_entry-requires-clause-wanted c = λ pass there.
+link_entry-requires-clause-wanted g c = λ pass there.
     let p = c.in-Some.ensures in
     let t = text_to_link empty_tables _ _ _ c.args.room p (sym (c.may_link.ensures p.pass p.there) ∙ c.if-not-may_link.false) in (
       ap (λ (q : Pass). is_some q.wanted) (at_one c.args.self.now.passes c.in-Some.at pass p.pass there p.there) ∙ ap is_some t.1,
@@ -33,21 +35,21 @@ link_entry-requires-clause-wanted c = λ pass there.
     )
 
 pub returns-then-last-serials-clause-ok : goal.returns-then-last-serials-clause-ok
-returns-then-last-serials-clause-ok c = λ tables.
+returns-then-last-serials-clause-ok g c = λ tables.
     let p = c.in-Some.ensures in
     link_spent tables _ _ _ _ p (sym (c.may_link.ensures p.pass p.there) ∙ c.if-not-may_link.false)
     (let last = c.last_at-last.ensures p.pass p.there in let limit = c.serials.ensures.value in omega (arith, last, limit, c.if-last-serials.true))
     _ (c.decide.ensures p.pass p.there)
 
 pub returns-then-not-room-clause-ok : goal.returns-then-not-room-clause-ok
-returns-then-not-room-clause-ok c = λ tables.
+returns-then-not-room-clause-ok g c = λ tables.
     let p = c.in-Some.ensures in
     link_memory tables _ _ _ _ p (sym (c.may_link.ensures p.pass p.there) ∙ c.if-not-may_link.false)
     (let last = c.last_at-last.ensures p.pass p.there in let limit = c.serials.ensures.value in omega (arith, last, limit, c.if-last-serials.false))
     c.if-not-room.true _ (c.decide-then-not-room.ensures p.pass p.there)
 
 pub returns-clause-ok : goal.returns-clause-ok
-returns-clause-ok c = λ tables.
+returns-clause-ok g c = λ tables.
     let p = c.in-Some.ensures in
     let may = sym (c.may_link.ensures p.pass p.there) ∙ c.if-not-may_link.false in
     let t = text_to_link tables _ _ _ c.args.room p may in
@@ -55,3 +57,16 @@ returns-clause-ok c = λ tables.
     link_linked tables _ _ _ _ p may
     (let last = c.last_at-last.ensures p.pass p.there in let limit = c.serials.ensures.value in omega (arith, last, limit, c.if-last-serials.false))
     c.if-not-room.false (c.last_at-last.result + 1) _ _ _ (ap (λ (n : ℕ). n + 1) (c.last_at-last.ensures p.pass p.there)) linked.0 linked.1 linked.2
+
+pub may_link-requires-clause-pass : goal.may_link-requires-clause-pass
+may_link-requires-clause-pass g c = within _ _ _ c.in-Some.ensures.there
+
+pub may_link-requires-clause-placed : goal.may_link-requires-clause-placed
+may_link-requires-clause-placed g c = λ pass text k entry there wanted at is.
+    let p = c.in-Some.ensures in
+    let same : pass ≡ p.pass = at_one c.args.self.now.passes c.in-Some.at pass p.pass there p.there in
+    let found : pass_of c.args.self.now c.args.party ≡ Some pass = p.found ∙ ap (λ (q : Pass). Some q) (sym same) in
+    placed_in g.S.StaticAtomSet.tables c.args.self.now c.requires c.args.party pass text found wanted k entry at is
+
+pub link_entry-requires-clause-sound : goal.link_entry-requires-clause-sound
+link_entry-requires-clause-sound g c = c.requires.sound.table

@@ -1,4 +1,4 @@
-use Rattle.std.proofs.Common.{◌≡◌, ◌∙◌, ℕ, ◌+◌, ◌<◌, ap, refl, sym, arith, List, [], ◌∷◌, ◌++◌, length, Option, Some}
+use Rattle.std.proofs.Common.{subst, ◌≡◌, ◌∙◌, ℕ, ◌+◌, ◌<◌, ap, refl, sym, arith, List, [], ◌∷◌, ◌++◌, length, Option, Some}
 use Rattle.std.specs.Prelude.{slice_get, slice_set}
 use Rattle.std.specs.String.{string_bytes}
 use Rattle.string_cache_core.specs.declared.steps.entry.Place.TheVariants as place
@@ -6,6 +6,8 @@ use Rattle.string_cache_core.specs.Word.{ticket_of}
 use Rattle.string_cache_core.specs.World.{Entry, Pass, World}
 use Rattle.string_cache_core.specs.Steps.{looks_at, decides}
 use Rattle.string_cache_core.proofs.StepLists.{get_or_at}
+use Rattle.string_cache_core.specs.Listed.{IsKept}
+use Rattle.string_cache_core.proofs.StepListed.{kept_more, kept_link}
 use Rattle.string_cache_core.proofs.StepBag.{pushed_world}
 use Rattle.string_cache_core.proofs.steps.state.State.link_entry.Goals as goal
 
@@ -32,9 +34,23 @@ returns-clause-ok c = λ pass text there wanted.
     ap (λ (b : ℕ). slice_set c.self.inside.lasts.items b serial) bucket ∙ ap (λ (v : World). slice_set v.lasts pass.bucket serial) c.self.view_is in
     let passes : slice_set c.self.inside.passes.items at c.take_wanted-text.new.self ≡ slice_set now.passes at (decides (looks_at pass n)) =
     ap (λ (p : Pass). slice_set c.self.inside.passes.items at p) took ∙ ap (λ (v : World). slice_set v.passes at (decides (looks_at pass n))) c.self.view_is in
-    let many : length now.lasts ≡ 4096 = ap (λ (v : World). length v.lasts) (sym c.self.view_is) ∙ c.self.invariant in
+    let many : length now.lasts ≡ 4096 = ap (λ (v : World). length v.lasts) (sym c.self.view_is) ∙ c.self.invariant.buckets in
     let inside : pass.bucket < length now.lasts = (let b = c.pass.invariant in omega (arith, b, bucket, many)) in (
       ap (λ (m : ℕ). m + 1) number,
       ticket,
       pushed_world _ now c.self.view_is refl c.requires.sound y inside serial (c.requires.wanted pass there).1 refl refl _ _ lasts _ _ passes _ entries,
     )
+
+pub invariant_of-self-in_err-look_at : goal.invariant_of-self-in_err-look_at
+invariant_of-self-in_err-look_at c =
+    let more = kept_more c.self.inside.entries.items c.self.inside.lasts.items c.self.inside.linked.items c.self.invariant c.pass.inside.bucket c.index_mut.result.now c.add.new.self _ (c.len.result + 1)
+    c.pass.invariant c.index_mut.ensures.value c.in_ok-add.ensures.ok in
+    subst (λ (es : List Entry). IsKept es c.self.inside.lasts.items (slice_set c.self.inside.linked.items c.pass.inside.bucket c.add.new.self)) (sym c.reserve.ensures.items) more
+
+pub invariant_of-self-2 : goal.invariant_of-self-2
+invariant_of-self-2 c =
+    let y : Entry = record { text = string_bytes c.take_wanted-text.result; bucket = c.pass.inside.bucket; ticket = c.ticket_word-ticket.result; count = 1; place = place.Linked } in
+    kept_link c.self.inside.entries.items c.self.inside.lasts.items c.self.inside.linked.items c.self.invariant y c.index_mut.result.now c.add.new.self _ (c.len.result + 1) c.args.serial _
+    c.pass.invariant c.index_mut.ensures.value c.in_ok-add.ensures.ok
+    (ap (λ (m : ℕ). m + 1) (c.len.ensures ∙ c.reserve.new.self.ok.0 ∙ ap length c.reserve.ensures.items))
+    (c.push_reserved.ensures.items ∙ ap (λ (es : List Entry). es ++ y ∷ []) c.reserve.ensures.items)

@@ -1,0 +1,20 @@
+-- What an atom holds.
+use Rattle.std.specs.Prelude.{ℕ, ◌<◌, length}
+use Rattle.string_cache_core.specs.Tables.{Tables, text_at, IsStaticIndex}
+use Rattle.string_cache_core.specs.Word.{inline_word, static_word, IsInlineText}
+use Rattle.string_cache.specs.AtomValue.{AtomValue}
+use Rattle.string_cache.specs.Chain.{IsRight}
+use Rattle.string_cache.specs.declared.atom.Form.{Form}
+use Rattle.string_cache.specs.declared.atom.Form.TheVariants.{Inline, Static, Dynamic}
+
+-- the text and the word
+abbrev pub value_of_form : Tables → Form → AtomValue
+value_of_form t (Inline text) = record { text = text; word = inline_word text }
+value_of_form t (Static index) = record { text = text_at t index; word = static_word index }
+value_of_form t (Dynamic share) = record { text = share.text; word = share.ticket }
+
+-- the text is one of this form
+abbrev pub IsOwnForm : Tables → ℕ → Form → Type 0
+IsOwnForm t buckets (Inline text) = IsInlineText text
+IsOwnForm t buckets (Static index) = IsStaticIndex t index × (index < length t.atoms)
+IsOwnForm t buckets (Dynamic share) = IsRight t buckets share

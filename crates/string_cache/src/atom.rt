@@ -1,0 +1,190 @@
+//! An atom: a text that is inline, static, or an entry of a set.
+
+ghost use Rattle.std.specs.Prelude.{◌≡◌, ◌↔◌, ◌+◌, ◌*◌, ◌<◌, length, IsTrue, IsSome, IfSome, IfOk, IfErr, OnErr, nat_eq};
+ghost use Rattle.std.specs.List.{Contains};
+ghost use Rattle.std.specs.Cmp;
+ghost use Rattle.std.specs.Cmp.{on_equiv};
+ghost use Rattle.std.specs.Cmp.{on_per};
+ghost use Rattle.std.specs.Cmp.Lexicographic.{pointwise, nat_list_eq_equiv};
+ghost use Rattle.string_cache_core.specs.Faults.{IsInternFault};
+ghost use Rattle.string_cache_core.specs.Tables.{IsPerfectTable, IsStaticIndex, form_of_text, text_at};
+ghost use Rattle.string_cache_core.specs.Word.{IsInlineText, inline_word, static_word};
+ghost use Rattle.string_cache.specs.AtomForm.{IsOwnForm, value_of_form};
+ghost use Rattle.string_cache.specs.AtomValue.{IsWordOf, is_inline_form, is_static_form, is_dynamic_form};
+ghost use Rattle.string_cache.specs.Packed.{IsPackable};
+
+use crate::dynamic_set::{BUCKETS, Set, Share};
+use std::marker::{Model, PhantomData};
+use std::sync::Wait;
+use string_cache_core::Fault;
+use string_cache_core::static_sets::{
+    EmptyStaticAtomSet, StaticAtomSet, TextForm, form_of_text, static_text,
+};
+use string_cache_core::word::{InlineText, pack_inline_word, static_word, unpack_inline};
+
+/// How an atom holds its text.
+#[derive(Drop)]
+enum Form {
+    Inline(InlineText),
+    /// The text at this index of the static tables.
+    Static(u32),
+    Dynamic(Share),
+}
+
+/// A text, in the form that it has under the tables of its static type. A dynamic one is shared with the set `'s`.
+#[derive(Drop)]
+pub struct Atom<'s, Static: StaticAtomSet> {
+    form: Form,
+    set: PhantomData<&'s Set<Static>>,
+}
+
+/// An atom that is inline or dynamic.
+pub type DefaultAtom<'s> = Atom<'s, EmptyStaticAtomSet>;
+
+impl<'s, Static: StaticAtomSet> Model for Atom<'s, Static> {
+    ghost use Rattle.string_cache.specs.AtomValue.{AtomValue};
+
+    ghost Value = { AtomValue };
+
+    ghost use Rattle.string_cache.specs.AtomForm.{value_of_form, IsOwnForm};
+    ghost use Rattle.string_cache.specs.declared.dynamic_set.bucket.TheConstants.{BUCKETS};
+
+    ghost view = { λ a. value_of_form Static.tables a.form };
+
+    ghost invariant = { λ a. IsOwnForm Static.tables BUCKETS a.form };
+}
+
+impl<'s, Static: StaticAtomSet> Atom<'s, Static> {
+    fn of_form(form: Form) -> Self
+        requires { IsOwnForm Static.tables BUCKETS form }
+        ensures { result ≡ value_of_form Static.tables form }
+    {
+        Atom {
+            form,
+            set: PhantomData,
+        }
+    }
+
+    /// The atom of a text. A dynamic text is looked for in the set, and linked there if it is new. Inline and static texts
+    /// are never refused, and take no lock and no memory.
+    ///
+    /// `Memory` comes where a new text finds no room, `TicketsSpent` where its bucket has given its last ticket, and
+    /// `FullCount` where an entry has as many shares as an `Arc` may have.
+    pub fn from_str_in<R: Wait>(set: &'s Set<Static>, rt: &R, text: &str) -> Result<Self, Fault>
+        ensures text { IfOk result (λ atom. atom.text ≡ text.now) }
+        ensures refused { IfErr result IsInternFault }
+        ensures dynamic { OnErr result (IsTrue (is_dynamic_form (form_of_text Static.tables text.now))) }
+    {
+        match form_of_text::<Static>(text) {
+            TextForm::Inline(word) => Ok(Self::of_form(Form::Inline(unpack_inline(word).unwrap()))),
+            TextForm::Static(index) => Ok(Self::of_form(Form::Static(index))),
+            TextForm::Dynamic(hash) => {
+                let share = set.intern(rt, text, hash)?;
+                Ok(Self::of_form(Form::Dynamic(share)))
+            }
+        }
+    }
+
+    /// The atom of a static text. `None` where the text isn't static: where it has at most 7 bytes, or doesn't stand at its
+    /// place in the tables. Perfect tables have each of their longer texts at its place.
+    pub fn try_static(text: &str) -> Option<Self>
+        ensures is_static { IsSome result ↔ IsTrue (is_static_form (form_of_text Static.tables text.now)) }
+        ensures text { IfSome result (λ atom. atom.text ≡ text.now) }
+        ensures listed { IsPerfectTable Static.tables → Contains Static.tables.atoms text.now → 7 < length text.now → IsSome result }
+    {
+        match form_of_text::<Static>(text) {
+            TextForm::Static(index) => Some(Self::of_form(Form::Static(index))),
+            TextForm::Inline(_) | TextForm::Dynamic(_) => None,
+        }
+    }
+
+    /// The atom of the static text at an index. `None` where the tables have none there, or one that isn't at its place or
+    /// has at most 7 bytes.
+    pub fn pack_static(n: u32) -> Option<Self>
+        ensures is_static { IsSome result ↔ IsStaticIndex Static.tables n }
+        ensures atom { IfSome result (λ atom. atom ≡ record { text = text_at Static.tables n; word = static_word n }) }
+    {
+        static_text::<Static>(n)?;
+        Some(Self::of_form(Form::Static(n)))
+    }
+
+    /// The atom of the inline word `n + 16 * len + 1`. `None` where the low byte of `n` isn't zero or that isn't the word of
+    /// a text of `len` bytes.
+    pub fn pack_inline(n: u64, len: u8) -> Option<Self>
+        ensures packed { IsSome result ↔ IsPackable n len }
+        ensures word { IfSome result (λ atom. atom.word ≡ n + 16 * len + 1) }
+        ensures text { IfSome result (λ atom. IsInlineText atom.text × (inline_word atom.text ≡ atom.word)) }
+    {
+        if n % 256 != 0 || len > 7 {
+            return None;
+        }
+        let text = unpack_inline(n + 16 * u64::from(len) + 1)?;
+        Some(Self::of_form(Form::Inline(text)))
+    }
+
+    /// The text.
+    pub fn as_str(&self) -> &str
+        ensures { result.now ≡ self.now.text }
+    {
+        match &self.form {
+            Form::Inline(text) => text.as_str(),
+            Form::Static(index) => Static::get().atoms[*index as usize],
+            Form::Dynamic(share) => share.text(),
+        }
+    }
+
+    /// The bytes of the text.
+    pub fn as_bytes(&self) -> &[u8]
+        ensures { result.now ≡ self.now.text }
+    {
+        self.as_str().as_bytes()
+    }
+
+    /// The word: the inline word of the text, the static word of its place, or the ticket of its entry.
+    pub fn unsafe_data(&self) -> u64
+        ensures word { result ≡ self.now.word }
+        ensures of_text { IsWordOf Static.tables BUCKETS self.now.text result }
+    {
+        match &self.form {
+            Form::Inline(text) => pack_inline_word(text.as_str()).unwrap(),
+            Form::Static(index) => static_word(*index),
+            Form::Dynamic(share) => share.ticket(),
+        }
+    }
+
+    /// Whether the text has at most 7 bytes.
+    pub fn is_inline(&self) -> bool
+        ensures { result ≡ is_inline_form (form_of_text Static.tables self.now.text) }
+    {
+        matches!(&self.form, Form::Inline(_))
+    }
+
+    /// Whether the text is longer and stands at its place in the static tables.
+    pub fn is_static(&self) -> bool
+        ensures { result ≡ is_static_form (form_of_text Static.tables self.now.text) }
+    {
+        matches!(&self.form, Form::Static(_))
+    }
+
+    /// Whether the text is an entry of the set.
+    pub fn is_dynamic(&self) -> bool
+        ensures { result ≡ is_dynamic_form (form_of_text Static.tables self.now.text) }
+    {
+        matches!(&self.form, Form::Dynamic(_))
+    }
+}
+
+/// Two atoms are equal where their texts are, whichever sets they borrow.
+impl<'s, Static: StaticAtomSet> PartialEq for Atom<'s, Static> {
+    ghost eq = { λ a b. pointwise nat_eq a.text b.text };
+
+    ghost laws = { on_per (λ a. a.text) (Cmp.partial_equiv_from_equiv nat_list_eq_equiv) };
+
+    fn eq(&self, other: &Self) -> bool {
+        self.as_str() == other.as_str()
+    }
+}
+
+impl<'s, Static: StaticAtomSet> Eq for Atom<'s, Static> {
+    ghost laws = { on_equiv (λ a. a.text) nat_list_eq_equiv };
+}
