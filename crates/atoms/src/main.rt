@@ -41,7 +41,7 @@ fn main(rt: HostRuntime) -> ExitCode {
     let mut output = Io::new(rt.stdout());
     let mut faults = Io::new(rt.stderr());
     let status = match arguments(&rt) {
-        Ok(Some(args)) => program(rt.alloc(), &args, &mut input, &mut output, &mut faults),
+        Ok(Some(args)) => program(&rt, rt.alloc(), &args, &mut input, &mut output, &mut faults),
         Ok(None) => usage(&mut faults),
         Err(fault) => refuse(&mut faults, fault),
     };

@@ -1,7 +1,7 @@
 // All that the program does, over any reader and writers.
 #![tactic(auto)]
 
-ghost use Rattle.std.specs.Prelude.{◌≡◌, ◌≤◌, false, IfSome};
+ghost use Rattle.std.specs.Prelude.{◌≡◌, ◌≤◌, false, IfSome, OnOk, OnErr};
 ghost use Rattle.std.specs.Io.KnownBytes.{Appends};
 ghost use Rattle.atoms.specs.Streams.{AppendsBeginning};
 ghost use Rattle.atoms.specs.Words.{word_lines};
@@ -9,10 +9,13 @@ ghost use Rattle.atoms.specs.Commands.{AreWords};
 
 use crate::faults::AppFault;
 use crate::streams::{Sink, Source, write_whole};
-use crate::words::words_alone;
+use crate::words::words;
 use std::alloc::Global;
 use std::fmt;
 use std::fmt::Write;
+use std::sync::Wait;
+use string_cache::EmptyStaticAtomSet;
+use string_cache::dynamic_set::Set;
 
 const USAGE: &str = "usage: atoms words | count N | replay\n";
 
@@ -68,9 +71,28 @@ pub fn usage<F: Sink>(faults: &mut F) -> u8
     2
 }
 
+/// `words` over a set of its own.
+fn words_in_new_set<R: Wait, S: Source, K: Sink>(
+    rt: &R,
+    alloc: Global,
+    input: &mut S,
+    output: &mut K,
+) -> Result<(), AppFault>
+    requires input { S.has_failed input.old ≡ false }
+    requires output { K.has_failed output.old ≡ false }
+    ensures lines { OnOk result (IfSome (S.remaining input.old) (λ bytes.
+        Appends (K.contents output.old) (K.contents output.new) (word_lines bytes))) }
+    ensures beginning { OnErr result (IfSome (S.remaining input.old) (λ bytes.
+        AppendsBeginning (K.contents output.old) (K.contents output.new) (word_lines bytes))) }
+{
+    let set = Set::<EmptyStaticAtomSet>::new(alloc)?;
+    words(&set, rt, input, output)
+}
+
 /// Runs the command that the arguments, without the program's name, ask for, and answers the exit status: 0, or 1 after
 /// a fault's line, or 2 after the usage line, where nothing was read or written.
-pub fn program<S: Source, K: Sink, F: Sink>(
+pub fn program<R: Wait, S: Source, K: Sink, F: Sink>(
+    rt: &R,
     alloc: Global,
     args: &[String],
     input: &mut S,
@@ -91,7 +113,7 @@ pub fn program<S: Source, K: Sink, F: Sink>(
         return usage(faults);
     };
     let outcome = match command {
-        Command::Words => words_alone(alloc, input, output),
+        Command::Words => words_in_new_set(rt, alloc, input, output),
     };
     match outcome {
         Ok(()) => 0,

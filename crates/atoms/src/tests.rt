@@ -1,14 +1,20 @@
 // What no contract says: printed texts and statuses, the worked examples, and each refusal and failure in turn.
 #![tactic(auto)]
 
+ghost use Rattle.std.specs.Prelude.{◌≡◌, false};
+
 use crate::faults::AppFault;
 use crate::memory::{Bytes, Page};
 use crate::program::{program, refuse};
 use crate::streams::Io;
-use crate::words::words_alone;
+use crate::words::{words, words_alone};
 use std::alloc::{AllocError, Global};
+use std::str;
+use std::sync::Wait;
 use std::test::Fail;
-use string_cache::Fault;
+use string_cache::dynamic_set::Set;
+use string_cache::word::ticket_word;
+use string_cache::{Atom, EmptyStaticAtomSet, Fault};
 
 /// The example of the original's documentation.
 const EXAMPLE: &[u8] =
@@ -36,87 +42,128 @@ Seen the word \"text\" 1 times
 Seen the word \"and\" 2 times
 ";
 
-/// What `words_alone` answers and writes of these bytes. Where memory was refused, it is called once more.
-fn words_of(alloc: Global, bytes: &[u8]) -> (Result<(), AppFault>, Page) {
+/// What words are interned in.
+#[derive(Clone, Copy, Debug)]
+enum Over {
+    Table,
+    Set,
+}
+
+const WAYS: [Over; 2] = [Over::Table, Over::Set];
+
+fn tell<R: Wait>(
+    over: Over,
+    rt: &R,
+    alloc: Global,
+    reader: &mut Bytes,
+    writer: &mut Page,
+) -> Result<(), AppFault>
+    requires reader { reader.old.failed ≡ false }
+    requires writer { writer.old.failed ≡ false }
+{
+    match over {
+        Over::Table => words_alone(alloc, reader, writer),
+        Over::Set => {
+            let set = Set::<EmptyStaticAtomSet>::new(alloc)?;
+            words(&set, rt, reader, writer)
+        }
+    }
+}
+
+/// What is answered and written of these bytes. Where memory was refused, the call is made once more.
+fn words_of<R: Wait>(
+    over: Over,
+    rt: &R,
+    alloc: Global,
+    bytes: &[u8],
+) -> (Result<(), AppFault>, Page) {
     let mut first = Page::wide();
-    let answer = words_alone(alloc, &mut Bytes::whole(bytes), &mut first);
+    let answer = tell(over, rt, alloc, &mut Bytes::whole(bytes), &mut first);
     if answer != Err(AppFault::Intern(Fault::Memory)) {
         return (answer, first);
     }
     let mut second = Page::wide();
-    let answer = words_alone(alloc, &mut Bytes::whole(bytes), &mut second);
+    let answer = tell(over, rt, alloc, &mut Bytes::whole(bytes), &mut second);
     (answer, second)
 }
 
 #[test]
 fn words_of_texts(rt: HostRuntime) {
-    for (bytes, lines) in [
-        (EXAMPLE, EXAMPLE_LINES),
-        (
-            b"\x61\xc2\xa0\x61".as_slice(),
-            b"Not seen the word \"a\" before\nSeen the word \"a\" 1 times\n".as_slice(),
-        ),
-        (b"".as_slice(), b"".as_slice()),
-        (b" \t\r\n\x0b\x0c".as_slice(), b"".as_slice()),
-        (
-            b"\x1c".as_slice(),
-            b"Not seen the word \"\x1c\" before\n".as_slice(),
-        ),
-    ] {
-        let (answer, written) = words_of(rt.alloc(), bytes);
-        assert_eq!(rt; answer, Ok(()), "of {bytes:?}");
-        assert!(rt; written.written() == lines, "of {bytes:?}");
-    }
-}
-
-#[test]
-fn not_a_text(rt: HostRuntime) {
-    let (answer, written) = words_of(rt.alloc(), b"\xff");
-    assert_eq!(rt; answer, Err(AppFault::Text));
-    assert!(rt; written.written().is_empty());
-}
-
-/// What is written of the example while memory is refused is a beginning of its lines.
-#[test]
-fn refused_memory(rt: HostRuntime) {
-    let mut writer = Page::new(1, 0);
-    match words_alone(rt.alloc(), &mut Bytes::new(EXAMPLE, 7, 0), &mut writer) {
-        Ok(()) => assert!(rt; writer.written() == EXAMPLE_LINES),
-        Err(fault) => {
-            assert_eq!(rt; fault, AppFault::Intern(Fault::Memory));
-            assert!(rt; EXAMPLE_LINES.starts_with(writer.written()));
+    for over in WAYS {
+        for (bytes, lines) in [
+            (EXAMPLE, EXAMPLE_LINES),
+            (
+                b"\x61\xc2\xa0\x61".as_slice(),
+                b"Not seen the word \"a\" before\nSeen the word \"a\" 1 times\n".as_slice(),
+            ),
+            (b"".as_slice(), b"".as_slice()),
+            (b" \t\r\n\x0b\x0c".as_slice(), b"".as_slice()),
+            (
+                b"\x1c".as_slice(),
+                b"Not seen the word \"\x1c\" before\n".as_slice(),
+            ),
+        ] {
+            let (answer, written) = words_of(over, &rt, rt.alloc(), bytes);
+            assert_eq!(rt; answer, Ok(()), "over {over:?} of {bytes:?}");
+            assert!(rt; written.written() == lines, "over {over:?} of {bytes:?}");
         }
     }
 }
 
 #[test]
-fn read_fails(rt: HostRuntime) {
-    let mut writer = Page::wide();
-    let answer = words_alone(rt.alloc(), &mut Bytes::new(EXAMPLE, 10, 2), &mut writer);
-    if answer != Err(AppFault::Intern(Fault::Memory)) {
-        assert_eq!(rt; answer, Err(AppFault::Read));
-    }
-    assert!(rt; writer.written().is_empty());
-}
-
-#[test]
-fn write_fails(rt: HostRuntime) {
-    let mut writer = Page::new(1, 41);
-    let answer = words_alone(rt.alloc(), &mut Bytes::whole(EXAMPLE), &mut writer);
-    if answer != Err(AppFault::Intern(Fault::Memory)) {
-        assert_eq!(rt; answer, Err(AppFault::Write));
-        assert!(rt; writer.written() == b"Not seen the word \"here\" before\nNot seen".as_slice());
+fn not_a_text(rt: HostRuntime) {
+    for over in WAYS {
+        let (answer, written) = words_of(over, &rt, rt.alloc(), b"\xff");
+        assert_eq!(rt; answer, Err(AppFault::Text), "over {over:?}");
+        assert!(rt; written.written().is_empty(), "over {over:?}");
     }
 }
 
+/// What is written of the example while memory is refused is a beginning of its lines.
 #[test]
-fn write_takes_none(rt: HostRuntime) {
-    let mut writer = Page::new(0, 0);
-    let answer = words_alone(rt.alloc(), &mut Bytes::whole(EXAMPLE), &mut writer);
-    if answer != Err(AppFault::Intern(Fault::Memory)) {
-        assert_eq!(rt; answer, Err(AppFault::Write));
+fn refused_memory(rt: HostRuntime) {
+    for over in WAYS {
+        let mut writer = Page::new(1, 0);
+        let mut reader = Bytes::new(EXAMPLE, 7, 0);
+        match tell(over, &rt, rt.alloc(), &mut reader, &mut writer) {
+            Ok(()) => assert!(rt; writer.written() == EXAMPLE_LINES, "over {over:?}"),
+            Err(fault) => {
+                assert_eq!(rt; fault, AppFault::Intern(Fault::Memory), "over {over:?}");
+                assert!(rt;
+                    EXAMPLE_LINES.starts_with(writer.written()),
+                    "over {over:?}"
+                );
+            }
+        }
     }
-    assert!(rt; writer.written().is_empty());
+}
+
+/// A reader or a writer that fails: what is answered, and what was written till then.
+#[test]
+fn streams_fail(rt: HostRuntime) {
+    for over in WAYS {
+        for (fails_at, takes, write_fails_at, fault, lines) in [
+            (2, usize::MAX, 0, AppFault::Read, b"".as_slice()),
+            (
+                0,
+                1,
+                41,
+                AppFault::Write,
+                b"Not seen the word \"here\" before\nNot seen".as_slice(),
+            ),
+            (0, 0, 0, AppFault::Write, b"".as_slice()),
+        ] {
+            let mut reader = Bytes::new(EXAMPLE, 10, fails_at);
+            let mut writer = Page::new(takes, write_fails_at);
+            let answer = tell(over, &rt, rt.alloc(), &mut reader, &mut writer);
+            if answer == Err(AppFault::Intern(Fault::Memory)) {
+                assert!(rt; writer.written().is_empty(), "over {over:?}");
+            } else {
+                assert_eq!(rt; answer, Err(fault), "over {over:?}");
+                assert!(rt; writer.written() == lines, "over {over:?} at {fault:?}");
+            }
+        }
+    }
 }
 
 /// Many lines come in several writes, of which a later one fails.
@@ -141,6 +188,52 @@ fn more_than_one_piece(rt: HostRuntime) -> Result<(), Fail> {
     Ok(())
 }
 
+/// Whether the atom of a text is dynamic.
+fn is_dynamic<R: Wait>(set: &Set<EmptyStaticAtomSet>, rt: &R, text: &str) -> Result<bool, Fault> {
+    Ok(Atom::from_str_in(set, rt, text)?.is_dynamic())
+}
+
+#[test]
+fn dynamic_words_of_the_example(rt: HostRuntime) -> Result<(), Fail> {
+    let set: Set<EmptyStaticAtomSet> = Set::new(rt.alloc())?;
+    let longer = ["sentence", "tokenised", "interned", "repeated"];
+    for word in str::from_utf8(EXAMPLE)
+        .expect(&rt, "a text")
+        .split_whitespace()
+    {
+        assert_eq!(rt;
+            is_dynamic(&set, &rt, word)?,
+            longer.contains(&word),
+            "of {word:?}"
+        );
+    }
+    Ok(())
+}
+
+/// The words are in the set afterwards: the next new text of the bucket, with the lowest 12 bits of its hash, gets the second
+/// serial. And words that are there already give the same lines.
+#[test]
+fn words_are_interned_once(rt: HostRuntime) -> Result<(), Fail> {
+    let set: Set<EmptyStaticAtomSet> = Set::new(rt.alloc())?;
+    for _ in 0..2 {
+        let mut writer = Page::wide();
+        words(
+            &set,
+            &rt,
+            &mut Bytes::whole(b"interned interned"),
+            &mut writer,
+        )?;
+        assert!(rt; writer.written() == INTERNED_TWICE);
+    }
+    // f1 of "interned" is 0x06a47210, and that of "word1412" 0xeae8c210.
+    let atom = Atom::from_str_in(&set, &rt, "word1412")?;
+    assert!(rt; atom.unsafe_data() == ticket_word(2, 0x210));
+    Ok(())
+}
+
+const INTERNED_TWICE: &[u8] =
+    b"Not seen the word \"interned\" before\nSeen the word \"interned\" 1 times\n";
+
 const USAGE: &[u8] = b"usage: atoms words | count N | replay\n";
 
 const NO_MEMORY: &[u8] = b"atoms: no memory\n";
@@ -153,10 +246,11 @@ struct Answer {
     faults: Page,
 }
 
-fn answer_once(alloc: Global, args: &[String], input: &[u8]) -> Answer {
+fn answer_once<R: Wait>(rt: &R, alloc: Global, args: &[String], input: &[u8]) -> Answer {
     let mut output = Page::wide();
     let mut faults = Page::wide();
     let status = program(
+        rt,
         alloc,
         args,
         &mut Bytes::whole(input),
@@ -171,10 +265,10 @@ fn answer_once(alloc: Global, args: &[String], input: &[u8]) -> Answer {
 }
 
 /// Where memory was refused, the program is run once more.
-fn answer_of(alloc: Global, args: &[String], input: &[u8]) -> Answer {
-    let first = answer_once(alloc, args, input);
+fn answer_of<R: Wait>(rt: &R, alloc: Global, args: &[String], input: &[u8]) -> Answer {
+    let first = answer_once(rt, alloc, args, input);
     if first.faults.written() == NO_MEMORY {
-        answer_once(alloc, args, input)
+        answer_once(rt, alloc, args, input)
     } else {
         first
     }
@@ -198,7 +292,7 @@ fn arguments(alloc: Global, line: &str) -> Result<Vec<String>, AllocError> {
 
 #[test]
 fn other_arguments(rt: HostRuntime) -> Result<(), Fail> {
-    let answer = answer_of(rt.alloc(), &[], EXAMPLE);
+    let answer = answer_of(&rt, rt.alloc(), &[], EXAMPLE);
     assert_eq!(rt; answer.status, 2);
     assert!(rt; answer.faults.written() == USAGE);
     for line in [
@@ -211,7 +305,7 @@ fn other_arguments(rt: HostRuntime) -> Result<(), Fail> {
         "count 3",
         "replay",
     ] {
-        let answer = answer_of(rt.alloc(), &arguments(rt.alloc(), line)?, EXAMPLE);
+        let answer = answer_of(&rt, rt.alloc(), &arguments(rt.alloc(), line)?, EXAMPLE);
         assert_eq!(rt; answer.status, 2, "at {line:?}");
         assert!(rt; answer.output.written().is_empty(), "at {line:?}");
         assert!(rt; answer.faults.written() == USAGE, "at {line:?}");
@@ -232,7 +326,7 @@ fn program_of_words(rt: HostRuntime) -> Result<(), Fail> {
             b"atoms: input is not UTF-8\n".as_slice(),
         ),
     ] {
-        let answer = answer_of(rt.alloc(), &args, input);
+        let answer = answer_of(&rt, rt.alloc(), &args, input);
         assert_eq!(rt; answer.status, status, "of {input:?}");
         assert!(rt; answer.output.written() == output, "of {input:?}");
         assert!(rt; answer.faults.written() == faults, "of {input:?}");
@@ -250,7 +344,7 @@ fn program_fails_at_its_streams(rt: HostRuntime) -> Result<(), Fail> {
         let mut faults = Page::new(3, 0);
         let mut input = Bytes::new(EXAMPLE, 10, fails_at);
         let mut output = Page::new(takes, 0);
-        let status = program(rt.alloc(), &args, &mut input, &mut output, &mut faults);
+        let status = program(&rt, rt.alloc(), &args, &mut input, &mut output, &mut faults);
         assert_eq!(rt; status, 1);
         assert!(rt; faults.written() == wanted || faults.written() == NO_MEMORY);
         assert!(rt; output.written().is_empty());
@@ -267,6 +361,7 @@ fn faults_fail(rt: HostRuntime) -> Result<(), Fail> {
         let mut input = Bytes::whole(b"\xff");
         assert_eq!(rt;
             program(
+                &rt,
                 rt.alloc(),
                 &args,
                 &mut input,

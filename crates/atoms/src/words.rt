@@ -1,22 +1,24 @@
 // For each word of a text, a line that tells how often it came before.
 #![tactic(auto)]
 
-ghost use Rattle.std.specs.Prelude.{◌≡◌, ◌+◌, ◌^◌, ◌<◌, ◌++◌, IfOk, OnOk, OnErr, IfErr, false, true, string_bytes, IfSome};
-ghost use Rattle.std.specs.Str.{IsUtf8};
-ghost use Rattle.std.specs.Io.KnownBytes.{Appends, IsAtEnd, Keeps};
+ghost use Rattle.std.specs.Prelude.{◌≡◌, ◌+◌, ◌^◌, ◌<◌, ◌++◌, IfOk, OnOk, OnErr, IfErr, false, true, string_bytes};
+ghost use Rattle.std.specs.Io.KnownBytes.{Appends};
 ghost use Rattle.string_cache.specs.Faults.{IsInternFault};
 ghost use Rattle.atoms.specs.Counts.{count_of, CountsOneMore};
 ghost use Rattle.atoms.specs.Streams.{AppendsBeginning};
 ghost use Rattle.atoms.specs.Words.{seen_line, word_lines};
-ghost use Rattle.atoms.specs.Faults.{IsUnwrittenFault, IsReadingFault, IsWordsFault, IsWritingFault};
+ghost use Rattle.atoms.specs.Faults.{IsWritingFault};
+ghost use Rattle.atoms.specs.Told.{TellsWords};
 
 use crate::faults::AppFault;
 use crate::streams::{PIECE, Sink, Source, read_all, write_whole};
 use std::alloc::{AllocError, Global};
 use std::collections::HashMap;
 use std::str;
+use std::sync::Wait;
+use string_cache::dynamic_set::Set;
 use string_cache::table::Table;
-use string_cache::{EmptyStaticAtomSet, Fault};
+use string_cache::{Atom, EmptyStaticAtomSet, Fault, StaticAtomSet};
 
 /// What words are interned in, and kept by until its end.
 trait Interner {
@@ -27,6 +29,22 @@ trait Interner {
 impl Interner for Table<EmptyStaticAtomSet> {
     fn intern(&mut self, word: &str) -> Result<(), Fault> {
         self.intern(word)?;
+        Ok(())
+    }
+}
+
+/// Interns words in a set, and holds their atoms.
+#[derive(Drop)]
+struct Holder<'s, 'r, Static: StaticAtomSet, R: Wait> {
+    set: &'s Set<Static>,
+    rt: &'r R,
+    atoms: Vec<Atom<'s, Static>>,
+}
+
+impl<Static: StaticAtomSet, R: Wait> Interner for Holder<'_, '_, Static, R> {
+    fn intern(&mut self, word: &str) -> Result<(), Fault> {
+        let atom = Atom::from_str_in(self.set, self.rt, word)?;
+        self.atoms.push(atom)?;
         Ok(())
     }
 }
@@ -83,11 +101,56 @@ fn write_words<I: Interner, K: Sink>(
     write_whole(writer, pending.as_bytes())
 }
 
-/// For each word that the reader gives, a line that tells how often it came before. The words are interned in a table of
-/// this call's own.
+/// Reads all, interns its words in order, and writes a line for each.
+fn tell<I: Interner, S: Source, K: Sink>(
+    alloc: Global,
+    interner: &mut I,
+    reader: &mut S,
+    writer: &mut K,
+) -> Result<(), AppFault>
+    requires reader { S.has_failed reader.old ≡ false }
+    requires writer { K.has_failed writer.old ≡ false }
+    ensures { TellsWords
+        (record { before = S.remaining reader.old; after = S.remaining reader.new; ended = S.has_ended reader.new; failed = S.has_failed reader.new })
+        (record { before = K.contents writer.old; after = K.contents writer.new; failed = K.has_failed writer.new })
+        result }
+{
+    let bytes = read_all(alloc, reader)?;
+    let Ok(text) = str::from_utf8(&bytes) else {
+        return Err(AppFault::Text);
+    };
+    write_words(alloc, interner, text, writer)
+}
+
+/// For each word that the reader gives, a line that tells how often it came before. The words are interned in the set,
+/// repeated ones again, and their atoms are held to the end of the call.
 ///
 /// `Read` and `Text`, input that isn't UTF-8, come before anything is written, and so does `Intern(Memory)` while the
 /// input is read. After another fault a beginning of the lines is written.
+pub fn words<Static: StaticAtomSet, R: Wait, S: Source, K: Sink>(
+    set: &Set<Static>,
+    rt: &R,
+    reader: &mut S,
+    writer: &mut K,
+) -> Result<(), AppFault>
+    requires reader { S.has_failed reader.old ≡ false }
+    requires writer { K.has_failed writer.old ≡ false }
+    ensures { TellsWords
+        (record { before = S.remaining reader.old; after = S.remaining reader.new; ended = S.has_ended reader.new; failed = S.has_failed reader.new })
+        (record { before = K.contents writer.old; after = K.contents writer.new; failed = K.has_failed writer.new })
+        result }
+{
+    let alloc = set.allocator();
+    let mut holder = Holder {
+        set,
+        rt,
+        atoms: Vec::new(alloc),
+    };
+    tell(alloc, &mut holder, reader, writer)
+}
+
+/// The same lines and faults as those of `words`. The words are interned in a table of this call's own, which ends with it,
+/// so that no lock is taken.
 pub fn words_alone<S: Source, K: Sink>(
     alloc: Global,
     reader: &mut S,
@@ -95,29 +158,11 @@ pub fn words_alone<S: Source, K: Sink>(
 ) -> Result<(), AppFault>
     requires reader { S.has_failed reader.old ≡ false }
     requires writer { K.has_failed writer.old ≡ false }
-
-    // The reader has ended, and exactly the lines of the words that it gave are written.
-    ensures ended { OnOk result (S.has_ended reader.new ≡ true × IsAtEnd (S.remaining reader.new)) }
-    ensures lines { OnOk result (IfSome (S.remaining reader.old) (λ bytes.
-        Appends (K.contents writer.old) (K.contents writer.new) (word_lines bytes))) }
-
-    // After a fault at most a beginning of them, and after Read and Text nothing.
-    ensures beginning { OnErr result (IfSome (S.remaining reader.old) (λ bytes.
-        AppendsBeginning (K.contents writer.old) (K.contents writer.new) (word_lines bytes))) }
-    ensures unwritten { IfErr result (λ fault. IsUnwrittenFault fault → Keeps (K.contents writer.old) (K.contents writer.new)) }
-
-    // When each fault comes.
-    ensures fault { IfErr result IsWordsFault }
-    ensures reading { IfErr result (λ fault. S.has_ended reader.new ≡ false → IsReadingFault fault) }
-    ensures text { result ≡ Err AppFault.Text → S.has_ended reader.new ≡ true
-        × IfSome (S.remaining reader.old) (λ bytes. ¬ (IsUtf8 bytes)) }
-    ensures read { result ≡ Err AppFault.Read → S.has_failed reader.new ≡ true }
-    ensures write { result ≡ Err AppFault.Write → K.has_failed writer.new ≡ true }
+    ensures { TellsWords
+        (record { before = S.remaining reader.old; after = S.remaining reader.new; ended = S.has_ended reader.new; failed = S.has_failed reader.new })
+        (record { before = K.contents writer.old; after = K.contents writer.new; failed = K.has_failed writer.new })
+        result }
 {
-    let bytes = read_all(alloc, reader)?;
-    let Ok(text) = str::from_utf8(&bytes) else {
-        return Err(AppFault::Text);
-    };
-    let mut table = Table::new(alloc)?;
-    write_words(alloc, &mut table, text, writer)
+    let mut table = Table::<EmptyStaticAtomSet>::new(alloc)?;
+    tell(alloc, &mut table, reader, writer)
 }

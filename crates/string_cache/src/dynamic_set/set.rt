@@ -19,6 +19,7 @@ use string_cache_core::word::Limits;
 pub struct Set<Static: StaticAtomSet> {
     buckets: Vec<Mutex<Bucket<Static>>>,
     limits: Limits,
+    alloc: Global,
     ghost all: { vec_len buckets ≡ BUCKETS },
 }
 
@@ -34,7 +35,13 @@ impl<Static: StaticAtomSet> Set<Static> {
         Ok(Set {
             buckets,
             limits: Limits::greatest(),
+            alloc,
         })
+    }
+
+    /// Where the set's entries are allocated.
+    pub fn allocator(&self) -> Global {
+        self.alloc
     }
 
     /// A share of the entry of a dynamic text with this hash, in the bucket of the hash.
