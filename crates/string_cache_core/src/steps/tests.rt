@@ -1,5 +1,6 @@
 // The steps on small scripts. Expected replies are those of the table of steps, worked out by hand.
 use super::{Step, StepReply, World};
+use crate::faults::Fault;
 use crate::static_sets::{EmptyStaticAtomSet, TextForm, form_of_text};
 use crate::word::Limits;
 use StepReply::{
@@ -46,6 +47,27 @@ fn ticket_of(text: &str, serial: u64) -> u64 {
     }
 }
 
+// A new world, asked for once more where memory was refused.
+fn new_world(alloc: Global, limits: Limits) -> Result<World<EmptyStaticAtomSet>, Fault> {
+    match World::new(alloc, limits) {
+        Err(Fault::Memory) => World::new(alloc, limits),
+        made => made,
+    }
+}
+
+// One step, made once more where memory was refused: then the world is as it was.
+fn make_step(
+    world: &mut World<EmptyStaticAtomSet>,
+    alloc: Global,
+    party: u32,
+    step: Do,
+) -> Result<StepReply, Fail> {
+    match world.step(party, step_of(alloc, step)?) {
+        Err(Fault::Memory) => Ok(world.step(party, step_of(alloc, step)?)?),
+        made => Ok(made?),
+    }
+}
+
 // By `step` and by `run`: each row's step of its party has that reply, and then the entries are held so often. A run that
 // was refused memory goes on from the replies appended.
 fn check(
@@ -55,16 +77,15 @@ fn check(
     rows: &[(u32, Do, StepReply)],
     held: &[u64],
 ) -> Result<(), Fail> {
-    let mut stepped = World::<EmptyStaticAtomSet>::new(alloc, limits)?;
+    let mut stepped = new_world(alloc, limits)?;
     let mut script = Vec::new(alloc);
     let mut want = Vec::new(alloc);
     for (party, step, reply) in rows {
-        let given = stepped.step(*party, step_of(alloc, *step)?)?;
-        assert_eq!(rt; given, *reply);
+        assert_eq!(rt; make_step(&mut stepped, alloc, *party, *step)?, *reply);
         script.push((*party, step_of(alloc, *step)?))?;
         want.push(*reply)?;
     }
-    let mut ran = World::<EmptyStaticAtomSet>::new(alloc, limits)?;
+    let mut ran = new_world(alloc, limits)?;
     let mut given = Vec::new(alloc);
     if ran.run(script.as_slice(), &mut given).is_err() {
         if let Some(rest) = script.get(given.len()..) {
