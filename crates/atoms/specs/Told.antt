@@ -21,6 +21,7 @@ pub record Writing : Type 0 where
   pub after : Option (List ℕ)
   pub failed : Bool  -- whether a write failed
 
+-- what is written and answered, by cases of the result
 pub record TellsWords {T : Type 0} (r : Reading) (w : Writing) (result : Result T AppFault) : Type 0 where
   -- The reader has ended, and exactly the lines of the words that it gave are written.
   pub ended : OnOk result ((r.ended ≡ true) × IsAtEnd r.after)

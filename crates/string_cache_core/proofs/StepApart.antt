@@ -8,7 +8,7 @@ use Rattle.string_cache_core.specs.declared.steps.entry.Place.TheVariants as pla
 use Rattle.string_cache_core.specs.declared.steps.Step.{Step}
 use Rattle.string_cache_core.specs.declared.steps.Step.TheVariants.{TakeIntern, TakeSweep, Add, Link, Clone, Give, Unlink, Free, Leave}
 use Rattle.string_cache_core.specs.declared.steps.StepReply.{StepReply}
-use Rattle.string_cache_core.specs.Steps.{bucket_of, is_dynamic, pass_of, is_free, is_linked_in, wants, has, take_bucket, add, link, clone, give, unlink, all_found_dying, all_looked_at, replaced, without_party, finds_dying, looks_at, decides, last_of, step}
+use Rattle.string_cache_core.specs.Steps.{bucket_of, pass_of, is_free, is_linked_in, wants, has, take_bucket, add, link, clone, give, unlink, all_found_dying, all_looked_at, replaced, without_party, finds_dying, looks_at, decides, last_of, step}
 use Rattle.string_cache_core.specs.World.{Entry, Pass, World, is_linked, is_unlinked_by}
 use Rattle.string_cache_core.specs.Runs.{Event, Leads}
 use Rattle.string_cache_core.specs.Sound.{At, SoundPass, DiffersFrom, Apart, SoundWorld}
@@ -17,7 +17,7 @@ use Rattle.string_cache_core.proofs.StepSound.{all_replaced, all_without_party}
 use Rattle.string_cache_core.proofs.StepEntries.{set_other, sound_by}
 use Rattle.string_cache_core.proofs.StepHistory.{keeps}
 use Rattle.string_cache_core.proofs.StepPasses.{of_party, find_passes, none_is}
-use Rattle.string_cache_core.specs.Tables.{Tables}
+use Rattle.string_cache_core.specs.Tables.{Tables, is_dynamic}
 
 -- ---- what a step may do to the entries, and to the passes
 

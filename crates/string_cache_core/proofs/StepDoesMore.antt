@@ -10,10 +10,10 @@ use Rattle.string_cache_core.specs.declared.steps.Step.TheVariants.{TakeSweep, C
 use Rattle.string_cache_core.specs.declared.steps.StepReply.{StepReply}
 use Rattle.string_cache_core.specs.declared.steps.StepReply.TheVariants as reply
 use Rattle.string_cache_core.specs.World.{World}
-use Rattle.string_cache_core.specs.Steps.{take_intern_if, is_dynamic, is_dynamic_form, bucket_of, pass_of, is_free, entry_at, has, step, IsStep, clone, give, without_one, take_bucket, with_entry, with_ticket, with_one}
+use Rattle.string_cache_core.specs.Steps.{take_intern_if, bucket_of, pass_of, is_free, entry_at, has, step, IsStep, clone, give, without_one, take_bucket, with_entry, with_ticket, with_one}
 use Rattle.string_cache_core.specs.StepPlaces.{EntryAt}
 use Rattle.string_cache_core.proofs.StepLists.{some_then, test_fails, test_holds, replied}
-use Rattle.string_cache_core.specs.Tables.{Tables, entry_hash, form_of_text, text_at, place_in}
+use Rattle.string_cache_core.specs.Tables.{Tables, entry_hash, form_of_text, text_at, place_in, is_dynamic, is_dynamic_form}
 use Rattle.string_cache_core.specs.Word.{inline_word}
 use Rattle.string_cache_core.specs.declared.static_sets.TextForm.{TextForm}
 use Rattle.string_cache_core.specs.declared.static_sets.TextForm.TheVariants as form

@@ -10,13 +10,13 @@ use Rattle.string_cache_core.specs.declared.steps.Step.TheVariants.{TakeIntern, 
 use Rattle.string_cache_core.specs.declared.steps.StepReply.{StepReply}
 use Rattle.string_cache_core.specs.declared.steps.StepReply.TheVariants as reply
 use Rattle.string_cache_core.specs.World.{Entry, Pass, World, is_unlinked_by}
-use Rattle.string_cache_core.specs.Steps.{◌>>=◌, pass_of, is_free, is_linked_in, wants, has, take_bucket, add, link, clone, give, unlink, all_found_dying, all_looked_at, replaced, without_party, finds_dying, looks_at, decides, last_of, step, is_dynamic, bucket_of}
+use Rattle.string_cache_core.specs.Steps.{◌>>=◌, pass_of, is_free, is_linked_in, wants, has, take_bucket, add, link, clone, give, unlink, all_found_dying, all_looked_at, replaced, without_party, finds_dying, looks_at, decides, last_of, step, bucket_of}
 use Rattle.string_cache_core.specs.Runs.{Made, Event, Leads, wanted_by, call_of}
 use Rattle.string_cache_core.specs.Theorem.{interned_by, texts_in, bucket_taken, text_taken}
 use Rattle.string_cache_core.specs.Sound.{At}
 use Rattle.string_cache_core.proofs.StepLists.{at_one, bind_case, guard_case, if_case, some_then}
 use Rattle.string_cache_core.proofs.StepHistory.{has-push, wants_is, wanted_by-is}
-use Rattle.string_cache_core.specs.Tables.{Tables}
+use Rattle.string_cache_core.specs.Tables.{Tables, is_dynamic}
 
 -- ---- the list of passes
 

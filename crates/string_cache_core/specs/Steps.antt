@@ -5,14 +5,12 @@ use Rattle.std.specs.Option.{unwrap_or, option_map_or}
 use Rattle.std.specs.Str.{bytes_eq}
 use Rattle.std.specs.String.{string_bytes}
 use Rattle.string_cache_core.specs.Bounds.{Bounds}
-use Rattle.string_cache_core.specs.declared.static_sets.TextForm.{TextForm}
-use Rattle.string_cache_core.specs.declared.static_sets.TextForm.TheVariants as form
 use Rattle.string_cache_core.specs.declared.steps.entry.Place.TheVariants as place
 use Rattle.string_cache_core.specs.declared.steps.Step.{Step}
 use Rattle.string_cache_core.specs.declared.steps.Step.TheVariants.{TakeIntern, TakeSweep, Add, Link, Clone, Give, Unlink, Free, Leave}
 use Rattle.string_cache_core.specs.declared.steps.StepReply.{StepReply}
 use Rattle.string_cache_core.specs.declared.steps.StepReply.TheVariants as reply
-use Rattle.string_cache_core.specs.Tables.{Tables, entry_hash, form_of_text}
+use Rattle.string_cache_core.specs.Tables.{Tables, entry_hash, is_dynamic}
 use Rattle.string_cache_core.specs.Word.{ticket_of}
 use Rattle.string_cache_core.specs.World.{Entry, Pass, World, is_linked, is_unlinked_by}
 
@@ -26,15 +24,6 @@ abbrev pub only_if : {A : Type 0} → Bool → A → Option A
 only_if test x = if test then Some x else None
 
 -- ---- texts
-
-abbrev pub is_dynamic_form : TextForm → Bool
-is_dynamic_form (form.Inline word) = false
-is_dynamic_form (form.Static index) = false
-is_dynamic_form (form.Dynamic hash) = true
-
--- the text is neither inline nor static
-abbrev pub is_dynamic : Tables → List ℕ → Bool
-is_dynamic t text = is_dynamic_form (form_of_text t text)
 
 -- of so many buckets the one that a dynamic text belongs to
 abbrev pub bucket_of : Tables → ℕ → List ℕ → ℕ

@@ -1,5 +1,5 @@
 -- Static tables, and the form, the hash number and the words that they give.
-use Rattle.std.specs.Prelude.{◌≡◌, ℕ, ◌^◌, ◌<◌, ◌⊎◌, List, [], ◌∷◌, length, nat_lt, if◌then◌else◌, slice_index, slice_index_or, Option, Some, None}
+use Rattle.std.specs.Prelude.{◌≡◌, ℕ, ◌^◌, ◌<◌, ◌⊎◌, Bool, true, false, List, [], ◌∷◌, length, nat_lt, if◌then◌else◌, slice_index, slice_index_or, Option, Some, None}
 use Rattle.std.specs.Str.{bytes_eq}
 use Rattle.string_cache_core.specs.declared.static_sets.TextForm.{TextForm}
 use Rattle.string_cache_core.specs.declared.static_sets.TextForm.TheVariants.{Inline, Static, Dynamic}
@@ -47,6 +47,26 @@ form_of_text t text =
     if bytes_eq (text_at t (place_in t text)) text then Static (place_in t text)
     else Dynamic (entry_hash t text)
     else Inline (inline_word text)
+
+-- which form it is
+abbrev pub is_inline_form : TextForm → Bool
+is_inline_form (Inline word) = true
+is_inline_form (Static index) = false
+is_inline_form (Dynamic hash) = false
+
+abbrev pub is_static_form : TextForm → Bool
+is_static_form (Inline word) = false
+is_static_form (Static index) = true
+is_static_form (Dynamic hash) = false
+
+abbrev pub is_dynamic_form : TextForm → Bool
+is_dynamic_form (Inline word) = false
+is_dynamic_form (Static index) = false
+is_dynamic_form (Dynamic hash) = true
+
+-- the text is neither inline nor static
+abbrev pub is_dynamic : Tables → List ℕ → Bool
+is_dynamic t text = is_dynamic_form (form_of_text t text)
 
 -- the word of a form that has one of its own; a dynamic text's is a ticket
 abbrev pub fixed_word : TextForm → Option ℕ
