@@ -1,4 +1,5 @@
 -- Which faults may come, and when.
+use Rattle.std.specs.Prelude.{ℕ}
 use Rattle.atoms.specs.declared.faults.AppFault.{AppFault}
 use Rattle.atoms.specs.declared.faults.AppFault.TheVariants.{Read, Write, Text, Script, Worker, Intern}
 use Rattle.string_cache.specs.declared.Fault.{Fault}
@@ -46,3 +47,21 @@ IsUnwrittenFault Text = Unit {0}
 IsUnwrittenFault (Script line) = Unit {0}
 IsUnwrittenFault Worker = ⊥
 IsUnwrittenFault (Intern fault) = ⊥
+
+-- while a script is parsed, where IsBad says that a line isn't of the grammar
+abbrev pub IsParsingFault : (ℕ → Type 0) → AppFault → Type 0
+IsParsingFault IsBad Read = ⊥
+IsParsingFault IsBad Write = ⊥
+IsParsingFault IsBad Text = ⊥
+IsParsingFault IsBad (Script line) = IsBad line
+IsParsingFault IsBad Worker = ⊥
+IsParsingFault IsBad (Intern fault) = IsMemory fault
+
+-- from a script at all
+abbrev pub IsReplayFault : AppFault → Type 0
+IsReplayFault Read = Unit {0}
+IsReplayFault Write = Unit {0}
+IsReplayFault Text = Unit {0}
+IsReplayFault (Script line) = Unit {0}
+IsReplayFault Worker = ⊥
+IsReplayFault (Intern fault) = IsMemory fault

@@ -5,6 +5,7 @@ mod faults;
 #[cfg(test)]
 mod memory;
 mod program;
+mod replay;
 mod streams;
 #[cfg(test)]
 mod tests;

@@ -1,13 +1,16 @@
 // All that the program does, over any reader and writers.
 #![tactic(auto)]
 
-ghost use Rattle.std.specs.Prelude.{◌≡◌, ◌≤◌, false, IfSome, OnOk, OnErr};
+ghost use Rattle.std.specs.Prelude.{◌≡◌, ℕ, ◌≤◌, List, false, IfSome, OnOk, OnErr};
 ghost use Rattle.std.specs.Io.KnownBytes.{Appends};
 ghost use Rattle.atoms.specs.Streams.{AppendsBeginning};
 ghost use Rattle.atoms.specs.Words.{word_lines};
-ghost use Rattle.atoms.specs.Commands.{AreWords};
+ghost use Rattle.atoms.specs.Commands.{AreWords, AreReplay};
+ghost use Rattle.atoms.specs.Replay.{IsReplay, BeginsReplay};
+ghost use Rattle.string_cache.specs.Tables.{empty_tables};
 
 use crate::faults::AppFault;
+use crate::replay::replay;
 use crate::streams::{Sink, Source, write_whole};
 use crate::words::words;
 use std::alloc::Global;
@@ -22,15 +25,18 @@ const USAGE: &str = "usage: atoms words | count N | replay\n";
 /// What the arguments ask for.
 enum Command {
     Words,
+    Replay,
 }
 
 /// `None` where the arguments aren't those of a command.
 fn command_of(args: &[String]) -> Option<Command>
     ensures words { AreWords args.now → result ≡ Some Command.Words }
-    ensures other { ¬ (AreWords args.now) → result ≡ None }
+    ensures replay { AreReplay args.now → result ≡ Some Command.Replay }
+    ensures other { ¬ (AreWords args.now) → ¬ (AreReplay args.now) → result ≡ None }
 {
     match args {
         [word] if word.as_str() == "words" => Some(Command::Words),
+        [word] if word.as_str() == "replay" => Some(Command::Replay),
         _ => None,
     }
 }
@@ -107,13 +113,19 @@ pub fn program<R: Wait, S: Source, K: Sink, F: Sink>(
     ensures beginning { AreWords args.now → result ≡ 1 → IfSome (S.remaining input.old) (λ bytes.
         AppendsBeginning (K.contents output.old) (K.contents output.new) (word_lines bytes)) }
     ensures status { AreWords args.now → result ≤ 1 }
-    ensures other { ¬ (AreWords args.now) → (result ≡ 2) × (input.new ≡ input.old) × (output.new ≡ output.old) }
+    ensures replay { AreReplay args.now → result ≡ 0 → IfSome (S.remaining input.old) (λ bytes.
+        (lines : List ℕ) × IsReplay empty_tables bytes lines × Appends (K.contents output.old) (K.contents output.new) lines) }
+    ensures replay_beginning { AreReplay args.now → result ≡ 1 → IfSome (S.remaining input.old) (λ bytes.
+        BeginsReplay empty_tables bytes (K.contents output.old) (K.contents output.new)) }
+    ensures replay_status { AreReplay args.now → result ≤ 1 }
+    ensures other { ¬ (AreWords args.now) → ¬ (AreReplay args.now) → (result ≡ 2) × (input.new ≡ input.old) × (output.new ≡ output.old) }
 {
     let Some(command) = command_of(args) else {
         return usage(faults);
     };
     let outcome = match command {
         Command::Words => words_in_new_set(rt, alloc, input, output),
+        Command::Replay => replay(alloc, input, output),
     };
     match outcome {
         Ok(()) => 0,

@@ -240,10 +240,10 @@ const NO_MEMORY: &[u8] = b"atoms: no memory\n";
 
 /// What the program answers and writes.
 #[derive(Drop)]
-struct Answer {
-    status: u8,
-    output: Page,
-    faults: Page,
+pub struct Answer {
+    pub status: u8,
+    pub output: Page,
+    pub faults: Page,
 }
 
 fn answer_once<R: Wait>(rt: &R, alloc: Global, args: &[String], input: &[u8]) -> Answer {
@@ -265,7 +265,7 @@ fn answer_once<R: Wait>(rt: &R, alloc: Global, args: &[String], input: &[u8]) ->
 }
 
 /// Where memory was refused, the program is run once more.
-fn answer_of<R: Wait>(rt: &R, alloc: Global, args: &[String], input: &[u8]) -> Answer {
+pub fn answer_of<R: Wait>(rt: &R, alloc: Global, args: &[String], input: &[u8]) -> Answer {
     let first = answer_once(rt, alloc, args, input);
     if first.faults.written() == NO_MEMORY {
         answer_once(rt, alloc, args, input)
@@ -283,7 +283,7 @@ fn arguments_once(alloc: Global, line: &str) -> Result<Vec<String>, AllocError> 
 }
 
 /// The arguments of a line, parted by single spaces. Where memory was refused, they are made once more.
-fn arguments(alloc: Global, line: &str) -> Result<Vec<String>, AllocError> {
+pub fn arguments(alloc: Global, line: &str) -> Result<Vec<String>, AllocError> {
     match arguments_once(alloc, line) {
         Ok(args) => Ok(args),
         Err(_) => arguments_once(alloc, line),
@@ -303,7 +303,7 @@ fn other_arguments(rt: HostRuntime) -> Result<(), Fail> {
         "words ",
         "count",
         "count 3",
-        "replay",
+        "replay replay",
     ] {
         let answer = answer_of(&rt, rt.alloc(), &arguments(rt.alloc(), line)?, EXAMPLE);
         assert_eq!(rt; answer.status, 2, "at {line:?}");

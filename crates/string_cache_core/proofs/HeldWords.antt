@@ -1,8 +1,8 @@
 -- Which words texts have: an inline text's tag is 1, a static one's 2, and a ticket's 0.
-use Rattle.std.proofs.Common.{◌≡◌, ◌∙◌, ap, sym, subst, refl, arith, ℕ, ◌%◌, ◌^◌, ◌<◌, inl, inr, Bool, true, false, List, length, Option, None, Some, nat_lt}
+use Rattle.std.proofs.Common.{◌≡◌, ◌∙◌, ap, sym, subst, refl, arith, ℕ, ◌%◌, ◌^◌, ◌<◌, ◌≤◌, inl, inr, Bool, true, false, List, length, Option, None, Some, nat_lt}
 use Rattle.std.specs.Prelude.{◌↔◌, if◌then◌else◌, IsSome, IfSome, MatchOption}
 use Rattle.std.proofs.Common.{is_some, IsTrue}
-use Rattle.std.proofs.lemmas.Bool.{false≢true}
+use Rattle.std.proofs.lemmas.Bool.{false≢true, ltb-true}
 use Rattle.std.specs.Borrow.{Bor}
 use Rattle.std.specs.Str.{bytes_eq}
 use Rattle.std.proofs.lemmas.Slice.Eq.{bytes_eq-Decides}
@@ -12,7 +12,7 @@ use Rattle.string_cache_core.specs.Map.{Holding, InternMap, IsHeldTicket}
 use Rattle.string_cache_core.specs.Kept.{Kept, map_of, IsSoundMap}
 use Rattle.string_cache_core.specs.Places.{IsPlace}
 use Rattle.string_cache_core.specs.Table.{IsTextOf, IsHeld, IsFixedWord}
-use Rattle.string_cache_core.specs.Tables.{Tables, place_in, text_at, entry_hash, form_of_text, IsStaticIndex}
+use Rattle.string_cache_core.specs.Tables.{Tables, place_in, text_at, entry_hash, form_of_text, fixed_word, IsStaticIndex}
 use Rattle.string_cache_core.specs.Word.{inline_word, static_word, ticket_of, IsInlineWord, IsStaticWord, IsTicketWord}
 use Rattle.string_cache_core.proofs.Unpacking.{inline_word_tag}
 
@@ -39,6 +39,23 @@ static-text t text index e =
 
 pub dynamic-hash : (t : Tables) (text : List ℕ) (hash : ℕ) → form_of_text t text ≡ Dynamic hash → hash ≡ entry_hash t text
 dynamic-hash t text hash e = dynamic_by (nat_lt 7 (length text)) (bytes_eq (text_at t (place_in t text)) text) (place_in t text) (entry_hash t text) (inline_word text) hash e
+
+fixed_by : (long there : Bool) (place hash word : ℕ) → fixed_word (form_by long there place hash word) ≡ None → long ≡ true
+fixed_by true there place hash word e = refl
+fixed_by false there place hash word e = cc
+
+-- a text without a word that its form fixes has more than 7 bytes
+pub long-unless-fixed : (t : Tables) (text : List ℕ) → fixed_word (form_of_text t text) ≡ None → 7 < length text
+long-unless-fixed t text e =
+    ltb-true 7 (length text) (fixed_by (nat_lt 7 (length text)) (bytes_eq (text_at t (place_in t text)) text) (place_in t text) (entry_hash t text) (inline_word text) e)
+
+-- a shorter one isn't held
+pub short-not-held : (t : Tables) (m : InternMap) → IsSoundMap t m → (text : List ℕ) → length text ≤ 7 → m.held text ≡ None
+short-not-held t m sound text short = by (m.held text) refl
+  where
+    by : (o : Option Holding) → m.held text ≡ o → m.held text ≡ None
+    by None e = e
+    by (Some had) e = let long = long-unless-fixed t text (sound.given text had e).dynamic in absurd (omega (arith, long, short))
 
 -- ---- tags
 
@@ -87,33 +104,33 @@ text-if-ticket t m word serial bucket is None held = none
 
 -- ---- what is held
 
--- the word of nothing isn't held
-pub not-held-unless-word : (t : Tables) (m : InternMap) (word : ℕ) → IsSoundMap t m → word < 2 ^ 64 → ¬ (IsInlineWord word) → ¬ (IsStaticWord word) → ¬ (IsTicketWord word) → IsHeld t m word → ⊥
-not-held-unless-word t m word sound fits inline static ticket (inl (inl i)) = inline i
-not-held-unless-word t m word sound fits inline static ticket (inl (inr s)) = static (s.0, (let is = s.2 in omega (arith, is, fits)), s.2)
-not-held-unless-word t m word sound fits inline static ticket (inr h) =
-    let g = sound.given h.text (record { ticket = word; holders = h.holders }) h.held in
-    ticket (g.serial, entry_hash t h.text % m.buckets, g.right, sym g.is)
+-- the word of nothing is fixed by no text's form
+pub not-fixed-unless-word : (t : Tables) (word : ℕ) → word < 2 ^ 64 → ¬ (IsInlineWord word) → ¬ (IsStaticWord word) → IsFixedWord t word → ⊥
+not-fixed-unless-word t word fits inline static (inl i) = inline i
+not-fixed-unless-word t word fits inline static (inr s) = static (s.0, (let is = s.2 in omega (arith, is, fits)), s.2)
 
--- a static word is held exactly if it has a text
-pub held-if-static : (t : Tables) (m : InternMap) (word index : ℕ) → IsSoundMap t m → static_word index ≡ word → (test : Bool) → (IsTrue test ↔ IsStaticIndex t index) → IsTrue test ↔ IsHeld t m word
-held-if-static t m word index sound is test exactly = (λ yes. inl (inr (index, exactly.0 yes, is)), back)
+-- nor is a ticket
+pub not-fixed-if-ticket : (t : Tables) (word serial bucket : ℕ) → ticket_of serial bucket ≡ word → IsFixedWord t word → ⊥
+not-fixed-if-ticket t word serial bucket is (inl i) = let tag = inline_word_tag word i in omega (arith, tag, is)
+not-fixed-if-ticket t word serial bucket is (inr s) = let own = s.2 in omega (arith, own, is)
+
+-- a static word is, exactly if it has a text
+pub fixed-if-static : (t : Tables) (word index : ℕ) → static_word index ≡ word → (test : Bool) → (IsTrue test ↔ IsStaticIndex t index) → IsTrue test ↔ IsFixedWord t word
+fixed-if-static t word index is test exactly = (λ yes. inr (index, exactly.0 yes, is), back)
   where
-    back : IsHeld t m word → IsTrue test
-    back (inl (inl i)) = let tag = inline_word_tag word i in absurd (omega (arith, tag, is))
-    back (inl (inr s)) = let own = s.2 in let same : s.0 ≡ index = omega (arith, own, is) in exactly.1 (subst (IsStaticIndex t) same s.1)
-    back (inr h) = let tag = held-tag t m sound h.text (record { ticket = word; holders = h.holders }) h.held in absurd (omega (arith, tag, is))
+    back : IsFixedWord t word → IsTrue test
+    back (inl i) = let tag = inline_word_tag word i in absurd (omega (arith, tag, is))
+    back (inr s) = let own = s.2 in let same : s.0 ≡ index = omega (arith, own, is) in exactly.1 (subst (IsStaticIndex t) same s.1)
 
--- a ticket is held exactly if it has a place
-pub held-if-placed : (t : Tables) (kept : Kept) (word serial bucket : ℕ) → ticket_of serial bucket ≡ word → (place : Option ℕ)
+-- any other word is held exactly if it has a place
+pub held-if-placed : (t : Tables) (kept : Kept) (word : ℕ) → ¬ (IsFixedWord t word) → (place : Option ℕ)
     → MatchOption place (¬ (IsHeldTicket (map_of kept) word)) (λ at. IsPlace kept word at) → (test : Bool) → test ≡ is_some place → IsTrue test ↔ IsHeld t (map_of kept) word
-held-if-placed t kept word serial bucket is (Some at) p test e =
+held-if-placed t kept word fixed (Some at) p test e =
     (λ _. inr (record { text = p.text; holders = p.holders; held = p.found.held }), λ _. e)
-held-if-placed t kept word serial bucket is None none test e = (λ yes. absurd (false≢true (sym e ∙ yes)), back)
+held-if-placed t kept word fixed None none test e = (λ yes. absurd (false≢true (sym e ∙ yes)), back)
   where
     back : IsHeld t (map_of kept) word → IsTrue test
-    back (inl (inl i)) = let tag = inline_word_tag word i in absurd (omega (arith, tag, is))
-    back (inl (inr s)) = let own = s.2 in absurd (omega (arith, own, is))
+    back (inl other) = absurd (fixed other)
     back (inr h) = absurd (none h)
 
 -- a word that is held, and is no ticket that is, is one that a text's form fixes

@@ -1,5 +1,5 @@
 -- A new text among the pairs.
-use Rattle.std.proofs.Common.{◌≡◌, ◌∙◌, ap, sym, subst, refl, arith, ℕ, ◌+◌, ◌%◌, ◌^◌, ◌<◌, ◌≤◌, inl, inr, cond, List, [], ◌∷◌, ◌++◌, length, None, Some}
+use Rattle.std.proofs.Common.{◌≡◌, ◌∙◌, ap, sym, subst, refl, arith, ℕ, ◌+◌, ◌%◌, ◌^◌, ◌<◌, ◌≤◌, inl, inr, List, [], ◌∷◌, ◌++◌, length, None, Some}
 use Rattle.std.specs.Prelude.{slice_get, slice_set, slice_index, String, string_bytes, ◌==◌, if◌then◌else◌}
 use Rattle.std.proofs.lemmas.Bool.{eq-eqb}
 use Rattle.std.specs.Bool.{nat_eq}
@@ -7,15 +7,17 @@ use Rattle.std.specs.Map.{lookup, update}
 use Rattle.std.specs.Str.{bytes_eq}
 use Rattle.std.specs.String.{string_eq}
 use Rattle.std.specs.HashMap.{HashMap, get, Updates}
-use Rattle.std.proofs.lemmas.List.{map-append, length-set, length-map}
+use Rattle.std.proofs.lemmas.List.{map-append, length-set}
+use Rattle.std.proofs.lemmas.List.Sums.{sum_by_push}
 use Rattle.indexmap.specs.IndexMap.{insert_entry}
+use Rattle.indexmap.specs.IndexSet.{insert_key}
 use Rattle.indexmap.proofs.CallerLemmas.{insert_entry-new}
 use Rattle.string_cache_core.specs.Map.{Holding}
 use Rattle.string_cache_core.specs.Tables.{Tables, entry_hash, form_of_text, fixed_word}
 use Rattle.string_cache_core.specs.Word.{ticket_of}
-use Rattle.string_cache_core.specs.Kept.{Pair, pairs_of, tickets_of, IsGiven, IsIndex, IsKept}
+use Rattle.string_cache_core.specs.Kept.{Pair, pairs_of, tickets_of, IsGiven, IsKept}
 use Rattle.string_cache_core.proofs.KeptPairs.{lookup-pairs, updates-pairs, pair_of_ticket, given-grows, last-set, last-grows}
-use Rattle.string_cache_core.proofs.KeptIndex.{at-push, index-push}
+use Rattle.string_cache_core.proofs.KeptTickets.{at-push, is-nowhere}
 
 pub same-ticket : (b c s t : ℕ) → b < 4096 → c < 4096 → ticket_of s b ≡ ticket_of t c → (b ≡ c) × (s ≡ t)
 same-ticket b c s t hb hc e = (omega arith, omega arith)
@@ -46,39 +48,41 @@ module _ {Y S : Type 0} (m r n : HashMap (String Y) Holding S) (key : String Y) 
       ∙ map-append (λ (e : String Y × Holding). (string_bytes e.0, e.1)) m.entries ((key, v) ∷ [])
       ∙ ap (λ t. pairs_of m.entries ++ (t, v) ∷ []) spells
 
-module _ {T : Type 0} (t : Tables) (lasts : List ℕ) (pairs : List Pair) (places reordered new : HashMap ℕ ℕ T) (text : List ℕ) (bucket serial at : ℕ)
-    (dynamic : fixed_word (form_of_text t text) ≡ None) (own : bucket ≡ entry_hash t text % length lasts) (range : serial < 2 ^ 50) (next : serial ≡ slice_index lasts bucket + 1) (last : at ≡ length pairs)
-    (same : (q : ℕ) → get nat_eq reordered q ≡ get nat_eq places q)
-    (updates : (q : ℕ) → get nat_eq new q ≡ cond (nat_eq (ticket_of serial bucket) q) (Some at) (get nat_eq reordered q)) (kept : IsKept t lasts pairs places) where
+module _ (t : Tables) (lasts : List ℕ) (pairs : List Pair) (tickets new : List ℕ) (bytes : ℕ) (text : List ℕ) (bucket serial : ℕ)
+    (dynamic : fixed_word (form_of_text t text) ≡ None) (own : bucket ≡ entry_hash t text % length lasts) (range : serial < 2 ^ 50) (next : serial ≡ slice_index lasts bucket + 1) (small : length text < 2 ^ 64)
+    (inserted : new ≡ insert_key nat_eq tickets (ticket_of serial bucket)) (kept : IsKept t lasts pairs tickets bytes) where
   below : bucket < 4096
   below = let b = kept.buckets in omega (arith, own, b)
 
   within : bucket < length lasts
   within = let b = kept.buckets in let l = below in omega (arith, b, l)
 
-  pub kept-added : IsKept t (slice_set lasts bucket serial) (pairs ++ (text, record { ticket = ticket_of serial bucket; holders = 1 }) ∷ []) new
+  pub kept-added : IsKept t (slice_set lasts bucket serial) (pairs ++ (text, record { ticket = ticket_of serial bucket; holders = 1 }) ∷ []) new (bytes + length text)
   kept-added = record {
     buckets = length-set lasts bucket serial ∙ kept.buckets;
     given = λ j pair h. elim (at-push pairs (text, record { ticket = ticket_of serial bucket; holders = 1 }) j pair h) [
       | inl old ↦ grows pair (kept.given j pair old)
       | inr added ↦ subst (λ (pair : Pair). IsGiven t (length (slice_set lasts bucket serial)) (slice_index (slice_set lasts bucket serial)) pair.0 pair.1) added.1 this
     ];
-    index = subst (λ ts. IsIndex ts new) (sym (map-append (λ (pair : Pair). pair.1.ticket) pairs ((text, record { ticket = ticket_of serial bucket; holders = 1 }) ∷ [])))
-        (index-push (tickets_of pairs) (ticket_of serial bucket) places new fresh-here kept.index
-        (λ q. updates q ∙ (λ i. cond (nat_eq (ticket_of serial bucket) q) (Some (place i)) (same q i))));
+    short = λ j pair h. elim (at-push pairs (text, record { ticket = ticket_of serial bucket; holders = 1 }) j pair h) [
+      | inl old ↦ kept.short j pair old
+      | inr added ↦ subst (λ (pair : Pair). length pair.0 < 2 ^ 64) added.1 small
+    ];
+    index = inserted
+        ∙ ap (λ b. if b then tickets else tickets ++ ticket_of serial bucket ∷ []) (is-nowhere tickets (ticket_of serial bucket) fresh-here)
+        ∙ ap (λ ts. ts ++ ticket_of serial bucket ∷ []) kept.index
+        ∙ sym (map-append (λ (pair : Pair). pair.1.ticket) pairs ((text, record { ticket = ticket_of serial bucket; holders = 1 }) ∷ []));
+    counted = ap (λ (n : ℕ). n + length text) kept.counted ∙ sym (sum_by_push (λ (pair : Pair). length pair.0) pairs (text, record { ticket = ticket_of serial bucket; holders = 1 }));
   }
     where
-      place : at ≡ length (tickets_of pairs)
-      place = last ∙ sym (length-map pairs (λ (pair : Pair). pair.1.ticket))
-
       resized : (text : List ℕ) (had : Holding) → IsGiven t (length lasts) (slice_index (slice_set lasts bucket serial)) text had → IsGiven t (length (slice_set lasts bucket serial)) (slice_index (slice_set lasts bucket serial)) text had
       resized text had g = subst (λ (n : ℕ). IsGiven t n (slice_index (slice_set lasts bucket serial)) text had) (sym (length-set lasts bucket serial)) g
 
       grows : (pair : Pair) → IsGiven t (length lasts) (slice_index lasts) pair.0 pair.1 → IsGiven t (length (slice_set lasts bucket serial)) (slice_index (slice_set lasts bucket serial)) pair.0 pair.1
       grows pair g = resized pair.0 pair.1 (given-grows t (length lasts) (slice_index lasts) (slice_index (slice_set lasts bucket serial)) pair.0 pair.1 (λ other. last-grows lasts bucket serial other within (omega arith)) g)
 
-      fresh-here : (j : ℕ) → slice_get (tickets_of pairs) j ≡ Some (ticket_of serial bucket) → ⊥
-      fresh-here j h = fresh t lasts pairs bucket kept.given below j (h ∙ ap (λ (s : ℕ). Some (ticket_of s bucket)) next)
+      fresh-here : (j : ℕ) → slice_get tickets j ≡ Some (ticket_of serial bucket) → ⊥
+      fresh-here j h = fresh t lasts pairs bucket kept.given below j (ap (λ ts. slice_get ts j) (sym kept.index) ∙ h ∙ ap (λ (s : ℕ). Some (ticket_of s bucket)) next)
 
       this : IsGiven t (length (slice_set lasts bucket serial)) (slice_index (slice_set lasts bucket serial)) text (record { ticket = ticket_of serial bucket; holders = 1 })
       this = resized text (record { ticket = ticket_of serial bucket; holders = 1 }) (record {

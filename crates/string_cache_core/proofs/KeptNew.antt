@@ -1,8 +1,6 @@
 -- A new table.
 use Rattle.std.proofs.Common.{◌≡◌, ◌∙◌, ap, sym, subst, refl, ℕ, zero, suc, List, [], length, replicate, None}
 use Rattle.std.specs.Prelude.{slice_index, String}
-use Rattle.std.specs.Bool.{nat_eq}
-use Rattle.std.specs.Map.{lookup}
 use Rattle.std.specs.HashMap.{HashMap}
 use Rattle.std.proofs.lemmas.List.{length-replicate}
 use Rattle.string_cache_core.specs.Map.{Holding, empty_map}
@@ -15,15 +13,14 @@ zeros-at zero i = refl
 zeros-at (suc n) zero = refl
 zeros-at (suc n) (suc i) = zeros-at n i
 
-module _ {Y S T : Type 0} (t : Tables) (lasts : List ℕ) (m : HashMap (String Y) Holding S) (places : HashMap ℕ ℕ T) (zeros : lasts ≡ replicate 4096 zero) (none : m.entries ≡ []) (no_place : places.entries ≡ []) where
-  pub new-kept : IsKept t lasts (pairs_of m.entries) places
-  new-kept = subst (λ (es : List (String Y × Holding)). IsKept t lasts (pairs_of es) places) (sym none) (record {
+module _ {Y S : Type 0} (t : Tables) (lasts : List ℕ) (m : HashMap (String Y) Holding S) (tickets : List ℕ) (zeros : lasts ≡ replicate 4096 zero) (none : m.entries ≡ []) (no_ticket : tickets ≡ []) where
+  pub new-kept : IsKept t lasts (pairs_of m.entries) tickets 0
+  new-kept = subst (λ (es : List (String Y × Holding)). IsKept t lasts (pairs_of es) tickets 0) (sym none) (record {
     buckets = ap length zeros ∙ length-replicate 4096 zero;
     given = λ at pair h. absurd (none_some h);
-    index = record {
-      finds = λ at ticket h. absurd (none_some h);
-      found = λ ticket at h. absurd (none_some (sym (ap (λ (es : List (ℕ × ℕ)). lookup (nat_eq ticket) es) no_place) ∙ h));
-    };
+    short = λ at pair h. absurd (none_some h);
+    index = no_ticket;
+    counted = refl;
   })
 
 module _ {Y S : Type 0} (lasts : List ℕ) (m : HashMap (String Y) Holding S) (zeros : lasts ≡ replicate 4096 zero) (none : m.entries ≡ []) where

@@ -1,11 +1,10 @@
 -- The pairs of a table as a map of texts.
-use Rattle.std.proofs.Common.{◌≡◌, ◌∙◌, ap, sym, subst, refl, arith, ℕ, suc, zero, ◌%◌, ◌<◌, ◌≤◌, ◌⊎◌, inl, inr, true, false, cond, List, [], ◌∷◌, length, map, Option, None, Some, true≢false, is_some, unwrap_or, get_or, set}
+use Rattle.std.proofs.Common.{◌≡◌, ◌∙◌, ap, sym, subst, refl, arith, ℕ, suc, zero, ◌%◌, ◌^◌, ◌<◌, ◌≤◌, ◌⊎◌, inl, inr, true, false, cond, List, [], ◌∷◌, length, map, Option, None, Some, true≢false, is_some, unwrap_or, get_or, set}
 use Rattle.std.specs.Prelude.{slice_get, slice_set, slice_index, String, string_bytes, ◌==◌, if◌then◌else◌}
-use Rattle.std.specs.Bool.{nat_eq}
 use Rattle.std.specs.Map.{lookup, update, keys_of, lookup_key}
 use Rattle.std.specs.Str.{bytes_eq}
 use Rattle.std.specs.String.{string_eq, string_eq_equiv}
-use Rattle.std.specs.HashMap.{HashMap, get, UpdatesBy}
+use Rattle.std.specs.HashMap.{HashMap, UpdatesBy}
 use Rattle.std.specs.List.{IsDistinct}
 use Rattle.std.proofs.lemmas.Bool.{eqb-true, eq-eqb, cases_Bool}
 use Rattle.std.proofs.lemmas.List.{get_or-set_same, get_or-set_other, length-set}
@@ -18,9 +17,10 @@ use Rattle.indexmap.specs.IndexMap.{with_value_at, values, IsUnique}
 use Rattle.indexmap.proofs.CallerLemmas.{updates-with_value_at}
 use Rattle.string_cache_core.specs.Bounds.{Bounds}
 use Rattle.string_cache_core.specs.Map.{Holding, InternMap, with_held, with_last}
-use Rattle.string_cache_core.specs.Kept.{Pair, pairs_of, tickets_of, IsGiven, IsIndex, IsKept, IsSoundMap}
-use Rattle.string_cache_core.specs.Places.{IsFound, IsPlace}
+use Rattle.string_cache_core.specs.Kept.{Pair, pairs_of, tickets_of, IsGiven, IsKept}
+use Rattle.string_cache_core.specs.Places.{IsFound}
 use Rattle.string_cache_core.specs.Tables.{Tables, entry_hash}
+use Rattle.string_cache_core.proofs.KeptBytes.{bytes-set}
 
 pub the_same : {X : Type 0} (x y : X) → Some x ≡ Some y → x ≡ y
 the_same x y e = ap (λ o. unwrap_or o x) e
@@ -150,18 +150,20 @@ value-at (e ∷ es) (suc j) pair h = value-at es j pair h
 abbrev pub holds_now : Holding → ℕ → Holding
 holds_now had holders = record { ticket = had.ticket; holders = holders }
 
-module _ {Y S T : Type 0} (t : Tables) (lasts : List ℕ) (m n : HashMap (String Y) Holding S) (places : HashMap ℕ ℕ T) (at holders : ℕ) where
+module _ {Y S : Type 0} (t : Tables) (lasts : List ℕ) (m n : HashMap (String Y) Holding S) (tickets : List ℕ) (bytes at holders : ℕ) where
   module _ (pair : Pair) (there : slice_get (pairs_of m.entries) at ≡ Some pair)
       (written : (held : Holding) → slice_get (values m) at ≡ Some held → n ≡ with_value_at m at (holds_now held holders)) where
     pub is-written : n ≡ with_value_at m at (holds_now pair.1 holders)
     is-written = written pair.1 (value-at m.entries at pair there)
 
-    pub written-kept : 0 < holders → IsKept t lasts (pairs_of m.entries) places → IsKept t lasts (pairs_of n.entries) places
-    written-kept some kept = subst (λ (k : HashMap (String Y) Holding S). IsKept t lasts (pairs_of k.entries) places) (sym is-written) (record {
+    pub written-kept : 0 < holders → IsKept t lasts (pairs_of m.entries) tickets bytes → IsKept t lasts (pairs_of n.entries) tickets bytes
+    written-kept some kept = subst (λ (k : HashMap (String Y) Holding S). IsKept t lasts (pairs_of k.entries) tickets bytes) (sym is-written) (record {
       buckets = kept.buckets;
       given = all-set (λ pair. IsGiven t (length lasts) (slice_index lasts) pair.0 pair.1) m.entries at (holds_now pair.1 holders)
           (λ own h. given-held t (length lasts) (slice_index lasts) own.0 own.1 (holds_now pair.1 holders) (ap (λ (p : Pair). p.1.ticket) (the_same _ _ (sym h ∙ there))) some (kept.given at own h)) kept.given;
-      index = subst (λ ts. IsIndex ts places) (sym (tickets-set m.entries at pair (holds_now pair.1 holders) refl there)) kept.index;
+      short = all-set (λ pair. length pair.0 < 2 ^ 64) m.entries at (holds_now pair.1 holders) (λ own h. kept.short at own h) kept.short;
+      index = kept.index ∙ sym (tickets-set m.entries at pair (holds_now pair.1 holders) refl there);
+      counted = kept.counted ∙ sym (bytes-set m.entries at (holds_now pair.1 holders));
     })
 
     pub written-map : IsUnique string_eq m → (q : List ℕ)
@@ -186,38 +188,6 @@ pub map-with-last : (lasts : List ℕ) (old new : List Pair) (text : List ℕ) (
     → shows (slice_set lasts bucket serial) new ≡ with_last (with_held (shows lasts old) text w) bucket serial
 map-with-last lasts old new text w bucket serial within h = λ i. record { buckets = length-set lasts bucket serial i; held = λ q. h q i; last = λ other. last-set lasts bucket serial other within i }
 
--- ---- where a ticket stands
-
-module _ {T : Type 0} (t : Tables) (lasts : List ℕ) (pairs : List Pair) (places : HashMap ℕ ℕ T) (kept : IsKept t lasts pairs places) where
-  -- a ticket without a place isn't held
-  pub not-placed : (ticket : ℕ) (text : List ℕ) (holders : ℕ) → lookup (bytes_eq text) pairs ≡ Some (record { ticket = ticket; holders = holders }) → get nat_eq places ticket ≡ None → ⊥
-  not-placed ticket text holders held none =
-      let p = stands pairs text (record { ticket = ticket; holders = holders }) held in
-      none_some (sym none ∙ kept.index.finds p.0 ticket (ticket-there pairs p.0 _ p.1))
-
-  -- the map that the table shows is sound
-  pub sound : IsSoundMap t (shows lasts pairs)
-  sound = record {
-    given = λ text had h. let p = stands pairs text had h in kept.given p.0 (text, had) p.1;
-    apart = λ text other had also h k same.
-        let a = stands pairs text had h in
-        let b = stands pairs other also k in
-        let at : a.0 ≡ b.0 =
-        the_same _ _ (sym (kept.index.finds a.0 had.ticket (ticket-there pairs a.0 _ a.1)) ∙ kept.index.finds b.0 had.ticket (ticket-there pairs b.0 _ b.1 ∙ ap (λ (x : ℕ). Some x) (sym same))) in
-        ap (λ (x : Pair). x.0) (the_same _ _ (sym a.1 ∙ ap (slice_get pairs) at ∙ b.1));
-  }
-
-module _ {Y T : Type 0} (t : Tables) (limits : Bounds) (lasts : List ℕ) (es : List (String Y × Holding)) (places : HashMap ℕ ℕ T) (kept : IsKept t lasts (pairs_of es) places) (distinct : IsDistinct string_eq (keys_of es)) where
-  pub is-placed : (ticket at : ℕ) → get nat_eq places ticket ≡ Some at → IsPlace (record { limits = limits; lasts = lasts; pairs = pairs_of es }) ticket at
-  is-placed ticket at h =
-      let p = pair_of_ticket (pairs_of es) at ticket (kept.index.found ticket at h) in
-      record {
-        text = p.0;
-        holders = p.1;
-        found = record { there = p.2; held = found_at es at (p.0, record { ticket = ticket; holders = p.1 }) distinct p.2 };
-        some = (kept.given at (p.0, record { ticket = ticket; holders = p.1 }) p.2).held;
-      }
-
 -- the key that a text finds has that text
 pub key-of : {Y : Type 0} (es : List (String Y × Holding)) (text : List ℕ) (key : String Y) → lookup_key (λ k. bytes_eq text (string_bytes k)) es ≡ Some key → text ≡ string_bytes key
 key-of es text key h = (bytes_eq-Decides text (string_bytes key)).0 (lookup_key_passes (λ k. bytes_eq text (string_bytes k)) es key h)
@@ -231,14 +201,7 @@ found-is limits lasts es text at key v entry of_key value = record {
   held = lookup-pairs text es ∙ value;
 }
 
--- the same pairs and places, wherever they lie
-pub kept-moved : {T : Type 0} (t : Tables) (lasts : List ℕ) (old new : List Pair) (places moved : HashMap ℕ ℕ T) → new ≡ old → ((q : ℕ) → get nat_eq moved q ≡ get nat_eq places q)
-    → IsKept t lasts old places → IsKept t lasts new moved
-kept-moved {T} t lasts old new places moved same stays kept = subst (λ pairs. IsKept t lasts pairs moved) (sym same) (record {
-  buckets = kept.buckets;
-  given = kept.given;
-  index = record {
-    finds = λ at ticket h. stays ticket ∙ kept.index.finds at ticket h;
-    found = λ ticket at h. kept.index.found ticket at (sym (stays ticket) ∙ h);
-  };
-})
+-- the same pairs and tickets, wherever they lie
+pub kept-moved : (t : Tables) (lasts : List ℕ) (old new : List Pair) (tickets moved : List ℕ) (bytes : ℕ) → new ≡ old → moved ≡ tickets → IsKept t lasts old tickets bytes → IsKept t lasts new moved bytes
+kept-moved t lasts old new tickets moved bytes same stays kept =
+    subst (λ pairs. IsKept t lasts pairs moved bytes) (sym same) (subst (λ ts. IsKept t lasts old ts bytes) (sym stays) kept)

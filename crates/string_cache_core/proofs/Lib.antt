@@ -2,10 +2,10 @@ pub mod BytesValue
 pub mod HeldWords
 pub mod KeptAdding
 pub mod KeptBytes
-pub mod KeptIndex
 pub mod KeptNew
 pub mod KeptPairs
 pub mod KeptTaking
+pub mod KeptTickets
 pub mod Replies
 pub mod Runs
 pub mod SipWords

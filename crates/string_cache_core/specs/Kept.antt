@@ -1,8 +1,7 @@
 -- What a table keeps, and the map that it shows.
-use Rattle.std.specs.Prelude.{◌≡◌, ℕ, ◌%◌, ◌<◌, ◌≤◌, List, map, length, slice_get, slice_index, None, Some, String, string_bytes}
-use Rattle.std.specs.Bool.{nat_eq}
+use Rattle.std.specs.Prelude.{◌≡◌, ℕ, ◌%◌, ◌^◌, ◌<◌, ◌≤◌, List, map, length, slice_get, slice_index, None, Some, String, string_bytes}
+use Rattle.std.specs.List.{sum_by}
 use Rattle.std.specs.Map.{lookup}
-use Rattle.std.specs.HashMap.{HashMap, get}
 use Rattle.std.specs.Str.{bytes_eq}
 use Rattle.string_cache_core.specs.Bounds.{Bounds}
 use Rattle.string_cache_core.specs.Map.{Holding, InternMap}
@@ -39,15 +38,13 @@ pub record IsGiven (t : Tables) (buckets : ℕ) (last : ℕ → ℕ) (text : Lis
   pub is : had.ticket ≡ ticket_of serial (entry_hash t text % buckets)
   pub held : 0 < had.holders
 
--- A ticket leads to the place where it stands, and only a ticket does.
-pub record IsIndex {S : Type 0} (tickets : List ℕ) (places : HashMap ℕ ℕ S) : Type 0 where
-  pub finds : (at ticket : ℕ) → slice_get tickets at ≡ Some ticket → get nat_eq places ticket ≡ Some at
-  pub found : (ticket at : ℕ) → get nat_eq places ticket ≡ Some at → slice_get tickets at ≡ Some ticket
-
-pub record IsKept {S : Type 0} (t : Tables) (lasts : List ℕ) (pairs : List Pair) (places : HashMap ℕ ℕ S) : Type 0 where
+-- The tickets stand in a list of their own, each at the place of its text, and the bytes of the texts are counted.
+pub record IsKept (t : Tables) (lasts : List ℕ) (pairs : List Pair) (tickets : List ℕ) (bytes : ℕ) : Type 0 where
   pub buckets : length lasts ≡ 4096
   pub given : (at : ℕ) (pair : Pair) → slice_get pairs at ≡ Some pair → IsGiven t (length lasts) (slice_index lasts) pair.0 pair.1
-  pub index : IsIndex (tickets_of pairs) places
+  pub short : (at : ℕ) (pair : Pair) → slice_get pairs at ≡ Some pair → length pair.0 < 2 ^ 64
+  pub index : tickets ≡ tickets_of pairs
+  pub counted : bytes ≡ sum_by (λ pair. length pair.0) pairs
 
 -- Each text that the map holds is given, and different texts have different tickets.
 pub record IsSoundMap (t : Tables) (m : InternMap) : Type 0 where

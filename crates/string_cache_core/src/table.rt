@@ -10,14 +10,13 @@ ghost use Rattle.std.specs.List.{IsDistinct, sum_by};
 ghost use Rattle.std.specs.Map.{keys_of};
 ghost use Rattle.std.specs.Str.{bytes_eq};
 ghost use Rattle.string_cache_core.specs.Map.{Holding, InternMap, IsHeldTicket, Intern, MapReply, MayReply, empty_map, with_held, with_last, bucket_in};
-ghost use Rattle.string_cache_core.specs.Table.{Adds, Interns, Clones, Gives, HasOneTextEach, IsHeld, IsTextOf, as_word};
+ghost use Rattle.string_cache_core.specs.Table.{Adds, Interns, Clones, Gives, HasOneTextEach, IsFixedWord, IsHeld, IsTextOf, as_word};
 ghost use Rattle.string_cache_core.specs.Tables.{form_of_text, fixed_word, entry_hash};
 ghost use Rattle.string_cache_core.specs.Word.{ticket_of};
 ghost use Rattle.string_cache_core.specs.declared.static_sets.TextForm.TheVariants.{Dynamic};
 
 mod call;
 mod held;
-mod places;
 #[cfg(test)]
 mod tests;
 
@@ -26,10 +25,8 @@ use crate::static_sets::{StaticAtomSet, TextForm, form_of_text, static_text};
 use crate::word::{Form, Limits, form_of, static_word, ticket_word};
 pub use call::{Call, TableReply};
 use held::{Held, write_holders};
-use indexmap::IndexMap;
-use places::{forget, move_to};
+use indexmap::{IndexMap, IndexSet};
 use std::alloc::Global;
-use std::collections::HashMap;
 use std::marker::{Model, PhantomData};
 
 /// The interned texts of one thread. Each dynamic text that is held has one ticket, and a number of holders.
@@ -38,7 +35,8 @@ pub struct Table<S: StaticAtomSet> {
     limits: Limits,
     lasts: Vec<u64>,
     entries: IndexMap<String, Held>,
-    places: HashMap<u64, usize>,
+    tickets: IndexSet<u64>, // each at the place of its entry
+    bytes: u128, // of all texts together
     alloc: Global,
     statics: PhantomData<S>,
 }
@@ -50,7 +48,7 @@ impl<S: StaticAtomSet> Model for Table<S> {
 
     ghost view = { λ a. record { limits = a.limits; lasts = a.lasts.items; pairs = pairs_of a.entries.entries } };
 
-    ghost invariant = { λ a. IsKept S.tables a.lasts.items (pairs_of a.entries.entries) a.places };
+    ghost invariant = { λ a. IsKept S.tables a.lasts.items (pairs_of a.entries.entries) a.tickets.keys a.bytes };
 }
 
 impl<S: StaticAtomSet> Table<S> {
@@ -76,7 +74,8 @@ impl<S: StaticAtomSet> Table<S> {
             limits,
             lasts: vec![in alloc; 0; 4096]?,
             entries: IndexMap::new(alloc),
-            places: HashMap::new(alloc),
+            tickets: IndexSet::new(alloc),
+            bytes: 0,
             alloc,
             statics: PhantomData,
         })
@@ -94,10 +93,14 @@ impl<S: StaticAtomSet> Table<S> {
         ensures fault { IfErr result IsInternFault }
         ensures err { OnErr result (self.new ≡ self.old) }
     {
+        self.is_sound();
+        if let Some(at) = self.find(text) {
+            return self.add_holder(at); // what is held is dynamic
+        }
         match form_of_text::<S>(text) {
             TextForm::Inline(word) => Ok(word),
             TextForm::Static(index) => Ok(static_word(index)),
-            TextForm::Dynamic(hash) => self.intern_dynamic(text, hash),
+            TextForm::Dynamic(hash) => self.intern_new(text, hash),
         }
     }
 
@@ -119,13 +122,10 @@ impl<S: StaticAtomSet> Table<S> {
     pub fn holds(&self, word: u64) -> bool
         ensures { IsTrue result ↔ IsHeld S.tables (map_of self.now) word }
     {
-        self.is_sound();
-        match form_of(word) {
-            Some(Form::Inline(_)) => true,
-            Some(Form::Static(index)) => static_text::<S>(index).is_some(),
-            Some(Form::Dynamic { .. }) => self.place_of(word).is_some(),
-            None => false,
+        if is_fixed::<S>(word) {
+            return true;
         }
+        self.place_of(word).is_some()
     }
 
     /// One holder more of a word that is held. An inline word and a static word have no number of holders: nothing changes.
@@ -151,14 +151,8 @@ impl<S: StaticAtomSet> Table<S> {
         ensures limits { self.new.limits ≡ self.old.limits }
         ensures gives { Gives S.tables self.old.limits (map_of self.old) word (map_of self.new) }
     {
-        let Some(at) = self.place_of(word) else {
-            return;
-        };
-        let (_, holders) = self.held_at(at);
-        if holders == 1 {
-            self.take_out(at);
-        } else {
-            self.set_holders(at, holders - 1);
+        if let Some(at) = self.place_of(word) {
+            self.give_at(at);
         }
     }
 
@@ -170,15 +164,11 @@ impl<S: StaticAtomSet> Table<S> {
         self.entries.len() // each text once
     }
 
-    /// How many bytes the dynamic texts that are held have. It looks at each of them.
+    /// How many bytes the dynamic texts that are held have.
     pub fn text_bytes(&self) -> u128
         ensures { result ≡ sum_by (λ pair. length pair.0) self.now.pairs }
     {
-        let mut bytes = 0u128;
-        for at in 0..self.entries() {
-            bytes += self.bytes_at(at) as u128;
-        }
-        bytes
+        self.bytes // counted as texts come and go
     }
 
     /// Makes the calls in order, with a reply for each. `Memory` where there is no place for the replies; then no call was
@@ -206,13 +196,17 @@ impl<S: StaticAtomSet> Table<S> {
     fn is_sound(&self)
         ensures { IsSoundMap S.tables (map_of self.now) }
     {
-        let _ = &self.places;
+        let _ = self.tickets.len(); // each ticket once
     }
 
-    /// Where the text stands.
+    /// Where the text stands. It isn't looked for where it is too short to be dynamic.
     fn find(&self, text: &str) -> Option<usize>
         ensures { MatchOption result ((map_of self.now).held text.now ≡ None) (λ at. (had : Holding) × IsFound self.now text.now at had) }
     {
+        self.is_sound();
+        if text.len() <= 7 {
+            return None;
+        }
         let (at, _, _) = self.entries.get_full(text)?;
         Some(at)
     }
@@ -222,28 +216,18 @@ impl<S: StaticAtomSet> Table<S> {
         ensures { MatchOption result (¬ (IsHeldTicket (map_of self.now) ticket)) (λ at. IsPlace self.now ticket at) }
     {
         let _ = self.entries.len();
-        let at = self.places.get(&ticket)?;
-        Some(*at)
+        let (at, _) = self.tickets.get_full(&ticket)?;
+        Some(at)
     }
 
     /// The ticket and the holders of the text at a place.
     fn held_at(&self, at: usize) -> (u64, u64)
         requires { at < length self.now.pairs }
-        ensures { (pair : Pair) → slice_get self.now.pairs at ≡ Some pair → pair.1 ≡ record { ticket = result.0; holders = result.1 } }
+        ensures pair { (pair : Pair) → slice_get self.now.pairs at ≡ Some pair → pair.1 ≡ record { ticket = result.0; holders = result.1 } }
+        ensures held { 0 < result.1 }
     {
         let held = &self.entries[at];
         (held.ticket(), held.holders())
-    }
-
-    /// How many bytes the text at a place has.
-    fn bytes_at(&self, at: usize) -> usize
-        requires { at < length self.now.pairs }
-        ensures { (pair : Pair) → slice_get self.now.pairs at ≡ Some pair → result ≡ length pair.0 }
-    {
-        let Some((text, _)) = self.entries.get_index(at) else {
-            unreachable!()
-        };
-        text.as_str().len()
     }
 
     /// The text of a ticket.
@@ -295,6 +279,20 @@ impl<S: StaticAtomSet> Table<S> {
         Ok(ticket)
     }
 
+    /// One holder less of the text at a place.
+    fn give_at(&mut self, at: usize)
+        requires { at < length self.old.pairs }
+        ensures limits { self.new.limits ≡ self.old.limits }
+        ensures gives { (ticket : ℕ) → IsPlace self.old ticket at → Gives S.tables self.old.limits (map_of self.old) ticket (map_of self.new) }
+    {
+        let (_, holders) = self.held_at(at);
+        if holders == 1 {
+            self.take_out(at);
+        } else {
+            self.set_holders(at, holders - 1);
+        }
+    }
+
     /// Adds a text that isn't held, with its bucket's next ticket.
     fn add(&mut self, text: &str, bucket: u16, serial: u64) -> Result<u64, Fault>
         requires dynamic { fixed_word (form_of_text S.tables text.now) ≡ None }
@@ -309,48 +307,45 @@ impl<S: StaticAtomSet> Table<S> {
         ensures fault { IfErr result (λ fault. fault ≡ Memory) }
     {
         self.entries.reserve(1)?;
-        self.places.reserve(1)?;
+        self.tickets.reserve(1)?;
+        let _ = self.entries.len(); // below 2^63
         let key = String::from_str(self.alloc, text)?;
         let ticket = ticket_word(serial, bucket);
-        let at = self.entries.len();
         let Ok(_) = self.entries.insert(key, Held::new(ticket)) else {
             unreachable!()
         };
-        let Ok(_) = self.places.insert(ticket, at) else {
+        let Ok(_) = self.tickets.insert(ticket) else {
             unreachable!()
         };
+        self.bytes += text.len() as u128;
         self.lasts[bucket as usize] = serial;
         Ok(ticket)
     }
 
-    /// Takes the text at a place out. The last one comes in its place.
+    /// Takes the text at a place out. The last one comes in its place, and so does its ticket.
     fn take_out(&mut self, at: usize)
         requires { at < length self.old.pairs }
         ensures limits { self.new.limits ≡ self.old.limits }
         ensures map { (text : List ℕ) (had : Holding) → slice_get self.old.pairs at ≡ Some (text, had) → map_of self.new ≡ with_held (map_of self.old) text None }
     {
-        let ticket = self.entries[at].ticket();
-        let Some(_) = self.entries.swap_remove_index(at) else {
+        let Some((text, _)) = self.entries.swap_remove_index(at) else {
             unreachable!()
         };
-        forget(&mut self.places, ticket);
-        if at < self.entries.len() {
-            let moved = self.entries[at].ticket();
-            move_to(&mut self.places, moved, at);
-        }
+        let Some(_) = self.tickets.swap_remove_index(at) else {
+            unreachable!()
+        };
+        self.bytes -= text.len() as u128;
     }
 
-    /// Interns a dynamic text with this hash.
-    fn intern_dynamic(&mut self, text: &str, hash: u64) -> Result<u64, Fault>
-        requires { form_of_text S.tables text.now ≡ Dynamic hash }
+    /// Interns a dynamic text with this hash, which isn't held.
+    fn intern_new(&mut self, text: &str, hash: u64) -> Result<u64, Fault>
+        requires dynamic { form_of_text S.tables text.now ≡ Dynamic hash }
+        requires absent { (map_of self.old).held text.now ≡ None }
         ensures limits { self.new.limits ≡ self.old.limits }
         ensures replies { (reply : MapReply) × MayReply S.tables self.old.limits (map_of self.old) (Intern text.now) reply (map_of self.new) × (result ≡ as_word reply) }
         ensures fault { IfErr result IsInternFault }
         ensures err { OnErr result (self.new ≡ self.old) }
     {
-        if let Some(at) = self.find(text) {
-            return self.add_holder(at);
-        }
         let (bucket, last) = self.bucket_of(hash);
         if last >= self.limits.serials() {
             return Err(Fault::TicketsSpent);
@@ -358,6 +353,7 @@ impl<S: StaticAtomSet> Table<S> {
         self.add(text, bucket, last + 1)
     }
 
+    /// Makes a call. A ticket is looked up once.
     fn call(&mut self, call: &Call) -> TableReply
         ensures limits { self.new.limits ≡ self.old.limits }
         ensures answers { Answers S.tables self.old.limits (map_of self.old) call.now result (map_of self.new) }
@@ -365,18 +361,36 @@ impl<S: StaticAtomSet> Table<S> {
         match call {
             Call::Intern(text) => TableReply::of(self.intern(text.as_str())),
             Call::Clone(word) => {
-                if !self.holds(*word) {
+                if let Some(at) = self.place_of(*word) {
+                    return TableReply::of(self.add_holder(at));
+                }
+                if !is_fixed::<S>(*word) {
                     return TableReply::NotHeld;
                 }
-                TableReply::of(self.clone_word(*word))
+                TableReply::Word(*word)
             }
             Call::Give(word) => {
-                if !self.holds(*word) {
+                if let Some(at) = self.place_of(*word) {
+                    self.give_at(at);
+                    return TableReply::Given;
+                }
+                if !is_fixed::<S>(*word) {
                     return TableReply::NotHeld;
                 }
-                self.give(*word);
                 TableReply::Given
             }
         }
+    }
+}
+
+/// Whether it is the word of an inline or of a static text.
+fn is_fixed<S: StaticAtomSet>(word: u64) -> bool
+    ensures { IsTrue result ↔ IsFixedWord S.tables word }
+{
+    match form_of(word) {
+        Some(Form::Inline(_)) => true,
+        Some(Form::Static(index)) => static_text::<S>(index).is_some(),
+        Some(Form::Dynamic { .. }) => false,
+        None => false,
     }
 }

@@ -1,29 +1,30 @@
-use Rattle.std.proofs.Common.{◌≡◌, ◌∙◌, ap, sym, subst, arith, ℕ, Some, length, cond, ◌%◌, ◌+◌}
-use Rattle.std.specs.Prelude.{slice_set}
+use Rattle.std.proofs.Common.{◌≡◌, ◌∙◌, ap, sym, subst, arith, ℕ, Some, length, ◌%◌, ◌+◌}
+use Rattle.std.specs.Prelude.{slice_set, string_bytes}
 use Rattle.std.specs.Bool.{nat_eq}
 use Rattle.std.specs.Map.{lookup}
-use Rattle.std.specs.HashMap.{get}
 use Rattle.std.specs.Str.{bytes_eq}
 use Rattle.std.specs.String.{string_eq}
 use Rattle.std.proofs.lemmas.List.{length-map}
 use Rattle.indexmap.specs.IndexMap.{insert_entry}
+use Rattle.indexmap.specs.IndexSet.{insert_key}
 use Rattle.string_cache_core.specs.Map.{Holding, with_held, with_last}
 use Rattle.string_cache_core.specs.Tables.{entry_hash}
 use Rattle.string_cache_core.specs.Word.{ticket_of}
-use Rattle.string_cache_core.specs.Kept.{Kept, pairs_of, map_of, IsKept}
+use Rattle.string_cache_core.specs.Kept.{Kept, Pair, pairs_of, map_of, IsKept}
+use Rattle.string_cache_core.proofs.KeptBytes.{bytes-fit, text-fits}
 use Rattle.string_cache_core.proofs.KeptPairs.{map-with-last, kept-moved}
 use Rattle.string_cache_core.proofs.KeptAdding.{pairs-pushed, kept-added, added-map}
 use Rattle.string_cache_core.proofs.table.Table.add.Goals as goal
 
 pub invariant_of-self-in_err-reserve-2 : goal.invariant_of-self-in_err-reserve-2
 invariant_of-self-in_err-reserve-2 g c =
-    kept-moved g.S.StaticAtomSet.tables c.self.inside.lasts.items (pairs_of c.self.inside.entries.entries) (pairs_of c.reserve.new.self.entries) c.self.inside.places c.reserve-2.new.self
-    (ap pairs_of c.in_ok-reserve.ensures.entries) c.in_err-reserve-2.ensures.entries.2 c.self.invariant
+    kept-moved g.S.StaticAtomSet.tables c.self.inside.lasts.items (pairs_of c.self.inside.entries.entries) (pairs_of c.reserve.new.self.entries) c.self.inside.tickets.keys c.reserve-2.new.self.keys c.self.inside.bytes
+    (ap pairs_of c.in_ok-reserve.ensures.entries) c.in_err-reserve-2.ensures.keys c.self.invariant
 
 pub invariant_of-self-in_err-key : goal.invariant_of-self-in_err-key
 invariant_of-self-in_err-key g c =
-    kept-moved g.S.StaticAtomSet.tables c.self.inside.lasts.items (pairs_of c.self.inside.entries.entries) (pairs_of c.reserve.new.self.entries) c.self.inside.places c.reserve-2.new.self
-    (ap pairs_of c.in_ok-reserve.ensures.entries) c.in_ok-reserve-2.ensures.entries.2 c.self.invariant
+    kept-moved g.S.StaticAtomSet.tables c.self.inside.lasts.items (pairs_of c.self.inside.entries.entries) (pairs_of c.reserve.new.self.entries) c.self.inside.tickets.keys c.reserve-2.new.self.keys c.self.inside.bytes
+    (ap pairs_of c.in_ok-reserve.ensures.entries) c.in_ok-reserve-2.ensures.keys c.self.invariant
 
 pub ticket_word-ticket-requires : goal.ticket_word-ticket-requires
 ticket_word-ticket-requires g c =
@@ -42,16 +43,29 @@ invariant_of-self-2 g c =
     let absent = ap (λ (kept : Kept). lookup (bytes_eq c.args.text.now) kept.pairs) c.self.view_is ∙ c.requires.absent in
     let pushed = pairs-pushed c.self.inside.entries c.reserve.new.self c.insert.new.self c.in_ok-key.key c.args.text.now first
     c.in_ok-reserve.ensures.entries c.in_ok-key.ensures.ok absent (c.in-Ok.ensures.entries ∙ ap (insert_entry string_eq c.reserve.new.self.entries c.in_ok-key.key) is) in
-    subst (λ pairs. IsKept t (slice_set c.self.inside.lasts.items c.args.bucket c.args.serial) pairs c.insert-2.new.self) (sym pushed)
-    (kept-added t c.self.inside.lasts.items (pairs_of c.self.inside.entries.entries) c.self.inside.places c.reserve-2.new.self c.insert-2.new.self c.args.text.now c.args.bucket c.args.serial c.len-at.result
+    let small = text-fits c.in_ok-key.key c.args.text.now c.in_ok-key.ensures.ok in
+    let inserted = c.in-Ok-insert.ensures.keys ∙ ap (λ ks. insert_key nat_eq ks c.ticket_word-ticket.result) c.in_ok-reserve-2.ensures.keys
+    ∙ ap (insert_key nat_eq c.self.inside.tickets.keys) c.ticket_word-ticket.ensures in
+    subst (λ pairs. IsKept t (slice_set c.self.inside.lasts.items c.args.bucket c.args.serial) pairs c.insert-2.new.self.keys (c.self.inside.bytes + length c.args.text.now)) (sym pushed)
+    (kept-added t c.self.inside.lasts.items (pairs_of c.self.inside.entries.entries) c.self.inside.tickets.keys c.insert-2.new.self.keys c.self.inside.bytes c.args.text.now c.args.bucket c.args.serial
     c.requires.dynamic
     (c.requires.bucket ∙ ap (λ (kept : Kept). entry_hash t c.args.text.now % length kept.lasts) (sym c.self.view_is))
     c.requires.range
     (c.requires.serial ∙ ap (λ (kept : Kept). (map_of kept).last c.args.bucket + 1) (sym c.self.view_is))
-    (c.len-at.ensures.len ∙ ap length c.in_ok-reserve.ensures.entries ∙ sym (length-map c.self.inside.entries.entries _))
-    c.in_ok-reserve-2.ensures.entries.2
-    (λ q. c.in-Ok-insert.ensures.updates.0 q ∙ ap (λ (t : ℕ). cond (nat_eq t q) (Some c.len-at.result) (get nat_eq c.reserve-2.new.self q)) c.ticket_word-ticket.ensures)
+    small
+    inserted
     c.self.invariant)
+
+pub overflow_add-self : goal.overflow_add-self
+overflow_add-self g c =
+    let fit = bytes-fit (pairs_of c.self.inside.entries.entries) c.self.invariant.short in
+    let counted = c.self.invariant.counted in
+    let pairs = length-map {B = Pair} c.self.inside.entries.entries (λ e. (string_bytes e.0, e.1)) in
+    let few = c.len.ensures.small in
+    let len = c.len.ensures.len in
+    let reserved = ap length c.in_ok-reserve.ensures.entries in
+    let small = text-fits c.in_ok-key.key c.args.text.now c.in_ok-key.ensures.ok in
+    omega (arith, fit, counted, pairs, few, len, reserved, small)
 
 pub returns-clause-ok : goal.returns-clause-ok
 returns-clause-ok g c =

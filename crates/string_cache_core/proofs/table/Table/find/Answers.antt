@@ -1,11 +1,16 @@
-use Rattle.std.proofs.Common.{◌≡◌, ◌∙◌, ap, sym, subst, None, rules}
+use Rattle.std.proofs.Common.{◌≡◌, ◌∙◌, ap, sym, subst, arith, None, rules}
 use Rattle.std.specs.Map.{lookup}
 use Rattle.std.specs.Str.{bytes_eq}
 use Rattle.string_cache_core.specs.Map.{Holding}
-use Rattle.string_cache_core.specs.Kept.{Kept}
+use Rattle.string_cache_core.specs.Kept.{Kept, map_of}
 use Rattle.string_cache_core.specs.Places.{IsFound}
+use Rattle.string_cache_core.proofs.HeldWords.{short-not-held}
 use Rattle.string_cache_core.proofs.KeptPairs.{lookup-pairs, found-is}
 use Rattle.string_cache_core.proofs.table.Table.find.Goals as goal
+
+pub returns-then-text-le7 : goal.returns-then-text-le7
+returns-then-text-le7 g c =
+    short-not-held g.S.StaticAtomSet.tables (map_of c.args.self.now) c.is_sound.ensures c.args.text.now (let test = c.if-text-le7.true in omega (arith, test))
 
 pub returns-in_err-at : goal.returns-in_err-at
 returns-in_err-at g c =

@@ -1,17 +1,20 @@
-use Rattle.std.proofs.Common.{sym, subst, rules}
+use Rattle.std.proofs.Common.{◌∙◌, ap, sym, subst, rules, ℕ, Some}
 use Rattle.string_cache_core.specs.Map.{IsHeldTicket}
 use Rattle.string_cache_core.specs.Kept.{Kept, map_of}
 use Rattle.string_cache_core.specs.Places.{IsPlace}
-use Rattle.string_cache_core.proofs.KeptPairs.{not-placed, is-placed}
+use Rattle.string_cache_core.proofs.KeptTickets.{found-ticket, not-placed, is-placed}
 use Rattle.string_cache_core.proofs.table.Table.place_of.Goals as goal
 
 pub returns-in_err-at : goal.returns-in_err-at
 returns-in_err-at g c =
     let no_place : IsHeldTicket (map_of c.args.self.now) c.args.ticket → ⊥ =
     subst (λ (kept : Kept). IsHeldTicket (map_of kept) c.args.ticket → ⊥) c.self.view_is
-    (λ held. not-placed _ _ _ c.self.inside.places c.self.invariant c.args.ticket held.text held.holders held.held (sym c.in_err-at.ensures.value)) in
+    (λ held. not-placed _ _ _ c.self.inside.tickets.keys c.self.inside.bytes c.self.invariant c.args.ticket held.text held.holders held.held (sym c.in_err-at.ensures.found)) in
     search (rules, no_place)
 
 pub returns : goal.returns
-returns g c = subst (λ (kept : Kept). IsPlace kept c.args.ticket c.in_ok-at.at.now) c.self.view_is
-    (is-placed g.S.StaticAtomSet.tables c.self.inside.limits c.self.inside.lasts.items c.self.inside.entries.entries c.self.inside.places c.self.invariant c.len.ensures.unique c.args.ticket c.in_ok-at.at.now (sym c.in_ok-at.ensures.value))
+returns g c =
+    let stored = c.in_ok-at.field-0-1.now in
+    let there = c.in_ok-at.ensures.stored ∙ ap (λ (n : ℕ). Some n) (found-ticket c.self.inside.tickets.keys c.args.ticket stored (sym c.in_ok-at.ensures.key)) in
+    subst (λ (kept : Kept). IsPlace kept c.args.ticket c.in_ok-at.at) c.self.view_is
+    (is-placed g.S.StaticAtomSet.tables c.self.inside.limits c.self.inside.lasts.items c.self.inside.entries.entries c.self.inside.tickets.keys c.self.inside.bytes c.self.invariant c.len.ensures.unique c.args.ticket c.in_ok-at.at there)

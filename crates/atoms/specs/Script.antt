@@ -1,0 +1,105 @@
+-- The script of steps that `replay` reads: its lines, and what each spells.
+use Rattle.std.specs.Prelude.{◌≡◌, ℕ, ◌+◌, ◌-◌, ◌^◌, ◌<◌, ◌≤◌, ◌==◌, ◌⊎◌, true, false, if◌then◌else◌, List, [], ◌∷◌, ◌++◌, length, codes, decimal, string_bytes}
+use Rattle.string_cache.specs.Bounds.{Bounds, AreBounds}
+use Rattle.string_cache.specs.declared.steps.Step.{Step}
+use Rattle.string_cache.specs.declared.steps.Step.TheVariants.{TakeIntern, TakeSweep, Add, Link, Clone, Give, Unlink, Free, Leave}
+use Rattle.string_cache.specs.Runs.{Script}
+use Rattle.atoms.specs.Words.{cons_first}
+
+-- the lines: a line feed stands after each, which the last may lack
+abbrev pub script_lines : List ℕ → List (List ℕ)
+script_lines [] = []
+script_lines (b ∷ bs) = if b == 10 then [] ∷ script_lines bs else cons_first b (script_lines bs)
+
+-- ---- what a line spells
+
+-- the words of a step
+abbrev pub step_words : Step → List ℕ
+step_words (TakeIntern text) = codes "intern " ++ string_bytes text
+step_words (TakeSweep bucket) = codes "sweep " ++ decimal bucket
+step_words (Add e) = codes "add e" ++ decimal e
+step_words (Link true) = codes "link"
+step_words (Link false) = codes "link noroom"
+step_words (Clone e) = codes "clone e" ++ decimal e
+step_words (Give e) = codes "give e" ++ decimal e
+step_words (Unlink e) = codes "unlink e" ++ decimal e
+step_words (Free e) = codes "free e" ++ decimal e
+step_words Leave = codes "leave"
+
+-- the line of a party's step
+abbrev pub step_line : ℕ × Step → List ℕ
+step_line s = decimal s.0 ++ (codes " " ++ step_words s.1)
+
+-- entries are numbered from 1
+abbrev pub IsEntryNumber : ℕ → Type 0
+IsEntryNumber e = (1 ≤ e) × (e < 2 ^ 64)
+
+-- a text isn't empty, and a number is in its range
+abbrev pub HasWords : Step → Type 0
+HasWords (TakeIntern text) = 0 < length (string_bytes text)
+HasWords (TakeSweep bucket) = bucket < 2 ^ 32
+HasWords (Add e) = IsEntryNumber e
+HasWords (Link room) = Unit {0}
+HasWords (Clone e) = IsEntryNumber e
+HasWords (Give e) = IsEntryNumber e
+HasWords (Unlink e) = IsEntryNumber e
+HasWords (Free e) = IsEntryNumber e
+HasWords Leave = Unit {0}
+
+-- parties are numbered from 1
+abbrev pub HasLine : ℕ × Step → Type 0
+HasLine s = (1 ≤ s.0) × (s.0 < 2 ^ 32) × HasWords s.1
+
+-- the line spells the step
+abbrev pub Spells : List ℕ → ℕ × Step → Type 0
+Spells line s = HasLine s × (line ≡ step_line s)
+
+-- the line of limits
+abbrev pub limits_line : Bounds → List ℕ
+limits_line limits = codes "limits " ++ (decimal limits.holders ++ (codes " " ++ decimal limits.serials))
+
+-- the line spells limits
+abbrev pub SpellsLimits : List ℕ → Bounds → Type 0
+SpellsLimits line limits = AreBounds limits.holders limits.serials × (line ≡ limits_line limits)
+
+-- ---- what the lines spell
+
+-- one step a line, in order
+abbrev pub SpellSteps : List (List ℕ) → Script → Type 0
+SpellSteps [] [] = Unit {0}
+SpellSteps [] (s ∷ steps) = ⊥
+SpellSteps (line ∷ lines) [] = ⊥
+SpellSteps (line ∷ lines) (s ∷ steps) = Spells line s × SpellSteps lines steps
+
+-- without a line of limits, both are at their greatest
+abbrev pub greatest : Bounds
+greatest = record { holders = 2 ^ 63 - 1; serials = 2 ^ 50 - 1 }
+
+-- The lines spell limits and steps: the limits in the first line, or in none.
+abbrev pub SpellScript : List (List ℕ) → Bounds → Script → Type 0
+SpellScript lines limits steps = ((limits ≡ greatest) × SpellSteps lines steps)
+    ⊎ ((line : List ℕ) × (rest : List (List ℕ)) × (lines ≡ line ∷ rest) × SpellsLimits line limits × SpellSteps rest steps)
+
+-- Line n is the first of these lines that spells no step, where the first of them is line `passed + 1`.
+pub record StopsAfter (lines : List (List ℕ)) (passed n : ℕ) : Type 0 where
+  pub before : List (List ℕ)
+  pub line : List ℕ
+  pub after : List (List ℕ)
+  pub is : lines ≡ before ++ (line ∷ after)
+  pub number : n ≡ passed + length before + 1
+  pub steps : Script
+  pub good : SpellSteps before steps
+  pub bad : (s : ℕ × Step) → Spells line s → ⊥
+
+-- Line n, counted from 1, is the first that isn't of the grammar where it stands: the lines before it spell a script,
+-- and with this line they spell none.
+pub record IsFirstBadLine (lines : List (List ℕ)) (n : ℕ) : Type 0 where
+  pub before : List (List ℕ)
+  pub line : List ℕ
+  pub after : List (List ℕ)
+  pub is : lines ≡ before ++ (line ∷ after)
+  pub number : n ≡ length before + 1
+  pub limits : Bounds
+  pub steps : Script
+  pub good : SpellScript before limits steps
+  pub bad : (l : Bounds) (s : Script) → SpellScript (before ++ (line ∷ [])) l s → ⊥

@@ -1,0 +1,99 @@
+// A script of interleaved steps, and the replies to them.
+#![tactic(auto)]
+
+ghost use Rattle.std.specs.Prelude.{◌≡◌, ◌≢◌, ℕ, List, false, true, string_bytes, IfOk, IfErr, OnOk, OnErr, IfSome};
+ghost use Rattle.std.specs.Str.{IsUtf8};
+ghost use Rattle.std.specs.Io.KnownBytes.{Appends, IsAtEnd, Keeps};
+ghost use Rattle.string_cache.specs.Tables.{empty_tables};
+ghost use Rattle.atoms.specs.Faults.{IsReadingFault, IsParsingFault, IsReplayFault};
+ghost use Rattle.atoms.specs.Script.{script_lines, IsFirstBadLine};
+ghost use Rattle.atoms.specs.Replay.{IsOutput, IsReplay, BeginsReplay};
+
+mod line;
+mod print;
+mod script;
+#[cfg(test)]
+mod tests;
+
+use crate::faults::AppFault;
+use crate::streams::{Sink, Source, read_all, write_whole};
+use print::{append_holders, append_replies};
+use script::read_script;
+use std::alloc::Global;
+use std::str;
+use string_cache::EmptyStaticAtomSet;
+use string_cache::steps::{Step, World};
+use string_cache::word::Limits;
+
+/// Makes the steps in a world of their own: the lines of the replies, and of what is held then.
+fn output_of(alloc: Global, limits: Limits, steps: Vec<(u32, Step)>) -> Result<String, AppFault>
+    ensures ok { IfOk result (λ out. IsOutput empty_tables limits steps.items (string_bytes out)) }
+    ensures fault { IfErr result (IsParsingFault (λ n. ⊥)) }
+{
+    let mut world: World<EmptyStaticAtomSet> = World::new(alloc, limits)?;
+    let mut replies = Vec::new(alloc);
+    world.run(&steps, &mut replies)?;
+    let most = steps.len() as u64;
+    drop(steps);
+    let mut out = String::new(alloc);
+    append_replies(&mut out, &replies)?;
+    append_holders(&mut out, &world, most)?;
+    Ok(out)
+}
+
+/// The output of a script. `Script` where it isn't one.
+fn replay_text(alloc: Global, text: &str) -> Result<String, AppFault>
+    ensures ok { IfOk result (λ out. IsReplay empty_tables text.now (string_bytes out)) }
+    ensures fault { IfErr result (IsParsingFault (λ n. IsFirstBadLine (script_lines text.now) n)) }
+{
+    let (limits, steps) = read_script(alloc, text)?;
+    output_of(alloc, limits, steps)
+}
+
+/// Runs the script that the reader gives, over a table that nothing was interned in: a line for each step's reply, and
+/// then one for each entry that is held.
+///
+/// Nothing is written before the whole script is run. `Read`, `Text`, input that isn't UTF-8, `Script`, the first line
+/// that isn't of the grammar, and `Intern(Memory)` therefore leave the writer as it was; after `Write` it has a beginning
+/// of the output.
+pub fn replay<S: Source, K: Sink>(
+    alloc: Global,
+    reader: &mut S,
+    writer: &mut K,
+) -> Result<(), AppFault>
+    requires reader { S.has_failed reader.old ≡ false }
+    requires writer { K.has_failed writer.old ≡ false }
+
+    // The reader has ended, and what it gave is a script, whose output is written.
+    ensures ended { OnOk result (S.has_ended reader.new ≡ true × IsAtEnd (S.remaining reader.new)) }
+    ensures lines { OnOk result (IfSome (S.remaining reader.old) (λ bytes.
+        (output : List ℕ) × IsReplay empty_tables bytes output × Appends (K.contents writer.old) (K.contents writer.new) output)) }
+
+    // After a fault at most a beginning of it, and after any other than Write nothing.
+    ensures beginning { OnErr result (IfSome (S.remaining reader.old) (λ bytes.
+        BeginsReplay empty_tables bytes (K.contents writer.old) (K.contents writer.new))) }
+    ensures unwritten { IfErr result (λ fault. fault ≢ AppFault.Write → Keeps (K.contents writer.old) (K.contents writer.new)) }
+
+    // When each fault comes.
+    ensures fault { IfErr result IsReplayFault }
+    ensures reading { IfErr result (λ fault. S.has_ended reader.new ≡ false → IsReadingFault fault) }
+    ensures text { result ≡ Err AppFault.Text → S.has_ended reader.new ≡ true
+        × IfSome (S.remaining reader.old) (λ bytes. ¬ (IsUtf8 bytes)) }
+    ensures script { (n : ℕ) → result ≡ Err (AppFault.Script n) → S.has_ended reader.new ≡ true
+        × IfSome (S.remaining reader.old) (λ bytes. IsFirstBadLine (script_lines bytes) n) }
+    ensures read { result ≡ Err AppFault.Read → S.has_failed reader.new ≡ true }
+    ensures write { result ≡ Err AppFault.Write → K.has_failed writer.new ≡ true
+        × IfSome (S.remaining reader.old) (λ bytes. (output : List ℕ) × IsReplay empty_tables bytes output) }
+{
+    let bytes = read_all(alloc, reader)?;
+    let Ok(text) = str::from_utf8(&bytes) else {
+        return Err(AppFault::Text);
+    };
+    let output = replay_text(alloc, text)?;
+    write_whole(writer, output.as_bytes())
+}
+
+/// Does nothing. Its contract is that a script has one output.
+pub fn one_output()
+    ensures { (bytes one other : List ℕ) → IsReplay empty_tables bytes one → IsReplay empty_tables bytes other → one ≡ other }
+{}

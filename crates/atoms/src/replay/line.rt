@@ -1,0 +1,166 @@
+// One line of a script, and the step or the limits that it spells.
+#![tactic(auto)]
+
+ghost use Rattle.std.specs.Prelude.{◌≡◌, ◌≢◌, ℕ, ◌^◌, ◌<◌, ◌≤◌, ◌++◌, List, length, slice_index, codes, decimal, string_bytes, MatchOption, IfOk};
+ghost use Rattle.std.specs.Bool.{OnTrue, OnFalse};
+ghost use Rattle.string_cache.specs.Bounds.{Bounds};
+ghost use Rattle.string_cache.specs.declared.steps.Step.{Step};
+ghost use Rattle.atoms.specs.Script.{HasWords, step_words, HasLine, IsEntryNumber, Spells, SpellsLimits};
+
+use std::alloc::{AllocError, Global};
+use string_cache::steps::Step;
+use string_cache::word::Limits;
+
+/// Whether neither a plus nor a zero too many stands in front of what may be a number.
+fn has_plain_front(bytes: &[u8]) -> bool
+    ensures plain { OnTrue result ((slice_index bytes.now 0 ≢ 43) × (slice_index bytes.now 0 ≡ 48 → length bytes.now ≤ 1)) }
+    ensures other { OnFalse result ((n : ℕ) → n < 2 ^ 64 → bytes.now ≢ decimal n) }
+{
+    if bytes.is_empty() {
+        return true;
+    }
+    let first = bytes[0];
+    if first == b'+' {
+        return false;
+    }
+    first != b'0' || bytes.len() == 1
+}
+
+/// The number that a text spells: decimal, without sign or leading zero, and below 2^64.
+fn number_of(text: &str) -> Option<u64>
+    ensures { MatchOption result ((n : ℕ) → n < 2 ^ 64 → text.now ≢ decimal n)
+        (λ n. text.now ≡ decimal n) }
+{
+    if !has_plain_front(text.as_bytes()) {
+        return None;
+    }
+    text.parse::<u64>().ok()
+}
+
+/// The number that stands behind `words`, to the end of the text.
+fn number_after(text: &str, words: &str) -> Option<u64>
+    ensures { MatchOption result ((n : ℕ) → n < 2 ^ 64 → text.now ≢ words.now ++ decimal n)
+        (λ n. text.now ≡ words.now ++ decimal n) }
+{
+    number_of(text.strip_prefix(words)?)
+}
+
+/// The number behind `words` as that of an entry, which is from 1.
+fn entry_after(text: &str, words: &str) -> Option<u64>
+    ensures { MatchOption result ((e : ℕ) → IsEntryNumber e → text.now ≢ words.now ++ decimal e)
+        (λ e. IsEntryNumber e × (text.now ≡ words.now ++ decimal e)) }
+{
+    let e = number_after(text, words)?;
+    if e == 0 { None } else { Some(e) }
+}
+
+/// The bucket to sweep.
+fn swept_bucket(text: &str) -> Option<u32>
+    ensures { MatchOption result ((b : ℕ) → b < 2 ^ 32 → text.now ≢ codes "sweep " ++ decimal b)
+        (λ b. text.now ≡ codes "sweep " ++ decimal b) }
+{
+    let bucket = number_after(text, "sweep ")?;
+    u32::try_from(bucket).ok()
+}
+
+/// The text to intern, which is the rest of the line as it stands.
+fn interned_text(text: &str) -> Option<&str>
+    ensures { MatchOption result ((t : List ℕ) → 0 < length t → text.now ≢ codes "intern " ++ t)
+        (λ t. (0 < length t.now) × (text.now ≡ codes "intern " ++ t.now)) }
+{
+    let wanted = text.strip_prefix("intern ")?;
+    if wanted.is_empty() {
+        None
+    } else {
+        Some(wanted)
+    }
+}
+
+/// The step that the words behind the party's number spell.
+fn step_of(alloc: Global, words: &str) -> Result<Option<Step>, AllocError>
+    ensures { IfOk result (λ found. MatchOption found
+        ((s : Step) → HasWords s → words.now ≢ step_words s)
+        (λ s. HasWords s × (words.now ≡ step_words s))) }
+{
+    let step = if let Some(text) = interned_text(words) {
+        Step::TakeIntern(String::from_str(alloc, text)?)
+    } else if let Some(bucket) = swept_bucket(words) {
+        Step::TakeSweep(bucket)
+    } else if let Some(e) = entry_after(words, "add e") {
+        Step::Add(e)
+    } else if words == "link" {
+        Step::Link(true)
+    } else if words == "link noroom" {
+        Step::Link(false)
+    } else if let Some(e) = entry_after(words, "clone e") {
+        Step::Clone(e)
+    } else if let Some(e) = entry_after(words, "give e") {
+        Step::Give(e)
+    } else if let Some(e) = entry_after(words, "unlink e") {
+        Step::Unlink(e)
+    } else if let Some(e) = entry_after(words, "free e") {
+        Step::Free(e)
+    } else if words == "leave" {
+        Step::Leave
+    } else {
+        return Ok(None);
+    };
+    Ok(Some(step))
+}
+
+/// A number, and what stands behind the space after it.
+fn number_and_rest(text: &str) -> Option<(u64, &str)>
+    ensures { MatchOption result
+        ((n : ℕ) (rest : List ℕ) → n < 2 ^ 64 → text.now ≢ decimal n ++ (codes " " ++ rest))
+        (λ found. (found.0 < 2 ^ 64) × (text.now ≡ decimal found.0 ++ (codes " " ++ found.1.now))) }
+{
+    let Some((front, rest)) = text.split_once(' ') else {
+        return None;
+    };
+    let Some(number) = number_of(front) else {
+        return None;
+    };
+    Some((number, rest))
+}
+
+/// The party's number and the words behind it, of a step's line.
+fn party_of(line: &str) -> Option<(u32, &str)>
+    ensures { MatchOption result
+        ((party : ℕ) (words : List ℕ) → 1 ≤ party → party < 2 ^ 32 → line.now ≢ decimal party ++ (codes " " ++ words))
+        (λ found. (1 ≤ found.0) × (found.0 < 2 ^ 32) × (line.now ≡ decimal found.0 ++ (codes " " ++ found.1.now))) }
+{
+    let (number, words) = number_and_rest(line)?;
+    if number == 0 || number >= 1 << 32 {
+        return None;
+    }
+    Some((number as u32, words))
+}
+
+/// The party and the step that a line spells. `None` where it spells none.
+pub fn step_of_line(alloc: Global, line: &str) -> Result<Option<(u32, Step)>, AllocError>
+    ensures { IfOk result (λ found. MatchOption found
+        ((s : ℕ × Step) → Spells line.now s → ⊥)
+        (λ s. Spells line.now s)) }
+{
+    let Some((party, words)) = party_of(line) else {
+        return Ok(None);
+    };
+    let Some(step) = step_of(alloc, words)? else {
+        return Ok(None);
+    };
+    Ok(Some((party, step)))
+}
+
+/// The limits that a line spells. `None` where it spells none.
+pub fn limits_of_line(line: &str) -> Option<Limits>
+    ensures { MatchOption result ((limits : Bounds) → SpellsLimits line.now limits → ⊥)
+        (λ limits. SpellsLimits line.now limits) }
+{
+    let Some((holders, rest)) = number_and_rest(line.strip_prefix("limits ")?) else {
+        return None;
+    };
+    let Some(serials) = number_of(rest) else {
+        return None;
+    };
+    Limits::new(holders, serials)
+}
