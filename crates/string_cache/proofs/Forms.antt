@@ -7,11 +7,10 @@ use Rattle.std.specs.Cmp.Lexicographic.{same_text}
 use Rattle.std.specs.Str.{bytes_eq, IsUtf8}
 use Rattle.string_cache_core.specs.declared.static_sets.TextForm.{TextForm}
 use Rattle.string_cache_core.specs.declared.static_sets.TextForm.TheVariants.{Inline, Static, Dynamic}
-use Rattle.string_cache_core.specs.Tables.{Tables, IsPerfectTable, IsStaticIndex, form_of_text, place_in, text_at}
+use Rattle.string_cache_core.specs.Tables.{Tables, IsPerfectTable, IsStaticIndex, form_of_text, is_static_form, place_in, text_at}
 use Rattle.string_cache_core.specs.Word.{IsInlineText, inline_word}
 use Rattle.string_cache_core.proofs.TableLemmas.{placed_static}
 use Rattle.string_cache_core.proofs.Unpacking.{inline_word_same}
-use Rattle.string_cache.specs.AtomValue.{is_static_form}
 
 static_by : (long listed : Bool) (place word hash index : ℕ) → (let form : TextForm = if long then (if listed then Static place else Dynamic hash) else Inline word in form) ≡ Static index
     → (listed ≡ true) × (place ≡ index)

@@ -1,5 +1,5 @@
 -- What clauses see of an atom, and the word that an atom of a text may have.
-use Rattle.std.specs.Prelude.{◌≡◌, ℕ, ◌%◌, List, Bool, true, false}
+use Rattle.std.specs.Prelude.{◌≡◌, ℕ, ◌%◌, List}
 use Rattle.string_cache_core.specs.declared.static_sets.TextForm.{TextForm}
 use Rattle.string_cache_core.specs.declared.static_sets.TextForm.TheVariants.{Inline, Static, Dynamic}
 use Rattle.string_cache_core.specs.Tables.{Tables, form_of_text}
@@ -19,18 +19,3 @@ IsWordOfForm buckets (Dynamic hash) word = (serial : ℕ) × IsTicket serial (ha
 -- the word is one that an atom of the text may have, under the tables and with so many buckets
 abbrev pub IsWordOf : Tables → ℕ → List ℕ → ℕ → Type 0
 IsWordOf t buckets text word = IsWordOfForm buckets (form_of_text t text) word
-
-abbrev pub is_inline_form : TextForm → Bool
-is_inline_form (Inline word) = true
-is_inline_form (Static index) = false
-is_inline_form (Dynamic hash) = false
-
-abbrev pub is_static_form : TextForm → Bool
-is_static_form (Inline word) = false
-is_static_form (Static index) = true
-is_static_form (Dynamic hash) = false
-
-abbrev pub is_dynamic_form : TextForm → Bool
-is_dynamic_form (Inline word) = false
-is_dynamic_form (Static index) = false
-is_dynamic_form (Dynamic hash) = true

@@ -19,6 +19,7 @@ pub use Rattle.string_cache_core.specs.Word
 pub use Rattle.string_cache_core.specs.World
 pub mod AtomForm
 pub mod AtomValue
+pub mod Case
 pub mod Chain
 pub mod Link
 pub mod Packed

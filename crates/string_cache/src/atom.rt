@@ -1,19 +1,26 @@
 //! An atom: a text that is inline, static, or an entry of a set.
 
-ghost use Rattle.std.specs.Prelude.{◌≡◌, ◌↔◌, ◌+◌, ◌*◌, ◌<◌, length, IsTrue, IsSome, IfSome, IfOk, IfErr, OnErr, nat_eq};
+ghost use Rattle.std.specs.Prelude.{◌≡◌, ◌↔◌, ◌+◌, ◌*◌, ◌<◌, [], length, string_bytes, IsTrue, IsSome, IfSome, IfOk, IfErr, OnErr, nat_eq};
 ghost use Rattle.std.specs.List.{Contains};
 ghost use Rattle.std.specs.Cmp;
 ghost use Rattle.std.specs.Cmp.{on_equiv};
 ghost use Rattle.std.specs.Cmp.{on_per};
 ghost use Rattle.std.specs.Cmp.Lexicographic.{pointwise, nat_list_eq_equiv};
+ghost use Rattle.std.specs.Cow.{cow_str_bytes};
 ghost use Rattle.string_cache_core.specs.Faults.{IsInternFault};
-ghost use Rattle.string_cache_core.specs.Tables.{IsPerfectTable, IsStaticIndex, form_of_text, text_at};
+ghost use Rattle.string_cache_core.specs.Tables.{IsPerfectTable, IsStaticIndex, form_of_text, hash_number, is_dynamic, is_dynamic_form, is_inline_form, is_static_form, text_at};
 ghost use Rattle.string_cache_core.specs.Word.{IsInlineText, inline_word, static_word};
 ghost use Rattle.string_cache.specs.AtomForm.{IsOwnForm, value_of_form};
-ghost use Rattle.string_cache.specs.AtomValue.{IsWordOf, is_inline_form, is_static_form, is_dynamic_form};
+ghost use Rattle.string_cache.specs.AtomValue.{IsWordOf};
 ghost use Rattle.string_cache.specs.Packed.{IsPackable};
 
+mod case;
+mod compare;
+#[cfg(test)]
+mod tests;
+
 use crate::dynamic_set::{BUCKETS, Set, Share};
+use std::borrow::CowStr;
 use std::marker::{Model, PhantomData};
 use std::sync::Wait;
 use string_cache_core::Fault;
@@ -73,7 +80,7 @@ impl<'s, Static: StaticAtomSet> Atom<'s, Static> {
     pub fn from_str_in<R: Wait>(set: &'s Set<Static>, rt: &R, text: &str) -> Result<Self, Fault>
         ensures text { IfOk result (λ atom. atom.text ≡ text.now) }
         ensures refused { IfErr result IsInternFault }
-        ensures dynamic { OnErr result (IsTrue (is_dynamic_form (form_of_text Static.tables text.now))) }
+        ensures dynamic { OnErr result (IsTrue (is_dynamic Static.tables text.now)) }
     {
         match form_of_text::<Static>(text) {
             TextForm::Inline(word) => Ok(Self::of_form(Form::Inline(unpack_inline(word).unwrap()))),
@@ -83,6 +90,58 @@ impl<'s, Static: StaticAtomSet> Atom<'s, Static> {
                 Ok(Self::of_form(Form::Dynamic(share)))
             }
         }
+    }
+
+    /// The atom of an owned text, as `from_str_in` gives it. The text is dropped in both outcomes.
+    pub fn from_string_in<R: Wait>(
+        set: &'s Set<Static>,
+        rt: &R,
+        text: String,
+    ) -> Result<Self, Fault>
+        ensures text { IfOk result (λ atom. atom.text ≡ string_bytes text) }
+        ensures refused { IfErr result IsInternFault }
+        ensures dynamic { OnErr result (IsTrue (is_dynamic Static.tables (string_bytes text))) }
+    {
+        Self::from_cow_in(set, rt, CowStr::Owned(text))
+    }
+
+    /// The atom of a text that is borrowed or owned, as `from_str_in` gives it. An owned text is dropped in both outcomes.
+    pub fn from_cow_in<R: Wait>(
+        set: &'s Set<Static>,
+        rt: &R,
+        text: CowStr<'_>,
+    ) -> Result<Self, Fault>
+        ensures text { IfOk result (λ atom. atom.text ≡ cow_str_bytes text.entry) }
+        ensures refused { IfErr result IsInternFault }
+        ensures dynamic { OnErr result (IsTrue (is_dynamic Static.tables (cow_str_bytes text.entry))) }
+    {
+        Self::from_str_in(set, rt, text.as_str())
+    }
+
+    /// Another atom of the same text and word.
+    ///
+    /// It is refused for a dynamic text alone, and with `FullCount` alone: where its entry has as many shares as an `Arc`
+    /// may have.
+    pub fn clone_atom<R: Wait>(&self, _rt: &R) -> Result<Self, Fault>
+        ensures same { IfOk result (λ atom. atom ≡ self.now) }
+        ensures refused { IfErr result (λ fault. fault ≡ Fault.FullCount) }
+        ensures dynamic { OnErr result (IsTrue (is_dynamic Static.tables self.now.text)) }
+    {
+        let form = match &self.form {
+            Form::Inline(text) => Form::Inline(*text),
+            Form::Static(index) => Form::Static(*index),
+            Form::Dynamic(share) => Form::Dynamic(share.clone_share()?),
+        };
+        Ok(Self::of_form(form))
+    }
+
+    /// Another atom of the same text and word, as `clone_atom` gives it.
+    pub fn from_atom<R: Wait>(rt: &R, atom: &Self) -> Result<Self, Fault>
+        ensures same { IfOk result (λ other. other ≡ atom.now) }
+        ensures refused { IfErr result (λ fault. fault ≡ Fault.FullCount) }
+        ensures dynamic { OnErr result (IsTrue (is_dynamic Static.tables atom.now.text)) }
+    {
+        atom.clone_atom(rt)
     }
 
     /// The atom of a static text. `None` where the text isn't static: where it has at most 7 bytes, or doesn't stand at its
@@ -152,6 +211,18 @@ impl<'s, Static: StaticAtomSet> Atom<'s, Static> {
         }
     }
 
+    /// The number that the atom hashes as: the word of an inline text, the hash that the tables list for a static one, the
+    /// hash of the entry of a dynamic one.
+    pub fn get_hash(&self) -> u64
+        ensures { result ≡ hash_number Static.tables self.now.text }
+    {
+        match &self.form {
+            Form::Inline(text) => pack_inline_word(text.as_str()).unwrap(),
+            Form::Static(index) => Static::get().hashes[*index as usize],
+            Form::Dynamic(share) => share.hash(),
+        }
+    }
+
     /// Whether the text has at most 7 bytes.
     pub fn is_inline(&self) -> bool
         ensures { result ≡ is_inline_form (form_of_text Static.tables self.now.text) }
@@ -171,6 +242,15 @@ impl<'s, Static: StaticAtomSet> Atom<'s, Static> {
         ensures { result ≡ is_dynamic_form (form_of_text Static.tables self.now.text) }
     {
         matches!(&self.form, Form::Dynamic(_))
+    }
+}
+
+/// The atom of the empty text, which is inline: its word is 1.
+impl<'s, Static: StaticAtomSet> Default for Atom<'s, Static> {
+    ghost is_default = { λ atom. atom ≡ record { text = []; word = 1 } };
+
+    fn default() -> Self {
+        Self::of_form(Form::Inline(unpack_inline(1).unwrap()))
     }
 }
 

@@ -6,7 +6,6 @@ use crate::samples::{One, Short, Twice};
 use crate::static_sets::{EmptyStaticAtomSet, StaticAtomSet, TextForm, form_of_text};
 use crate::word::{Limits, ticket_word};
 use crate::{Atom, DefaultAtom, Fault};
-use std::alloc::Global;
 use std::sync::Wait;
 use std::test::Fail;
 use std::thread;
@@ -61,22 +60,12 @@ fn dynamic_atoms(rt: HostRuntime) -> Result<(), Fail> {
     Ok(())
 }
 
-/// A new set, asked for once more where it was refused for want of memory.
-fn set_at_last(alloc: Global) -> Result<Set<EmptyStaticAtomSet>, Fault> {
-    match Set::new(alloc) {
-        Err(Fault::Memory) => Set::new(alloc),
-        made => made,
-    }
-}
-
-/// The atom of a text, asked for once more where it was refused for want of memory.
-fn atom_at_last<'s, R: Wait>(
-    set: &'s Set<EmptyStaticAtomSet>,
-    rt: &R,
-    text: &str,
-) -> Result<DefaultAtom<'s>, Fault> {
-    match Atom::from_str_in(set, rt, text) {
-        Err(Fault::Memory) => Atom::from_str_in(set, rt, text),
+/// What a call gives, made once more where it was refused for want of memory.
+pub fn at_last<T, F: Fn() -> Result<T, Fault>>(call: F) -> Result<T, Fault>
+    requires { F.IsAlwaysCallable call }
+{
+    match call() {
+        Err(Fault::Memory) => call(),
         made => made,
     }
 }
@@ -85,8 +74,9 @@ fn atom_at_last<'s, R: Wait>(
 /// gives the first time.
 #[test]
 fn refused_calls_made_again(rt: HostRuntime) -> Result<(), Fail> {
-    let set = set_at_last(rt.alloc())?;
-    let atom = atom_at_last(&set, &rt, "abcdefgh")?;
+    let alloc = rt.alloc();
+    let set: Set<EmptyStaticAtomSet> = at_last(|| Set::new(alloc))?;
+    let atom = at_last(|| Atom::from_str_in(&set, &rt, "abcdefgh"))?;
     assert!(rt; atom.unsafe_data() == ticket_word(1, 0x2c5));
     Ok(())
 }

@@ -39,7 +39,7 @@ impl<Static: StaticAtomSet> Set<Static> {
         })
     }
 
-    /// Where the set's entries are allocated.
+    /// What the set takes its memory from.
     pub fn allocator(&self) -> Global {
         self.alloc
     }

@@ -1,9 +1,10 @@
 // Entries, and the shares of them that atoms hold.
-ghost use Rattle.std.specs.Prelude.{◌≡◌, ◌↔◌, IsTrue, IfOk};
+ghost use Rattle.std.specs.Prelude.{◌≡◌, ◌↔◌, IsTrue, IfErr, IfOk};
 
 use std::alloc::{AllocError, Global};
 use std::marker::Model;
 use std::sync::Arc;
+use string_cache_core::Fault;
 
 /// What an entry and its shares have in common.
 #[derive(Drop)]
@@ -95,5 +96,23 @@ impl Share {
         ensures { result.now ≡ self.now.text }
     {
         self.shared.text.as_str()
+    }
+
+    /// The hash of the entry's text.
+    pub(crate) fn hash(&self) -> u64
+        ensures { result ≡ self.now.hash }
+    {
+        self.shared.hash
+    }
+
+    /// One share more. It is refused for `FullCount` alone, where there are as many as an `Arc` may have.
+    pub(crate) fn clone_share(&self) -> Result<Share, Fault>
+        ensures same { IfOk result (λ share. share ≡ self.now) }
+        ensures full { IfErr result (λ fault. fault ≡ Fault.FullCount) }
+    {
+        match Arc::try_clone(&self.shared) {
+            Ok(shared) => Ok(Share { shared }),
+            Err(_) => Err(Fault::FullCount),
+        }
     }
 }

@@ -1,0 +1,238 @@
+// Orders, hashes and cases with values that come from outside, atoms as keys of maps, and calls that ask for no memory.
+use super::{Atom, DefaultAtom};
+use crate::Fault;
+use crate::dynamic_set::Set;
+use crate::samples::{One, Twice};
+use crate::static_sets::EmptyStaticAtomSet;
+use crate::tests::at_last;
+use crate::word::{Form, form_of, ticket_word};
+use std::alloc::Global;
+use std::borrow::CowStr;
+use std::cmp::Ordering;
+use std::collections::{BTreeMap, HashMap};
+use std::sync::Wait;
+use std::test::Fail;
+
+#[test]
+fn default_atom(rt: HostRuntime) {
+    let atom = DefaultAtom::default();
+    assert!(rt; atom.unsafe_data() == 1);
+    assert!(rt; atom.as_str().is_empty());
+}
+
+#[test]
+fn hash_numbers(rt: HostRuntime) -> Result<(), Fail> {
+    let set: Set<One> = Set::new(rt.alloc())?;
+    // The last is g and f1 of the text, as OpenSSL's SipHash tells them.
+    for (text, number) in [
+        ("", 1),
+        ("foo", 0x6f6f_6631),
+        ("sentence", 0x1122_3344_5566_7788),
+        ("interned", 0x556a_6dba_06a4_7210),
+    ] {
+        let atom = Atom::from_str_in(&set, &rt, text)?;
+        assert!(rt; atom.get_hash() == number, "of {text:?}");
+    }
+    let set: Set<Twice> = Set::new(rt.alloc())?;
+    // It stands at its place 0, with the first of the two hashes.
+    let atom = Atom::from_str_in(&set, &rt, "sentence")?;
+    assert!(rt; atom.unsafe_data() == 2 && atom.get_hash() == 1);
+    Ok(())
+}
+
+/// The order of the atoms of two texts, of which "sentence" is static.
+fn order<R: Wait>(set: &Set<One>, rt: &R, left: &str, right: &str) -> Result<Ordering, Fault> {
+    let left = Atom::from_str_in(set, rt, left)?;
+    Ok(left.cmp(&Atom::from_str_in(set, rt, right)?))
+}
+
+#[test]
+fn orders(rt: HostRuntime) -> Result<(), Fail> {
+    let set: Set<One> = Set::new(rt.alloc())?;
+    // By their words "b" would stand before "aa", and "sentence" before "interned".
+    for (left, right, wanted) in [
+        ("é", "z", Ordering::Greater),
+        ("aa", "b", Ordering::Less),
+        ("", "\0", Ordering::Less),
+        ("interned", "sentence", Ordering::Less),
+        ("interned", "inter", Ordering::Greater),
+        ("interned", "interned", Ordering::Equal),
+    ] {
+        let found = order(&set, &rt, left, right)?;
+        assert!(rt; found == wanted, "of {left:?} and {right:?}");
+    }
+    Ok(())
+}
+
+/// Whether atoms of two texts are equal: as they are, and without case.
+fn equalities<R: Wait>(
+    set: &Set<EmptyStaticAtomSet>,
+    rt: &R,
+    left: &str,
+    right: &str,
+) -> Result<(bool, bool), Fault> {
+    let (left, right) = (
+        Atom::from_str_in(set, rt, left)?,
+        Atom::from_str_in(set, rt, right)?,
+    );
+    Ok((left == right, left.eq_ignore_ascii_case(&right)))
+}
+
+#[test]
+fn without_case(rt: HostRuntime) -> Result<(), Fail> {
+    let set: Set<EmptyStaticAtomSet> = Set::new(rt.alloc())?;
+    for (left, right, equal, without_case) in [
+        ("FOO", "foo", false, true),
+        ("É", "é", false, false),
+        ("Interned", "iNTERNED", false, true),
+        ("[", "{", false, false),
+        ("foo", "foo", true, true),
+    ] {
+        let found = equalities(&set, &rt, left, right)?;
+        assert!(rt; found == (equal, without_case), "of {left:?} and {right:?}");
+    }
+    let atom = Atom::from_str_in(&set, &rt, "Foo")?;
+    assert!(rt; atom.eq_str("Foo") && !atom.eq_str("foo"));
+    assert!(rt; atom.eq_str_ignore_ascii_case("fOO") && !atom.eq_str_ignore_ascii_case("fo"));
+    Ok(())
+}
+
+#[test]
+fn clones(rt: HostRuntime) -> Result<(), Fail> {
+    let set: Set<One> = Set::new(rt.alloc())?;
+    for text in ["foo", "sentence", "interned"] {
+        let atom = Atom::from_str_in(&set, &rt, text)?;
+        for clone in [atom.clone_atom(&rt)?, Atom::from_atom(&rt, &atom)?] {
+            assert!(rt; clone.unsafe_data() == atom.unsafe_data());
+            assert!(rt; clone.as_str() == text);
+        }
+    }
+    Ok(())
+}
+
+#[test]
+fn owned_texts(rt: HostRuntime) -> Result<(), Fail> {
+    let set: Set<EmptyStaticAtomSet> = Set::new(rt.alloc())?;
+    let atom = Atom::from_str_in(&set, &rt, "interned")?;
+    for other in [
+        Atom::from_string_in(&set, &rt, String::from_str(rt.alloc(), "interned")?)?,
+        Atom::from_cow_in(&set, &rt, CowStr::Borrowed("interned"))?,
+        Atom::from_cow_in(
+            &set,
+            &rt,
+            CowStr::Owned(String::from_str(rt.alloc(), "interned")?),
+        )?,
+    ] {
+        assert!(rt; other.is_dynamic() && other == atom);
+        assert!(rt; other.unsafe_data() == atom.unsafe_data());
+    }
+    Ok(())
+}
+
+#[test]
+fn cases(rt: HostRuntime) -> Result<(), Fail> {
+    let set: Set<EmptyStaticAtomSet> = Set::new(rt.alloc())?;
+    for (text, upper, lower) in [
+        ("é", "é", "é"),
+        ("École", "ÉCOLE", "École"),
+        ("Interned", "INTERNED", "interned"),
+        ("@[`{09", "@[`{09", "@[`{09"),
+        ("azAZ", "AZAZ", "azaz"),
+    ] {
+        let atom = Atom::from_str_in(&set, &rt, text)?;
+        assert!(rt; atom.to_ascii_uppercase_in(&rt, &set)?.as_str() == upper);
+        assert!(rt; atom.to_ascii_lowercase_in(&rt, &set)?.as_str() == lower);
+    }
+    for letters in [64, 65] {
+        let text = "a".repeat(rt.alloc(), letters)?;
+        let atom = Atom::from_str_in(&set, &rt, text.as_str())?;
+        let upper = atom.to_ascii_uppercase_in(&rt, &set)?;
+        assert!(rt; upper.eq_str("A".repeat(rt.alloc(), letters)?.as_str()));
+    }
+    Ok(())
+}
+
+#[test]
+fn cases_of_a_static_text(rt: HostRuntime) -> Result<(), Fail> {
+    let set: Set<One> = Set::new(rt.alloc())?;
+    let upper = Atom::from_str_in(&set, &rt, "sentence")?.to_ascii_uppercase_in(&rt, &set)?;
+    assert!(rt; upper.as_str() == "SENTENCE" && upper.is_dynamic());
+    let lower = upper.to_ascii_lowercase_in(&rt, &set)?;
+    assert!(rt; lower.is_static() && lower.unsafe_data() == 2);
+    Ok(())
+}
+
+#[test]
+fn keys_of_maps(rt: HostRuntime) -> Result<(), Fail> {
+    let set: Set<One> = Set::new(rt.alloc())?;
+    let mut counts: HashMap<Atom<'_, One>, u64> = HashMap::new(rt.alloc());
+    let mut sorted: BTreeMap<Atom<'_, One>, u64> = BTreeMap::new(rt.alloc());
+    for word in "interned sentence a interned b a interned".split_whitespace() {
+        let atom = Atom::from_str_in(&set, &rt, word)?;
+        let count = counts.entry(atom.clone_atom(&rt)?)?.or_insert(0);
+        *count = count.saturating_add(1);
+        let count = sorted.entry(atom)?.or_insert(0);
+        *count = count.saturating_add(1);
+    }
+    for (word, count) in [("interned", 3), ("sentence", 1), ("a", 2), ("b", 1)] {
+        let atom = Atom::from_str_in(&set, &rt, word)?;
+        assert!(rt; counts.get(&atom) == Some(&count), "of {word:?}");
+    }
+    assert!(rt; counts.len() == 4);
+    let wanted = [("a", 2), ("b", 1), ("interned", 3), ("sentence", 1)];
+    assert!(rt; sorted.len() == wanted.len());
+    for ((atom, count), wanted) in sorted.iter().zip(wanted.iter()) {
+        assert!(rt; (atom.as_str(), *count) == *wanted);
+    }
+    Ok(())
+}
+
+/// Passes also where any one request for memory is refused, as under `rt try --test --fail-alloc N`: the calls that are made
+/// once ask for none.
+#[test]
+fn calls_without_memory(rt: HostRuntime) -> Result<(), Fail> {
+    let alloc = rt.alloc();
+    let set: Set<One> = at_last(|| Set::new(alloc))?;
+    let upper = at_last(|| Atom::from_str_in(&set, &rt, "SENTENCE"))?;
+    assert!(rt; upper.to_ascii_lowercase_in(&rt, &set)?.unsafe_data() == 2);
+    assert!(rt; upper.to_ascii_uppercase_in(&rt, &set)?.is_dynamic());
+    assert!(rt; Atom::from_str_in(&set, &rt, "sentence")?.is_static());
+    assert!(rt; Atom::from_str_in(&set, &rt, "abcdefg")?.is_inline());
+    Ok(())
+}
+
+/// The atom of 65 letters, in upper case.
+fn upper_of_letters<'s, R: Wait>(
+    set: &'s Set<EmptyStaticAtomSet>,
+    rt: &R,
+    alloc: Global,
+) -> Result<DefaultAtom<'s>, Fault> {
+    let letters = "a".repeat(alloc, 65)?;
+    Atom::from_string_in(set, rt, letters)?.to_ascii_uppercase_in(rt, set)
+}
+
+/// Passes also where any one request for memory is refused: a call that is made again gives what it gives the first time.
+#[test]
+fn refused_calls_made_again(rt: HostRuntime) -> Result<(), Fail> {
+    let alloc = rt.alloc();
+    let set: Set<EmptyStaticAtomSet> = at_last(|| Set::new(alloc))?;
+    let owned = at_last(|| {
+        let text = String::from_str(alloc, "interned")?;
+        Atom::from_string_in(&set, &rt, text)
+    })?;
+    assert!(rt; owned.unsafe_data() == ticket_word(1, 0x210));
+    let cow = at_last(|| {
+        let text = CowStr::Owned(String::from_str(alloc, "tokenised")?);
+        Atom::from_cow_in(&set, &rt, text)
+    })?;
+    assert!(rt; cow.unsafe_data() == ticket_word(1, 0xe77));
+    let upper = at_last(|| upper_of_letters(&set, &rt, alloc))?;
+    assert!(rt; upper.as_bytes().len() == 65 && upper.as_bytes().iter().all(|&byte| byte == b'A'));
+    assert!(rt;
+        matches!(
+            form_of(upper.unsafe_data()),
+            Some(Form::Dynamic { serial: 1, .. })
+        )
+    );
+    Ok(())
+}
