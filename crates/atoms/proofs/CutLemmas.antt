@@ -63,9 +63,6 @@ pub limits_cut : (line rest : List ℕ) (holders : ℕ) → holders < 2 ^ 64 →
 limits_cut line rest holders small e l spells =
     cut_once (decimal holders ++ (32 ∷ rest)) holders l.holders rest (decimal l.serials) small (omega (arith, spells.0.1)) refl (append_cancel_left (codes "limits ") _ _ (sym e ∙ spells.1))
 
-pub no_limits-number : (line text : List ℕ) → line ≡ codes "limits " ++ text → ((n : ℕ) (rest : List ℕ) → n < 2 ^ 64 → text ≢ decimal n ++ (32 ∷ rest)) → (l : Bounds) → SpellsLimits line l → ⊥
-no_limits-number line text e none l spells = none l.holders (decimal l.serials) (omega (arith, spells.0.1)) (append_cancel_left (codes "limits ") _ _ (sym e ∙ spells.1))
-
 -- what `Limits::new` answers to them
 pub limits_made : (line : List ℕ) (holders serials : ℕ) → holders < 2 ^ 64 → serials < 2 ^ 64 → line ≡ codes "limits " ++ (decimal holders ++ (32 ∷ decimal serials))
     → (r : Option Bounds) → IsSome r ↔ AreBounds holders serials → IfSome r (λ l. l ≡ record { holders = holders; serials = serials })

@@ -1,5 +1,5 @@
 -- A step links one entry at most.
-use Rattle.std.proofs.Common.{◌≡◌, ℕ, ◌+◌, ◌≤◌, ◌-◌, Bool, true, false, cond, List, [], ◌∷◌, ◌++◌, length, refl, ap, subst, ◌∙◌, suc, zero, arith, length-append}
+use Rattle.std.proofs.Common.{◌≡◌, ℕ, ◌+◌, ◌≤◌, ◌-◌, Bool, true, false, cond, List, [], ◌∷◌, length, refl, ap, subst, suc, zero, arith, length-append}
 use Rattle.std.specs.Prelude.{Option, None, Some, nat_lt, ◌==◌}
 use Rattle.std.specs.Option.{unwrap_or}
 use Rattle.std.proofs.lemmas.List.{length-set}
@@ -13,8 +13,6 @@ use Rattle.string_cache.specs.declared.steps.StepReply.TheVariants as reply
 use Rattle.string_cache.specs.Steps.{step, ◌>>=◌, only_if, pass_of, entry_at, with_entry, take_bucket, add, link, clone, give, unlink, last_of, without_party, opening}
 use Rattle.string_cache.specs.Runs.{Event, Leads, Script, events_of}
 use Rattle.string_cache.specs.Theorem.{HasRun}
-use Rattle.std.specs.List.{flat_map}
-use Rattle.atoms.specs.Replay.{reply_line, held_lines_from, IsOutput}
 
 bind_case : {A B : Type 0} (P : B → Type 0) (o : Option A) (f : A → Option B) (d : B) → P d → ((x : A) → P (unwrap_or (f x) d)) → P (unwrap_or (o >>= f) d)
 bind_case P None f d none some = none
@@ -104,14 +102,3 @@ entries_few t limits buckets steps replies v leads = omega (arith, run_grows t (
 pub run_few : (t : Tables) (limits : Bounds) (buckets : ℕ) (old : World) (steps : Script) (before after : List StepReply) (v : World) → old ≡ opening limits buckets → HasRun t old steps before after v → length v.entries ≤ length steps
 run_few t limits buckets old steps before after v is run =
     entries_few t limits buckets steps run.appended v (subst (λ w. Leads t w (events_of steps run.appended) v) is run.leads)
-
--- a run to the end has its output
-pub output_made : (t : Tables) (limits : Bounds) (old : World) (steps : Script) (replies : List StepReply) (v : World) (out first : List ℕ) → old ≡ opening limits 4096 → HasRun t old steps [] replies v → length replies ≡ length steps
-    → first ≡ flat_map reply_line replies → out ≡ first ++ held_lines_from 1 v.entries → IsOutput t limits steps out
-output_made t limits old steps replies v out first is run all lines held = record {
-  replies = replies;
-  world = v;
-  run = subst (λ w. HasRun t w steps [] replies v) is run;
-  all = all;
-  is = held ∙ ap (λ bytes. bytes ++ held_lines_from 1 v.entries) lines;
-}

@@ -1,7 +1,6 @@
 -- How a script's lines come off its front, and what they spell together.
-use Rattle.std.proofs.Common.{◌≡◌, ◌≢◌, ℕ, ◌+◌, ◌<◌, ◌≤◌, inl, inr, Bool, false, List, [], ◌∷◌, ◌++◌, length, get_or, sym, refl, ap, subst, ◌∙◌, arith, suc, drop, length-append, append_assoc, append-nil, rules}
+use Rattle.std.proofs.Common.{◌≡◌, ◌≢◌, ℕ, ◌+◌, ◌<◌, ◌≤◌, inl, inr, Bool, false, List, [], ◌∷◌, ◌++◌, length, get_or, sym, refl, ap, subst, ◌∙◌, arith, suc, drop, length-append, append_assoc, rules}
 use Rattle.std.specs.Prelude.{◌==◌, Option, None, Some, MatchOption, is_some}
-use Rattle.std.specs.Option.{unwrap_or}
 use Rattle.std.specs.Str.Pattern.{FindsChar, SplitsAroundMatch}
 use Rattle.std.proofs.lemmas.Str.Pattern.{split_parts, NoCharPasses-char}
 use denote.Ref.{Bor}
@@ -10,7 +9,7 @@ use Rattle.string_cache.specs.Bounds.{Bounds}
 use Rattle.string_cache.specs.declared.steps.Step.{Step}
 use Rattle.string_cache.specs.Runs.{Script}
 use Rattle.atoms.specs.Words.{cons_first}
-use Rattle.atoms.specs.Script.{script_lines, Spells, SpellsLimits, SpellSteps, SpellScript, StopsAfter, IsFirstBadLine, greatest}
+use Rattle.atoms.specs.Script.{script_lines, Spells, SpellsLimits, SpellSteps, SpellScript, AreSteps, TakesLimits, StopsAfter, IsFirstBadLine, greatest}
 
 -- no line feed is in the bytes
 abbrev pub NoFeed : List ℕ → Type 0
@@ -41,7 +40,7 @@ first_line bs a b cut =
 -- ---- steps
 
 -- one line and its step more
-spell_more : (lines : List (List ℕ)) (steps : Script) (line : List ℕ) (s : ℕ × Step) → SpellSteps lines steps → Spells line s → SpellSteps (lines ++ (line ∷ [])) (steps ++ (s ∷ []))
+pub spell_more : (lines : List (List ℕ)) (steps : Script) (line : List ℕ) (s : ℕ × Step) → SpellSteps lines steps → Spells line s → SpellSteps (lines ++ (line ∷ [])) (steps ++ (s ∷ []))
 spell_more [] [] line s all one = (one, tt)
 spell_more [] (x ∷ steps) line s all one = absurd all
 spell_more (l ∷ lines) [] line s all one = absurd all
@@ -54,41 +53,42 @@ spell_last [] line (s ∷ steps) all = (s, all.0)
 spell_last (l ∷ lines) line [] all = absurd all
 spell_last (l ∷ lines) line (s ∷ steps) all = spell_last lines line steps all.1
 
--- The lines before `rest` are read, `number` of them with those that were passed before, and spell the steps.
-pub record Reading (text rest : List ℕ) (passed number : ℕ) (steps : Script) : Type 0 where
+-- a line among those that spell steps spells one
+pub spell_at : (lines : List (List ℕ)) (line : List ℕ) (rest : List (List ℕ)) → AreSteps (lines ++ (line ∷ rest)) → (s : ℕ × Step) × Spells line s
+spell_at [] line rest ([], all) = absurd all
+spell_at [] line rest (s ∷ steps, all) = (s, all.0)
+spell_at (l ∷ lines) line rest ([], all) = absurd all
+spell_at (l ∷ lines) line rest (s ∷ steps, all) = spell_at lines line rest (steps, all.1)
+
+-- there are as many lines as steps
+pub spell_length : (lines : List (List ℕ)) (steps : Script) → SpellSteps lines steps → length lines ≡ length steps
+spell_length [] [] all = refl
+spell_length [] (s ∷ steps) all = absurd all
+spell_length (line ∷ lines) [] all = absurd all
+spell_length (line ∷ lines) (s ∷ steps) all = ap suc (spell_length lines steps all.1)
+
+-- The lines before `rest` are read, `number` of them with those that were passed before, and spell steps.
+pub record Reading (text rest : List ℕ) (passed number : ℕ) : Type 0 where
   pub lines : List (List ℕ)
+  pub steps : Script
   pub is : script_lines text ≡ lines ++ script_lines rest
   pub good : SpellSteps lines steps
   pub counted : number ≡ passed + length lines
   pub few : length lines + length rest ≤ length text
 
-pub reading_begins : (text : List ℕ) (passed : ℕ) → Reading text text passed passed []
-reading_begins text passed = record { lines = []; is = refl; good = tt; counted = omega arith; few = omega arith }
+pub reading_begins : (text : List ℕ) (passed : ℕ) → Reading text text passed passed
+reading_begins text passed = record { lines = []; steps = []; is = refl; good = tt; counted = omega arith; few = omega arith }
 
-module _ {text rest : List ℕ} {passed number : ℕ} {steps : Script} (p : Reading text rest passed number steps) where
+module _ {text rest : List ℕ} {passed number : ℕ} (p : Reading text rest passed number) where
   pub reading_next : (line after : List ℕ) (s : ℕ × Step) → script_lines rest ≡ line ∷ script_lines after → length after < length rest → Spells line s
-      → Reading text after passed (number + 1) (steps ++ (s ∷ []))
+      → Reading text after passed (number + 1)
   reading_next line after s cut shorter spells = record {
     lines = p.lines ++ (line ∷ []);
+    steps = p.steps ++ (s ∷ []);
     is = p.is ∙ ap (λ v. p.lines ++ v) cut ∙ sym (append_assoc p.lines (line ∷ []) (script_lines after));
-    good = spell_more p.lines steps line s p.good spells;
+    good = spell_more p.lines p.steps line s p.good spells;
     counted = omega (arith, p.counted, length-append p.lines (line ∷ []));
     few = omega (arith, p.few, shorter, length-append p.lines (line ∷ []));
-  }
-
-  pub reading_ends : script_lines rest ≡ [] → SpellSteps (script_lines text) steps
-  reading_ends none = subst (λ v. SpellSteps v steps) (sym (p.is ∙ ap (λ v. p.lines ++ v) none ∙ append-nil p.lines)) p.good
-
-  pub reading_stops : (line after : List ℕ) → script_lines rest ≡ line ∷ script_lines after → ((s : ℕ × Step) → Spells line s → ⊥) → StopsAfter (script_lines text) passed (number + 1)
-  reading_stops line after cut bad = record {
-    before = p.lines;
-    line = line;
-    after = script_lines after;
-    is = p.is ∙ ap (λ v. p.lines ++ v) cut;
-    number = omega (arith, p.counted);
-    steps = steps;
-    good = p.good;
-    bad = bad;
   }
 
 -- ---- the whole script
@@ -109,48 +109,34 @@ no_first_line line bad none l steps (inr h) = none l (subst (λ v. SpellsLimits 
     first_same : {x y : List ℕ} {xs ys : List (List ℕ)} → x ∷ xs ≡ y ∷ ys → x ≡ y
     first_same e = ap (λ v. get_or v 0 []) e
 
--- what `opening_of` says of a text without limits, and with
-abbrev pub OpensWith : List ℕ → List ℕ → Option Bounds → Type 0
-OpensWith text rest given = MatchOption given
-    ((rest ≡ text) × ((line : List ℕ) (lines : List (List ℕ)) (l : Bounds) → script_lines text ≡ line ∷ lines → SpellsLimits line l → ⊥))
-    (λ l. (length rest < length text) × ((line : List ℕ) × (script_lines text ≡ line ∷ script_lines rest) × SpellsLimits line l))
-
-pub script_spelled : (text rest : List ℕ) (given : Option Bounds) (limits : Bounds) (steps : Script) → OpensWith text rest given → SpellSteps (script_lines rest) steps
-    → MatchOption given (limits ≡ greatest) (λ l. limits ≡ l) → SpellScript (script_lines text) limits steps
-script_spelled text rest None limits steps opens all is = inl (is, subst (λ v. SpellSteps (script_lines v) steps) opens.0 all)
-script_spelled text rest (Some l) limits steps opens all is = inr (opens.1.0, script_lines rest, opens.1.1, subst (λ v. SpellsLimits opens.1.0 v) (sym is) opens.1.2, all)
-
-pub script_stops : (text rest : List ℕ) (given : Option Bounds) (passed n : ℕ) → OpensWith text rest given → MatchOption given (passed ≡ 0) (λ l. passed ≡ 1) → StopsAfter (script_lines rest) passed n → IsFirstBadLine (script_lines text) n
+-- the first line that spells no step, behind that of the limits, is the script's first bad line
+pub script_stops : (text rest : List ℕ) (given : Option Bounds) (passed n : ℕ) → TakesLimits text given rest → MatchOption given (passed ≡ 0) (λ l. passed ≡ 1) → StopsAfter (script_lines rest) passed n → IsFirstBadLine (script_lines text) n
 script_stops text rest None passed n opens is stops = record {
   before = stops.before;
   line = stops.line;
   after = stops.after;
-  is = ap script_lines (sym opens.0) ∙ stops.is;
+  is = ap script_lines (sym opens.1) ∙ stops.is;
   number = omega (arith, stops.number, is);
   limits = greatest;
   steps = stops.steps;
   good = inl (refl, stops.good);
-  bad = bad_at stops.before (ap script_lines (sym opens.0) ∙ stops.is);
+  bad = bad_at stops.before (ap script_lines (sym opens.1) ∙ stops.is);
 }
   where
     bad_at : (before : List (List ℕ)) → script_lines text ≡ before ++ (stops.line ∷ stops.after) → (l : Bounds) (s : Script) → SpellScript (before ++ (stops.line ∷ [])) l s → ⊥
-    bad_at [] e = no_first_line stops.line stops.bad (λ l. opens.1 stops.line stops.after l e)
+    bad_at [] e = no_first_line stops.line stops.bad (λ l. opens.0 stops.line stops.after l e)
     bad_at (first ∷ before) e = no_script first before stops.line stops.bad
 script_stops text rest (Some l) passed n opens is stops = record {
-  before = opens.1.0 ∷ stops.before;
+  before = opens.0.0 ∷ stops.before;
   line = stops.line;
   after = stops.after;
-  is = opens.1.1 ∙ ap (λ v. opens.1.0 ∷ v) stops.is;
+  is = opens.0.1 ∙ ap (λ v. opens.0.0 ∷ v) stops.is;
   number = omega (arith, stops.number, is);
   limits = l;
   steps = stops.steps;
-  good = inr (opens.1.0, stops.before, refl, opens.1.2, stops.good);
-  bad = no_script opens.1.0 stops.before stops.line stops.bad;
+  good = inr (opens.0.0, stops.before, refl, opens.0.2, stops.good);
+  bad = no_script opens.0.0 stops.before stops.line stops.bad;
 }
-
-pub limits_or_greatest : (given : Option Bounds) (limits most : Bounds) → limits ≡ unwrap_or given most → most ≡ greatest → MatchOption given (limits ≡ greatest) (λ l. limits ≡ l)
-limits_or_greatest None limits most is top = is ∙ top
-limits_or_greatest (Some l) limits most is top = is
 
 pub limits_lines : (given : Option Bounds) (some : Bool) (passed : ℕ) → some ≡ is_some given → passed ≡ bool_byte some → MatchOption given (passed ≡ 0) (λ l. passed ≡ 1)
 limits_lines None some passed is counted = counted ∙ ap bool_byte is

@@ -1,6 +1,6 @@
 -- How far the loop over the words has come.
-use Rattle.std.proofs.Common.{◌≡◌, ℕ, ◌+◌, ◌<◌, ◌≤◌, Bool, true, false, cond, List, [], ◌∷◌, ◌++◌, length, Option, sym, refl, ap, ◌∙◌, subst, append_assoc, append-nil, arith, map, filter, rules, unwrap_or}
-use Rattle.std.specs.Prelude.{encode_utf8_all, count_by}
+use Rattle.std.proofs.Common.{◌≡◌, ℕ, ◌+◌, ◌≤◌, cond, List, [], ◌∷◌, ◌++◌, length, Option, sym, refl, ap, ◌∙◌, subst, append_assoc, append-nil, arith, map}
+use Rattle.std.specs.Prelude.{encode_utf8_all}
 use Rattle.std.specs.HashMap.{HashMap}
 use Rattle.std.specs.Str.{bytes_eq, NoCharPasses, chars, IsUtf8}
 use Rattle.std.specs.Char.{is_not_whitespace}
@@ -11,7 +11,7 @@ use Rattle.std.proofs.lemmas.List.Sums.{sum_by_push}
 use denote.Ref.{Bor}
 use Rattle.atoms.specs.Counts.{count_of, CountsOneMore}
 use Rattle.atoms.specs.Streams.{AppendsBeginning}
-use Rattle.atoms.specs.Words.{char_words, words, times_seen, seen_line, lines_after, word_lines}
+use Rattle.atoms.specs.Words.{char_words, times_seen, seen_line, lines_after, word_lines}
 use Rattle.atoms.proofs.StreamLemmas.{appends_then, appends_nothing, keeps_same, beginning_then}
 use Rattle.atoms.proofs.WordLemmas.{WordComes, no_words}
 

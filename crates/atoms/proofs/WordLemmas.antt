@@ -1,11 +1,10 @@
 -- The words of a text come off its front, one by one.
-use Rattle.std.proofs.Common.{◌≡◌, ℕ, ◌+◌, ◌<◌, ◌≤◌, ◌⊎◌, inl, inr, Bool, true, false, cond, not, List, [], ◌∷◌, ◌++◌, length, Option, sym, refl, ap, ◌∙◌, subst, append_assoc, append-nil, length-append, arith, map, filter, nat_lt, rules}
+use Rattle.std.proofs.Common.{◌≡◌, ℕ, ◌<◌, Bool, true, false, not, List, [], ◌∷◌, ◌++◌, length, sym, refl, ap, ◌∙◌, subst, append_assoc, append-nil, length-append, arith, map}
 use Rattle.std.specs.Prelude.{encode_utf8_all, encode_utf8}
-use Rattle.std.specs.Str.{bytes_eq, NonePass, NoCharPasses, EmptyOrStartsWithPassing, chars, IsUtf8}
-use Rattle.std.specs.Char.{is_whitespace, is_not_whitespace, len_utf8}
+use Rattle.std.specs.Str.{NonePass, NoCharPasses, EmptyOrStartsWithPassing}
+use Rattle.std.specs.Char.{is_whitespace, is_not_whitespace}
 use Rattle.std.proofs.lemmas.Str.{cons_from_encodes, encode_same, encodes_same, length-encode, len_utf8_bounds}
-use Rattle.std.proofs.lemmas.List.Sums.{sum_by_push}
-use Rattle.atoms.specs.Words.{cons_first, parts, char_words, words, times_seen, seen_line, lines_after, word_lines}
+use Rattle.atoms.specs.Words.{cons_first, parts, char_words}
 
 -- white space in front changes no word
 pub words_past_gap : (gap cs : List ℕ) → NonePass is_not_whitespace gap → char_words (gap ++ cs) ≡ char_words cs

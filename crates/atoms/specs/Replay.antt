@@ -46,6 +46,13 @@ held_lines_from e (entry ∷ entries) = held_line e entry.count ++ held_lines_fr
 abbrev pub output_of : List StepReply → World → List ℕ
 output_of replies world = flat_map reply_line replies ++ held_lines_from 1 world.entries
 
+-- The steps were all made, and the lines of their replies appended.
+pub record RunsOn (t : Tables) (old new : World) (steps : Script) (before after : List ℕ) : Type 0 where
+  pub replies : List StepReply
+  pub run : HasRun t old steps [] replies new
+  pub all : length replies ≡ length steps
+  pub is : after ≡ before ++ flat_map reply_line replies
+
 -- The steps were all made, one after another, from a world in which nothing happened yet, and this is the output.
 pub record IsOutput (t : Tables) (limits : Bounds) (steps : Script) (output : List ℕ) : Type 0 where
   pub replies : List StepReply

@@ -1,5 +1,5 @@
 -- The script of steps that `replay` reads: its lines, and what each spells.
-use Rattle.std.specs.Prelude.{◌≡◌, ℕ, ◌+◌, ◌-◌, ◌^◌, ◌<◌, ◌≤◌, ◌==◌, ◌⊎◌, true, false, if◌then◌else◌, List, [], ◌∷◌, ◌++◌, length, codes, decimal, string_bytes}
+use Rattle.std.specs.Prelude.{◌≡◌, ℕ, ◌+◌, ◌-◌, ◌^◌, ◌<◌, ◌≤◌, ◌==◌, ◌⊎◌, true, false, if◌then◌else◌, List, [], ◌∷◌, ◌++◌, length, codes, decimal, string_bytes, Option, None, Some}
 use Rattle.string_cache.specs.Bounds.{Bounds, AreBounds}
 use Rattle.string_cache.specs.declared.steps.Step.{Step}
 use Rattle.string_cache.specs.declared.steps.Step.TheVariants.{TakeIntern, TakeSweep, Add, Link, Clone, Give, Unlink, Free, Leave}
@@ -79,6 +79,19 @@ greatest = record { holders = 2 ^ 63 - 1; serials = 2 ^ 50 - 1 }
 abbrev pub SpellScript : List (List ℕ) → Bounds → Script → Type 0
 SpellScript lines limits steps = ((limits ≡ greatest) × SpellSteps lines steps)
     ⊎ ((line : List ℕ) × (rest : List (List ℕ)) × (lines ≡ line ∷ rest) × SpellsLimits line limits × SpellSteps rest steps)
+
+-- The first line of a text spells limits, and the rest of the text is left, or it spells none, and all of it is left.
+abbrev pub TakesLimits : List ℕ → Option Bounds → List ℕ → Type 0
+TakesLimits text None rest =
+    ((line : List ℕ) (lines : List (List ℕ)) (l : Bounds) → script_lines text ≡ line ∷ lines → SpellsLimits line l → ⊥)
+    × (rest ≡ text)
+TakesLimits text (Some l) rest =
+    ((line : List ℕ) × (script_lines text ≡ line ∷ script_lines rest) × SpellsLimits line l)
+    × (length rest < length text)
+
+-- each line spells a step
+abbrev pub AreSteps : List (List ℕ) → Type 0
+AreSteps lines = (steps : Script) × SpellSteps lines steps
 
 -- Line n is the first of these lines that spells no step, where the first of them is line `passed + 1`.
 pub record StopsAfter (lines : List (List ℕ)) (passed n : ℕ) : Type 0 where

@@ -114,11 +114,13 @@ pub fn program<R: Wait, S: Source, K: Sink, F: Sink>(
         AppendsBeginning (K.contents output.old) (K.contents output.new) (word_lines bytes)) }
     ensures status { AreWords args.now → result ≤ 1 }
     ensures replay { AreReplay args.now → result ≡ 0 → IfSome (S.remaining input.old) (λ bytes.
-        (lines : List ℕ) × IsReplay empty_tables bytes lines × Appends (K.contents output.old) (K.contents output.new) lines) }
+        (lines : List ℕ) × IsReplay empty_tables bytes lines
+        × Appends (K.contents output.old) (K.contents output.new) lines) }
     ensures replay_beginning { AreReplay args.now → result ≡ 1 → IfSome (S.remaining input.old) (λ bytes.
         BeginsReplay empty_tables bytes (K.contents output.old) (K.contents output.new)) }
     ensures replay_status { AreReplay args.now → result ≤ 1 }
-    ensures other { ¬ (AreWords args.now) → ¬ (AreReplay args.now) → (result ≡ 2) × (input.new ≡ input.old) × (output.new ≡ output.old) }
+    ensures other { ¬ (AreWords args.now) → ¬ (AreReplay args.now)
+        → (result ≡ 2) × (input.new ≡ input.old) × (output.new ≡ output.old) }
 {
     let Some(command) = command_of(args) else {
         return usage(faults);

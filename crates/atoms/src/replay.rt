@@ -5,9 +5,10 @@ ghost use Rattle.std.specs.Prelude.{◌≡◌, ◌≢◌, ℕ, List, false, true
 ghost use Rattle.std.specs.Str.{IsUtf8};
 ghost use Rattle.std.specs.Io.KnownBytes.{Appends, IsAtEnd, Keeps};
 ghost use Rattle.string_cache.specs.Tables.{empty_tables};
+ghost use Rattle.string_cache.specs.Runs.{Script};
 ghost use Rattle.atoms.specs.Faults.{IsReadingFault, IsParsingFault, IsReplayFault};
-ghost use Rattle.atoms.specs.Script.{script_lines, IsFirstBadLine};
-ghost use Rattle.atoms.specs.Replay.{IsOutput, IsReplay, BeginsReplay};
+ghost use Rattle.atoms.specs.Script.{script_lines, SpellSteps, AreSteps, IsFirstBadLine};
+ghost use Rattle.atoms.specs.Replay.{RunsOn, IsOutput, IsReplay, BeginsReplay};
 
 mod line;
 mod print;
@@ -17,37 +18,74 @@ mod tests;
 
 use crate::faults::AppFault;
 use crate::streams::{Sink, Source, read_all, write_whole};
+use line::step_of_line;
 use print::{append_holders, append_replies};
-use script::read_script;
+use script::{check_steps, next_line, opening_of};
 use std::alloc::Global;
 use std::str;
 use string_cache::EmptyStaticAtomSet;
 use string_cache::steps::{Step, World};
 use string_cache::word::Limits;
 
-/// Makes the steps in a world of their own: the lines of the replies, and of what is held then.
-fn output_of(alloc: Global, limits: Limits, steps: Vec<(u32, Step)>) -> Result<String, AppFault>
-    ensures ok { IfOk result (λ out. IsOutput empty_tables limits steps.items (string_bytes out)) }
+/// So many steps are kept at most, and then made.
+const CHUNK: usize = 4096;
+
+/// Makes the steps, and appends the lines of their replies.
+fn run_steps(
+    alloc: Global,
+    world: &mut World<EmptyStaticAtomSet>,
+    steps: &[(u32, Step)],
+    out: &mut String,
+) -> Result<(), AppFault>
+    ensures ok { OnOk result (RunsOn empty_tables world.old world.new steps.now
+        (string_bytes out.old) (string_bytes out.new)) }
+    ensures fault { IfErr result (IsParsingFault (λ n. ⊥)) }
+{
+    let mut replies = Vec::new(alloc);
+    world.run(steps, &mut replies)?;
+    append_replies(out, &replies)?;
+    Ok(())
+}
+
+/// Makes the steps of a text's lines in a world of their own, and gives the lines of the replies and of what is held
+/// then.
+fn output_of(alloc: Global, limits: Limits, text: &str) -> Result<String, AppFault>
+    requires { AreSteps (script_lines text.now) }
+    ensures ok { IfOk result (λ out. (steps : Script) × SpellSteps (script_lines text.now) steps
+        × IsOutput empty_tables limits steps (string_bytes out)) }
     ensures fault { IfErr result (IsParsingFault (λ n. ⊥)) }
 {
     let mut world: World<EmptyStaticAtomSet> = World::new(alloc, limits)?;
-    let mut replies = Vec::new(alloc);
-    world.run(&steps, &mut replies)?;
-    let most = steps.len() as u64;
-    drop(steps);
     let mut out = String::new(alloc);
-    append_replies(&mut out, &replies)?;
+    let mut steps = Vec::new(alloc);
+    let mut most = 0u64;
+    let mut rest = text;
+    while let Some((line, after)) = next_line(rest) {
+        let Some(step) = step_of_line(alloc, line)? else {
+            unreachable!();
+        };
+        steps.push(step)?;
+        most += 1;
+        rest = after;
+        if steps.len() >= CHUNK {
+            run_steps(alloc, &mut world, &steps, &mut out)?;
+            steps.clear();
+        }
+    }
+    run_steps(alloc, &mut world, &steps, &mut out)?;
     append_holders(&mut out, &world, most)?;
     Ok(out)
 }
 
-/// The output of a script. `Script` where it isn't one.
+/// The output of a script. `Script` where it isn't one: each line is looked at before the first step is made.
 fn replay_text(alloc: Global, text: &str) -> Result<String, AppFault>
     ensures ok { IfOk result (λ out. IsReplay empty_tables text.now (string_bytes out)) }
     ensures fault { IfErr result (IsParsingFault (λ n. IsFirstBadLine (script_lines text.now) n)) }
 {
-    let (limits, steps) = read_script(alloc, text)?;
-    output_of(alloc, limits, steps)
+    let (given, rest) = opening_of(text);
+    let before = u64::from(given.is_some());
+    check_steps(alloc, rest, before)?;
+    output_of(alloc, given.unwrap_or(Limits::greatest()), rest)
 }
 
 /// Runs the script that the reader gives, over a table that nothing was interned in: a line for each step's reply, and
@@ -67,7 +105,8 @@ pub fn replay<S: Source, K: Sink>(
     // The reader has ended, and what it gave is a script, whose output is written.
     ensures ended { OnOk result (S.has_ended reader.new ≡ true × IsAtEnd (S.remaining reader.new)) }
     ensures lines { OnOk result (IfSome (S.remaining reader.old) (λ bytes.
-        (output : List ℕ) × IsReplay empty_tables bytes output × Appends (K.contents writer.old) (K.contents writer.new) output)) }
+        (output : List ℕ) × IsReplay empty_tables bytes output
+        × Appends (K.contents writer.old) (K.contents writer.new) output)) }
 
     // After a fault at most a beginning of it, and after any other than Write nothing.
     ensures beginning { OnErr result (IfSome (S.remaining reader.old) (λ bytes.
@@ -95,5 +134,6 @@ pub fn replay<S: Source, K: Sink>(
 
 /// Does nothing. Its contract is that a script has one output.
 pub fn one_output()
-    ensures { (bytes one other : List ℕ) → IsReplay empty_tables bytes one → IsReplay empty_tables bytes other → one ≡ other }
+    ensures { (bytes one other : List ℕ) → IsReplay empty_tables bytes one → IsReplay empty_tables bytes other
+        → one ≡ other }
 {}

@@ -13,7 +13,8 @@ use string_cache::word::Limits;
 
 /// Whether neither a plus nor a zero too many stands in front of what may be a number.
 fn has_plain_front(bytes: &[u8]) -> bool
-    ensures plain { OnTrue result ((slice_index bytes.now 0 ≢ 43) × (slice_index bytes.now 0 ≡ 48 → length bytes.now ≤ 1)) }
+    ensures plain { OnTrue result ((slice_index bytes.now 0 ≢ 43)
+        × (slice_index bytes.now 0 ≡ 48 → length bytes.now ≤ 1)) }
     ensures other { OnFalse result ((n : ℕ) → n < 2 ^ 64 → bytes.now ≢ decimal n) }
 {
     if bytes.is_empty() {
@@ -82,30 +83,33 @@ fn step_of(alloc: Global, words: &str) -> Result<Option<Step>, AllocError>
         ((s : Step) → HasWords s → words.now ≢ step_words s)
         (λ s. HasWords s × (words.now ≡ step_words s))) }
 {
-    let step = if let Some(text) = interned_text(words) {
-        Step::TakeIntern(String::from_str(alloc, text)?)
-    } else if let Some(bucket) = swept_bucket(words) {
-        Step::TakeSweep(bucket)
-    } else if let Some(e) = entry_after(words, "add e") {
-        Step::Add(e)
-    } else if words == "link" {
-        Step::Link(true)
-    } else if words == "link noroom" {
-        Step::Link(false)
-    } else if let Some(e) = entry_after(words, "clone e") {
-        Step::Clone(e)
-    } else if let Some(e) = entry_after(words, "give e") {
-        Step::Give(e)
-    } else if let Some(e) = entry_after(words, "unlink e") {
-        Step::Unlink(e)
-    } else if let Some(e) = entry_after(words, "free e") {
-        Step::Free(e)
-    } else if words == "leave" {
-        Step::Leave
-    } else {
-        return Ok(None);
-    };
-    Ok(Some(step))
+    if let Some(text) = interned_text(words) {
+        return Ok(Some(Step::TakeIntern(String::from_str(alloc, text)?)));
+    }
+    if let Some(bucket) = swept_bucket(words) {
+        return Ok(Some(Step::TakeSweep(bucket)));
+    }
+    if let Some(e) = entry_after(words, "add e") {
+        return Ok(Some(Step::Add(e)));
+    }
+    if let Some(e) = entry_after(words, "clone e") {
+        return Ok(Some(Step::Clone(e)));
+    }
+    if let Some(e) = entry_after(words, "give e") {
+        return Ok(Some(Step::Give(e)));
+    }
+    if let Some(e) = entry_after(words, "unlink e") {
+        return Ok(Some(Step::Unlink(e)));
+    }
+    if let Some(e) = entry_after(words, "free e") {
+        return Ok(Some(Step::Free(e)));
+    }
+    match words {
+        "link" => Ok(Some(Step::Link(true))),
+        "link noroom" => Ok(Some(Step::Link(false))),
+        "leave" => Ok(Some(Step::Leave)),
+        _ => Ok(None),
+    }
 }
 
 /// A number, and what stands behind the space after it.
@@ -126,8 +130,10 @@ fn number_and_rest(text: &str) -> Option<(u64, &str)>
 /// The party's number and the words behind it, of a step's line.
 fn party_of(line: &str) -> Option<(u32, &str)>
     ensures { MatchOption result
-        ((party : ℕ) (words : List ℕ) → 1 ≤ party → party < 2 ^ 32 → line.now ≢ decimal party ++ (codes " " ++ words))
-        (λ found. (1 ≤ found.0) × (found.0 < 2 ^ 32) × (line.now ≡ decimal found.0 ++ (codes " " ++ found.1.now))) }
+        ((party : ℕ) (words : List ℕ) → 1 ≤ party → party < 2 ^ 32
+        → line.now ≢ decimal party ++ (codes " " ++ words))
+        (λ found. (1 ≤ found.0) × (found.0 < 2 ^ 32)
+        × (line.now ≡ decimal found.0 ++ (codes " " ++ found.1.now))) }
 {
     let (number, words) = number_and_rest(line)?;
     if number == 0 || number >= 1 << 32 {

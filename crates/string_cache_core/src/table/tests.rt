@@ -272,3 +272,50 @@ fn refused_memory(rt: HostRuntime) {
         "it takes no memory"
     );
 }
+
+/// Three calls that intern.
+fn three_calls(alloc: Global) -> Result<Vec<Call>, Fault> {
+    let mut calls = Vec::new(alloc);
+    for text in "interned tokenised interned".split(' ') {
+        calls.push(intern_call(alloc, text)?)?;
+    }
+    Ok(calls)
+}
+
+/// The replies to the calls in a new table. A run that was refused changed nothing, and is made again; where a call of it
+/// was refused memory, all are made again in a new table.
+fn replies_at_last(
+    rt: &impl Abort,
+    alloc: Global,
+    calls: &[Call],
+) -> Result<Vec<TableReply>, Fault> {
+    let mut table = Table::<EmptyStaticAtomSet>::new(alloc)?;
+    match run(&mut table, calls) {
+        Err(Fault::Memory) => {
+            assert!(rt; keeps(&table, 0, 0));
+            run(&mut table, calls)
+        }
+        Ok(replies) if replies.contains(&TableReply::Refused(Fault::Memory)) => {
+            run(&mut Table::<EmptyStaticAtomSet>::new(alloc)?, calls)
+        }
+        made => made,
+    }
+}
+
+/// Passes also where any one request for memory is refused.
+#[test]
+fn a_refused_run_is_made_again(rt: HostRuntime) -> Result<(), Fail> {
+    let alloc = rt.alloc();
+    let calls = match three_calls(alloc) {
+        Ok(calls) => calls,
+        Err(_) => three_calls(alloc)?,
+    };
+    let replies = match replies_at_last(&rt, alloc, &calls) {
+        Ok(replies) => replies,
+        Err(_) => replies_at_last(&rt, alloc, &calls)?,
+    };
+    let interned = TableReply::Word(ticket_word(1, bucket_of("interned") as u16));
+    let tokenised = TableReply::Word(ticket_word(1, bucket_of("tokenised") as u16));
+    assert!(rt; replies.as_slice() == [interned, tokenised, interned].as_slice());
+    Ok(())
+}

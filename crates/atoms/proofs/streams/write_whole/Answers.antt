@@ -1,4 +1,4 @@
-use Rattle.std.proofs.Common.{rules, arith, ◌≡◌, take, drop, sym, subst, ℕ, [], zero}
+use Rattle.std.proofs.Common.{rules, ◌≡◌}
 use Rattle.std.proofs.lemmas.List.{take_rest}
 use Rattle.atoms.proofs.StreamLemmas.{appends_more, beginning_of_take, keeps_none}
 use Rattle.atoms.proofs.streams.write_whole.Goals as goal

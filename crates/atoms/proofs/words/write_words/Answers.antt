@@ -1,4 +1,4 @@
-use Rattle.std.proofs.Common.{arith, ap, ◌∙◌, refl, ◌+◌, ◌++◌, string_bytes}
+use Rattle.std.proofs.Common.{ap, ◌∙◌, refl, ◌++◌, string_bytes}
 use Rattle.std.specs.Str.Iter.{split_whitespace_rest}
 use Rattle.atoms.specs.Words.{seen_line}
 use Rattle.atoms.proofs.StreamLemmas.{on_err, on_err_map, on_ok_map, beginning_nothing, keeps_same}

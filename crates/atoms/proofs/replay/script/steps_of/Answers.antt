@@ -1,6 +1,0 @@
-use Rattle.std.proofs.Common.{rules}
-use Rattle.atoms.proofs.LineLemmas.{reading_next}
-use Rattle.atoms.proofs.replay.script.steps_of.Goals as goal
-
-pub loop-line-preserved : goal.loop-line-preserved
-loop-line-preserved c = (search rules, rw c.in_ok-push.ensures.items (reading_next c.loop-line.invariant.1 c.in-Some.line.now c.in-Some.after.now c.in-Some-2.step c.in-Some.ensures.0 c.in-Some.ensures.1 (rw c.in-Some-2.is at c.in_ok-step.ensures)))
