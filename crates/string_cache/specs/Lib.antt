@@ -23,6 +23,8 @@ pub mod Case
 pub mod Chain
 pub mod Link
 pub mod Packed
+pub mod Precomputed
+pub mod Printed
 pub mod Share
 pub mod Stop
 pub mod Walked

@@ -11,6 +11,7 @@ mod examples;
 mod samples;
 #[cfg(test)]
 mod tests;
+pub mod trivial_impls;
 
 pub use atom::{Atom, DefaultAtom};
 pub use string_cache_core::static_sets::{EmptyStaticAtomSet, PhfStrSet, StaticAtomSet};

@@ -1,0 +1,101 @@
+//! How atoms print, their hashes of 32 bits, and the JSON texts that they are turned into and read from.
+
+ghost use Rattle.std.specs.Prelude.{◌≡◌, ◌↔◌, ℕ, Some, Err, IfErr, IfOk, IfSome, IsNone, IsTrue, OnErr};
+ghost use Rattle.std.specs.Fmt.{styled_text};
+ghost use Rattle.serde_json.specs.Data.{string};
+ghost use Rattle.serde_json.specs.Find.{as_str};
+ghost use Rattle.serde_json.specs.View.{view};
+ghost use Rattle.string_cache_core.specs.Tables.{form_of_text, hash_number, is_dynamic};
+ghost use Rattle.string_cache.specs.Precomputed.{precomputed_number};
+ghost use Rattle.string_cache.specs.Printed.{debug_text, form_name};
+
+#[cfg(test)]
+mod tests;
+
+use crate::atom::Atom;
+use crate::dynamic_set::Set;
+use serde_json::Value;
+use std::alloc::Global;
+use std::fmt::{self, Debug, Display, Formatter, Write};
+use std::sync::Wait;
+use string_cache_core::Fault;
+use string_cache_core::static_sets::StaticAtomSet;
+
+/// Values with a hash of 32 bits that is there before it is asked for.
+pub trait PrecomputedHash {
+    /// The hash of a value.
+    ghost precomputed: { Self → ℕ };
+
+    /// The hash.
+    fn precomputed_hash(&self) -> u32
+        ensures { result ≡ precomputed self.now };
+}
+
+/// The high 32 bits of `get_hash`, xored with the low ones.
+impl<'s, Static: StaticAtomSet> PrecomputedHash for Atom<'s, Static> {
+    ghost precomputed = { λ atom. precomputed_number (hash_number Static.tables atom.text) };
+
+    fn precomputed_hash(&self) -> u32 {
+        let hash = self.get_hash();
+        (hash >> 32) as u32 ^ (hash & 0xffff_ffff) as u32
+    }
+}
+
+/// The text. Width and precision act on it as on a `str`.
+impl<'s, Static: StaticAtomSet> Display for Atom<'s, Static> {
+    ghost output = { λ atom. Some atom.text };
+
+    ghost styled_output = { λ atom spec. Some (styled_text spec atom.text) };
+
+    fn fmt<W: Write>(&self, f: &mut Formatter<W>) -> fmt::Result {
+        f.pad(self.as_str())
+    }
+}
+
+/// `Atom('`, the text as it is, `' type=`, the name of its form, and `)`. No width acts on the whole.
+impl<'s, Static: StaticAtomSet> Debug for Atom<'s, Static> {
+    ghost debug_output = { λ atom. Some (debug_text Static.tables atom.text) };
+
+    fn fmt<W: Write>(&self, f: &mut Formatter<W>) -> fmt::Result {
+        write!(f, "Atom('{}' type={})", self.as_str(), self.form_name())
+    }
+}
+
+impl<'s, Static: StaticAtomSet> Atom<'s, Static> {
+    /// The JSON text value of the atom's text. It is refused for `Memory` alone.
+    pub fn to_json(&self, alloc: Global) -> Result<Value, Fault>
+        ensures text { IfOk result (λ value. view value ≡ string self.now.text) }
+        ensures refused { IfErr result (λ fault. fault ≡ Fault.Memory) }
+    {
+        let text = String::from_str(alloc, self.as_str())?;
+        Ok(Value::String(text))
+    }
+
+    /// The atom of a JSON text value's text, as `from_str_in` gives it.
+    ///
+    /// `NotText` comes exactly where the value isn't a text, and then no lock is taken. A text is refused as by
+    /// `from_str_in`: only where it is dynamic.
+    pub fn from_json_in<R: Wait>(set: &'s Set<Static>, rt: &R, value: &Value) -> Result<Self, Fault>
+        ensures text { IfOk result (λ atom. as_str (view value.now) ≡ Some atom.text) }
+        ensures not_text { (result ≡ Err Fault.NotText) ↔ IsNone (as_str (view value.now)) }
+        ensures dynamic { OnErr result (IfSome (as_str (view value.now)) (λ text. IsTrue (is_dynamic Static.tables text))) }
+    {
+        match value.as_str() {
+            Some(text) => Self::from_str_in(set, rt, text),
+            None => Err(Fault::NotText),
+        }
+    }
+
+    /// The name of the atom's form.
+    fn form_name(&self) -> &'static str
+        ensures { result.now ≡ form_name (form_of_text Static.tables self.now.text) }
+    {
+        if self.is_inline() {
+            "inline"
+        } else if self.is_static() {
+            "static"
+        } else {
+            "dynamic"
+        }
+    }
+}
