@@ -1,7 +1,8 @@
 -- What `replay` writes of a script.
-use Rattle.std.specs.Prelude.{◌≡◌, ℕ, ◌+◌, ◌/◌, ◌^◌, nat_lt, if◌then◌else◌, List, [], ◌∷◌, ◌++◌, length, codes, decimal, Option}
+use Rattle.std.specs.Prelude.{◌≡◌, ℕ, ◌+◌, nat_lt, if◌then◌else◌, List, [], ◌∷◌, ◌++◌, length, codes, decimal, Option}
 use Rattle.std.specs.List.{flat_map}
 use Rattle.string_cache.specs.Bounds.{Bounds}
+use Rattle.string_cache.specs.Chain.{serial_of}
 use Rattle.string_cache.specs.declared.steps.StepReply.{StepReply}
 use Rattle.string_cache.specs.declared.steps.StepReply.TheVariants as reply
 use Rattle.string_cache.specs.Tables.{Tables}
@@ -11,10 +12,6 @@ use Rattle.string_cache.specs.Runs.{Script}
 use Rattle.string_cache.specs.Theorem.{HasRun}
 use Rattle.atoms.specs.Script.{script_lines, SpellScript}
 use Rattle.atoms.specs.Streams.{AppendsBeginning}
-
--- the serial of a ticket, which stands above the bucket in its word
-abbrev pub serial_of : ℕ → ℕ
-serial_of ticket = ticket / 2 ^ 14
 
 -- the line of a reply
 abbrev pub reply_line : StepReply → List ℕ

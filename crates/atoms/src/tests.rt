@@ -1,19 +1,19 @@
 // What no contract says: printed texts and statuses, the worked examples, and each refusal and failure in turn.
 #![tactic(auto)]
 
-ghost use Rattle.std.specs.Prelude.{◌≡◌, false};
+ghost use Rattle.std.specs.Prelude.{◌≡◌, None, false};
 
 use crate::faults::AppFault;
 use crate::memory::{Bytes, Page};
 use crate::program::{program, refuse};
-use crate::streams::Io;
+use crate::streams::{Io, Sink};
 use crate::words::{words, words_alone};
 use std::alloc::{AllocError, Global};
-use std::str;
 use std::sync::Wait;
 use std::test::Fail;
+use std::{io, str};
 use string_cache::dynamic_set::Set;
-use string_cache::word::ticket_word;
+use string_cache::word::Limits;
 use string_cache::{Atom, EmptyStaticAtomSet, Fault};
 
 /// The example of the original's documentation.
@@ -210,29 +210,69 @@ fn dynamic_words_of_the_example(rt: HostRuntime) -> Result<(), Fail> {
     Ok(())
 }
 
-/// The words are in the set afterwards: the next new text of the bucket, with the lowest 12 bits of its hash, gets the second
-/// serial. And words that are there already give the same lines.
-#[test]
-fn words_are_interned_once(rt: HostRuntime) -> Result<(), Fail> {
-    let set: Set<EmptyStaticAtomSet> = Set::new(rt.alloc())?;
-    for _ in 0..2 {
-        let mut writer = Page::wide();
-        words(
-            &set,
-            &rt,
-            &mut Bytes::whole(b"interned interned"),
-            &mut writer,
-        )?;
-        assert!(rt; writer.written() == INTERNED_TWICE);
+/// Takes all bytes, and notes how many entries are linked in the set at each write.
+#[derive(Drop)]
+struct Watcher<'w, R: Wait> {
+    set: &'w Set<EmptyStaticAtomSet>,
+    rt: &'w R,
+    linked: u128,
+}
+
+impl<R: Wait> Sink for Watcher<'_, R> {
+    ghost contents = { λ _. None };
+
+    ghost has_failed = { λ _. false };
+
+    fn write(&mut self, buf: &[u8]) -> io::Result<usize> {
+        self.linked = self.set.linked(self.rt);
+        Ok(buf.len())
     }
-    // f1 of "interned" is 0x06a47210, and that of "word1412" 0xeae8c210.
-    let atom = Atom::from_str_in(&set, &rt, "word1412")?;
-    assert!(rt; atom.unsafe_data() == ticket_word(2, 0x210));
+
+    fn failed(&self) -> bool {
+        false
+    }
+}
+
+/// Each dynamic word is linked once while the lines are written, and goes with the last of its atoms.
+#[test]
+fn words_are_held_to_the_end(rt: HostRuntime) -> Result<(), Fail> {
+    let set: Set<EmptyStaticAtomSet> = Set::new(rt.alloc())?;
+    let mut writer = Watcher {
+        set: &set,
+        rt: &rt,
+        linked: 0,
+    };
+    words(
+        &set,
+        &rt,
+        &mut Bytes::whole(b"interned tokenised interned short"),
+        &mut writer,
+    )?;
+    assert!(rt; writer.linked == 2);
+    assert!(rt; set.linked(&rt) == 0);
     Ok(())
 }
 
-const INTERNED_TWICE: &[u8] =
-    b"Not seen the word \"interned\" before\nSeen the word \"interned\" 1 times\n";
+/// What `words` answers and writes of "interned" over this set.
+fn one_word<R: Wait>(set: &Set<EmptyStaticAtomSet>, rt: &R) -> (Result<(), AppFault>, Page) {
+    let mut writer = Page::wide();
+    let answer = words(set, rt, &mut Bytes::whole(b"interned"), &mut writer);
+    (answer, writer)
+}
+
+/// A ticket isn't given again to a word whose atoms are gone.
+#[test]
+fn tickets_are_spent(rt: HostRuntime) -> Result<(), Fail> {
+    let limits = Limits::new(9, 1).expect(&rt, "limits");
+    let set: Set<EmptyStaticAtomSet> = Set::with_limits(rt.alloc(), limits)?;
+    let (answer, writer) = one_word(&set, &rt);
+    assert_eq!(rt; answer, Ok(()));
+    assert!(rt; writer.written() == b"Not seen the word \"interned\" before\n".as_slice());
+    let (answer, writer) = one_word(&set, &rt);
+    assert_eq!(rt; answer, Err(AppFault::Intern(Fault::TicketsSpent)));
+    assert!(rt; writer.written().is_empty());
+    Ok(())
+}
 
 const USAGE: &[u8] = b"usage: atoms words | count N | replay\n";
 

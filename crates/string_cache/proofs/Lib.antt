@@ -1,4 +1,6 @@
 pub mod Cases
 pub mod Forms
-pub mod Seeks
+pub mod PassKeeps
+pub mod Passes
+pub mod Shares
 pub mod Walks

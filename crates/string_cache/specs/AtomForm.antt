@@ -8,13 +8,13 @@ use Rattle.string_cache.specs.declared.atom.Form.{Form}
 use Rattle.string_cache.specs.declared.atom.Form.TheVariants.{Inline, Static, Dynamic}
 
 -- the text and the word
-abbrev pub value_of_form : Tables → Form → AtomValue
+abbrev pub value_of_form : {X : Type 0} → Tables → Form X → AtomValue
 value_of_form t (Inline text) = record { text = text; word = inline_word text }
 value_of_form t (Static index) = record { text = text_at t index; word = static_word index }
-value_of_form t (Dynamic share) = record { text = share.text; word = share.ticket }
+value_of_form t (Dynamic held) = record { text = held.text; word = held.ticket }
 
 -- the text is one of this form
-abbrev pub IsOwnForm : Tables → ℕ → Form → Type 0
+abbrev pub IsOwnForm : {X : Type 0} → Tables → ℕ → Form X → Type 0
 IsOwnForm t buckets (Inline text) = IsInlineText text
 IsOwnForm t buckets (Static index) = IsStaticIndex t index × (index < length t.atoms)
-IsOwnForm t buckets (Dynamic share) = IsRight t buckets share
+IsOwnForm t buckets (Dynamic held) = IsRight t buckets held

@@ -21,10 +21,11 @@ pub mod AtomForm
 pub mod AtomValue
 pub mod Case
 pub mod Chain
+pub mod Counted
 pub mod Link
 pub mod Packed
+pub mod PassLeft
 pub mod Precomputed
 pub mod Printed
 pub mod Share
-pub mod Stop
 pub mod Walked

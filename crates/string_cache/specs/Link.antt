@@ -1,10 +1,13 @@
 -- What linking a text does to a bucket, and what interning it does.
-use Rattle.std.specs.Prelude.{◌≡◌, ◌≢◌, ℕ, ◌+◌, ◌%◌, ◌<◌, ◌≤◌, List, ◌∷◌, Option, Some, None, Result, Ok, Err}
-use Rattle.std.specs.List.{AllByRecursion, Contains}
+use Rattle.std.specs.Prelude.{◌≡◌, ℕ, ◌+◌, ◌%◌, ◌<◌, ◌≤◌, Bool, List, ◌∷◌, Some, Result, Ok, Err}
 use Rattle.string_cache_core.specs.Word.{ticket_of}
 use Rattle.string_cache_core.specs.declared.faults.Fault.{Fault}
 use Rattle.string_cache_core.specs.declared.faults.Fault.TheVariants.{Memory, FullCount, TicketsSpent, NotText}
 use Rattle.string_cache.specs.Chain.{Linked, Chain}
+use Rattle.string_cache.specs.Counted.{IsPass}
+use Rattle.string_cache.specs.declared.dynamic_set.counts.CountReply.{CountReply}
+use Rattle.string_cache.specs.declared.dynamic_set.counts.Pass.{Pass}
+use Rattle.string_cache.specs.declared.dynamic_set.counts.Pass.TheVariants.{Found, Full, Absent}
 
 -- the next entry of a bucket, one of so many, for a text with this hash
 abbrev pub next_entry : ℕ → Chain → List ℕ → ℕ → Linked
@@ -23,27 +26,16 @@ IsLink buckets limit text hash c (Err TicketsSpent) d = (limit ≤ c.last) × (d
 IsLink buckets limit text hash c (Err FullCount) d = ⊥
 IsLink buckets limit text hash c (Err NotText) d = ⊥
 
--- no entry has this text
-abbrev pub IsAbsent : List ℕ → List Linked → Type 0
-IsAbsent text es = AllByRecursion (λ e. e.text ≢ text) es
+-- what interning answers and leaves after a pass with this answer
+abbrev pub GoesOn : ℕ → ℕ → List ℕ → ℕ → Chain → Pass Linked → Result Linked Fault → Chain → Type 0
+GoesOn buckets limit text hash c (Found s) r d = (r ≡ Ok s) × (d ≡ c)
+GoesOn buckets limit text hash c Full r d = (r ≡ Err FullCount) × (d ≡ c)
+GoesOn buckets limit text hash c Absent r d = IsLink buckets limit text hash c r d
 
--- A look-up answers a share of an entry of the text, or that there is none; or the entry has as many shares as there may be.
-abbrev pub IsFound : List ℕ → List Linked → Result (Option Linked) Fault → Type 0
-IsFound text es (Ok (Some s)) = Contains es s × (s.text ≡ text)
-IsFound text es (Ok None) = IsAbsent text es
-IsFound text es (Err FullCount) = Unit {0}
-IsFound text es (Err Memory) = ⊥
-IsFound text es (Err TicketsSpent) = ⊥
-IsFound text es (Err NotText) = ⊥
-
--- what interning answers and leaves after a look-up with this answer
-abbrev pub GoesOn : ℕ → ℕ → List ℕ → ℕ → Chain → Result (Option Linked) Fault → Result Linked Fault → Chain → Type 0
-GoesOn buckets limit text hash c (Ok (Some s)) r d = (r ≡ Ok s) × (d ≡ c)
-GoesOn buckets limit text hash c (Ok None) r d = IsLink buckets limit text hash c r d
-GoesOn buckets limit text hash c (Err fault) r d = (r ≡ Err fault) × (d ≡ c)
-
--- interning is a look-up, and links where the text was absent
-pub record IsIntern (buckets : ℕ) (limit : ℕ) (text : List ℕ) (hash : ℕ) (c : Chain) (r : Result Linked Fault) (d : Chain) : Type 0 where
-  pub answer : Result (Option Linked) Fault
-  pub found : IsFound text c.entries answer
-  pub goes_on : GoesOn buckets limit text hash c answer r d
+-- interning is a pass for the text, and links where it is absent
+pub record IsIntern {C : Type 0} (adds : C → Linked → CountReply Linked → C → Type 0) (dies : C → Linked → Bool → C → Type 0)
+    (buckets : ℕ) (limit : ℕ) (text : List ℕ) (hash : ℕ) (k : C) (c : Chain) (r : Result Linked Fault) (l : C) (d : Chain) : Type 0 where
+  pub answer : Pass Linked
+  pub left : List Linked
+  pub pass : IsPass adds dies (Some text) k c.entries answer l left
+  pub goes_on : GoesOn buckets limit text hash (record { entries = left; last = c.last }) answer r d

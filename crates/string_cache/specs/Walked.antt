@@ -18,6 +18,11 @@ abbrev pub passed_by : Walked → List Linked → Walked
 passed_by w [] = w
 passed_by w (e ∷ rest) = record { passed = w.passed ++ e ∷ []; left = rest }
 
+-- the next entry is taken out
+abbrev pub taken_out : Walked → List Linked → Walked
+taken_out w [] = w
+taken_out w (e ∷ rest) = record { passed = w.passed; left = rest }
+
 -- the place is before all entries
 abbrev pub at_start : List Linked → Walked
 at_start es = record { passed = []; left = es }

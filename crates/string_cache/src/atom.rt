@@ -19,9 +19,9 @@ mod compare;
 #[cfg(test)]
 mod tests;
 
-use crate::dynamic_set::{BUCKETS, Set, Share};
+use crate::dynamic_set::{BUCKETS, Held, Set};
 use std::borrow::CowStr;
-use std::marker::{Model, PhantomData};
+use std::marker::Model;
 use std::sync::Wait;
 use string_cache_core::Fault;
 use string_cache_core::static_sets::{
@@ -31,18 +31,18 @@ use string_cache_core::word::{InlineText, pack_inline_word, static_word, unpack_
 
 /// How an atom holds its text.
 #[derive(Drop)]
-enum Form {
+enum Form<'s, Static: StaticAtomSet> {
     Inline(InlineText),
     /// The text at this index of the static tables.
     Static(u32),
-    Dynamic(Share),
+    Dynamic(Held<'s, Static>),
 }
 
-/// A text, in the form that it has under the tables of its static type. A dynamic one is shared with the set `'s`.
+/// A text, in the form that it has under the tables of its static type. A dynamic one is shared with the set `'s`: its end
+/// gives one share back, and never waits.
 #[derive(Drop)]
 pub struct Atom<'s, Static: StaticAtomSet> {
-    form: Form,
-    set: PhantomData<&'s Set<Static>>,
+    form: Form<'s, Static>,
 }
 
 /// An atom that is inline or dynamic.
@@ -62,21 +62,18 @@ impl<'s, Static: StaticAtomSet> Model for Atom<'s, Static> {
 }
 
 impl<'s, Static: StaticAtomSet> Atom<'s, Static> {
-    fn of_form(form: Form) -> Self
+    fn of_form(form: Form<'s, Static>) -> Self
         requires { IsOwnForm Static.tables BUCKETS form }
-        ensures { result ≡ value_of_form Static.tables form }
+        ensures { result ≡ value_of_form Static.tables form.entry }
     {
-        Atom {
-            form,
-            set: PhantomData,
-        }
+        Atom { form }
     }
 
     /// The atom of a text. A dynamic text is looked for in the set, and linked there if it is new. Inline and static texts
     /// are never refused, and take no lock and no memory.
     ///
     /// `Memory` comes where a new text finds no room, `TicketsSpent` where its bucket has given its last ticket, and
-    /// `FullCount` where an entry has as many shares as an `Arc` may have.
+    /// `FullCount` where the text's entry has as many holders as the set's limits allow, or as an `Arc` may have.
     pub fn from_str_in<R: Wait>(set: &'s Set<Static>, rt: &R, text: &str) -> Result<Self, Fault>
         ensures text { IfOk result (λ atom. atom.text ≡ text.now) }
         ensures refused { IfErr result IsInternFault }
@@ -86,8 +83,8 @@ impl<'s, Static: StaticAtomSet> Atom<'s, Static> {
             TextForm::Inline(word) => Ok(Self::of_form(Form::Inline(unpack_inline(word).unwrap()))),
             TextForm::Static(index) => Ok(Self::of_form(Form::Static(index))),
             TextForm::Dynamic(hash) => {
-                let share = set.intern(rt, text, hash)?;
-                Ok(Self::of_form(Form::Dynamic(share)))
+                let held = set.intern(rt, text, hash)?;
+                Ok(Self::of_form(Form::Dynamic(held)))
             }
         }
     }
@@ -120,9 +117,9 @@ impl<'s, Static: StaticAtomSet> Atom<'s, Static> {
 
     /// Another atom of the same text and word.
     ///
-    /// It is refused for a dynamic text alone, and with `FullCount` alone: where its entry has as many shares as an `Arc`
-    /// may have.
-    pub fn clone_atom<R: Wait>(&self, _rt: &R) -> Result<Self, Fault>
+    /// It is refused for a dynamic text alone, and with `FullCount` alone: where its entry has as many holders as the set's
+    /// limits allow, or as an `Arc` may have.
+    pub fn clone_atom<R: Wait>(&self, rt: &R) -> Result<Self, Fault>
         ensures same { IfOk result (λ atom. atom ≡ self.now) }
         ensures refused { IfErr result (λ fault. fault ≡ Fault.FullCount) }
         ensures dynamic { OnErr result (IsTrue (is_dynamic Static.tables self.now.text)) }
@@ -130,7 +127,7 @@ impl<'s, Static: StaticAtomSet> Atom<'s, Static> {
         let form = match &self.form {
             Form::Inline(text) => Form::Inline(*text),
             Form::Static(index) => Form::Static(*index),
-            Form::Dynamic(share) => Form::Dynamic(share.clone_share()?),
+            Form::Dynamic(held) => Form::Dynamic(held.clone_share(rt)?),
         };
         Ok(Self::of_form(form))
     }
@@ -188,7 +185,7 @@ impl<'s, Static: StaticAtomSet> Atom<'s, Static> {
         match &self.form {
             Form::Inline(text) => text.as_str(),
             Form::Static(index) => Static::get().atoms[*index as usize],
-            Form::Dynamic(share) => share.text(),
+            Form::Dynamic(held) => held.text(),
         }
     }
 
@@ -207,7 +204,7 @@ impl<'s, Static: StaticAtomSet> Atom<'s, Static> {
         match &self.form {
             Form::Inline(text) => pack_inline_word(text.as_str()).unwrap(),
             Form::Static(index) => static_word(*index),
-            Form::Dynamic(share) => share.ticket(),
+            Form::Dynamic(held) => held.ticket(),
         }
     }
 
@@ -219,7 +216,7 @@ impl<'s, Static: StaticAtomSet> Atom<'s, Static> {
         match &self.form {
             Form::Inline(text) => pack_inline_word(text.as_str()).unwrap(),
             Form::Static(index) => Static::get().hashes[*index as usize],
-            Form::Dynamic(share) => share.hash(),
+            Form::Dynamic(held) => held.hash(),
         }
     }
 

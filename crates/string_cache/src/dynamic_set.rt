@@ -1,11 +1,17 @@
-//! The set of dynamic texts, shared by threads: buckets of entries, each behind a lock of its own.
+//! The set of dynamic texts, shared by threads: buckets of counted entries, each bucket behind a lock of its own.
 
 mod bucket;
+mod counts;
 mod entries;
+mod held;
 mod set;
 mod share;
+#[cfg(test)]
+mod tests;
 
 pub(crate) use bucket::BUCKETS;
 pub use bucket::Bucket;
+pub use counts::{CountReply, Counts, Pass};
+pub use held::Held;
 pub use set::Set;
-pub use share::Share;
+pub use share::{Entry, Share};

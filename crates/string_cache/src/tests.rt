@@ -45,6 +45,8 @@ fn inline_atoms(rt: HostRuntime) -> Result<(), Fail> {
 #[test]
 fn dynamic_atoms(rt: HostRuntime) -> Result<(), Fail> {
     let set: Set<EmptyStaticAtomSet> = Set::new(rt.alloc())?;
+    // Held to the end, so that its entry is found again.
+    let _held = Atom::from_str_in(&set, &rt, "abcdefgh")?;
     // The low 12 bits of f1 are the bucket: of 0x86f9a2c5, 0x06a47210 and 0xb9737e77.
     for (text, bucket) in [
         ("abcdefgh", 0x2c5),

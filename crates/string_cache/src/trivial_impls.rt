@@ -21,9 +21,9 @@ use std::sync::Wait;
 use string_cache_core::Fault;
 use string_cache_core::static_sets::StaticAtomSet;
 
-/// Values with a hash of 32 bits that is there before it is asked for.
+/// Values that have a hash of 32 bits at hand.
 pub trait PrecomputedHash {
-    /// The hash of a value.
+    /// What `precomputed_hash` answers.
     ghost precomputed: { Self → ℕ };
 
     /// The hash.
@@ -73,8 +73,8 @@ impl<'s, Static: StaticAtomSet> Atom<'s, Static> {
 
     /// The atom of a JSON text value's text, as `from_str_in` gives it.
     ///
-    /// `NotText` comes exactly where the value isn't a text, and then no lock is taken. A text is refused as by
-    /// `from_str_in`: only where it is dynamic.
+    /// `NotText` comes exactly where the value isn't a text, and then no lock is taken. A text is refused only where it is
+    /// dynamic, with the faults of `from_str_in`.
     pub fn from_json_in<R: Wait>(set: &'s Set<Static>, rt: &R, value: &Value) -> Result<Self, Fault>
         ensures text { IfOk result (λ atom. as_str (view value.now) ≡ Some atom.text) }
         ensures not_text { (result ≡ Err Fault.NotText) ↔ IsNone (as_str (view value.now)) }

@@ -1,17 +1,20 @@
 // A bucket: what one lock holds.
-ghost use Rattle.std.specs.Prelude.{◌≡◌, [], IfOk, IfErr, IfSome};
+ghost use Rattle.std.specs.Prelude.{◌≡◌, [], length, IfOk, IfErr, Some, None};
 ghost use Rattle.std.specs.List.{AllByRecursion};
 ghost use Rattle.string_cache_core.specs.Tables.{form_of_text};
 ghost use Rattle.string_cache_core.specs.declared.static_sets.TextForm.TheVariants.{Dynamic};
 ghost use Rattle.string_cache_core.specs.Faults.{IsInternFault};
 ghost use Rattle.string_cache.specs.Chain.{IsRight};
-ghost use Rattle.string_cache.specs.Link.{IsLink, IsFound, IsIntern};
-ghost use Rattle.string_cache.specs.Stop.{IsStop, IsNextShare};
+ghost use Rattle.string_cache.specs.Counted.{GivesShares, IsPass};
+ghost use Rattle.string_cache.specs.Link.{IsLink, IsIntern};
+ghost use Rattle.string_cache.specs.PassLeft.{IsPassLeft};
 
+use super::counts::{CountReply, Counts, OwnCounts, Pass};
 use super::entries::Entries;
 use super::share::{Entry, Share};
 use std::alloc::Global;
 use std::marker::{Model, PhantomData};
+use std::sync::Wait;
 use string_cache_core::Fault;
 use string_cache_core::static_sets::StaticAtomSet;
 use string_cache_core::word::{Limits, ticket_word};
@@ -56,8 +59,45 @@ impl<Static: StaticAtomSet> Bucket<Static> {
         }
     }
 
-    /// Links one new entry as the first, with the next serial, and gives a share of it. `hash` is that of the text, as
-    /// `form_of_text` tells it.
+    /// How many entries are linked.
+    pub(super) fn len(&self) -> usize
+        ensures { result ≡ length self.now.entries }
+    {
+        self.entries.len()
+    }
+
+    /// One pass over all entries, which looks for the text: asks `counts` about each in order, and unlinks those that it
+    /// answers as dying. Entries of the text are asked by `add` until one was added or is full, and all others by `dying`.
+    /// `hash` is that of the text, as `form_of_text` tells it.
+    ///
+    /// It takes no memory. What stays linked stays in order.
+    pub fn pass<R: Wait, C: Counts>(
+        &mut self,
+        rt: &R,
+        text: &str,
+        hash: u64,
+        counts: &mut C,
+    ) -> Pass<C::Share>
+        requires { form_of_text Static.tables text.now ≡ Dynamic hash }
+        ensures pass { IsPass C.adds C.dies (Some text.now) counts.old self.old.entries result counts.new self.new.entries }
+        ensures last { self.new.last ≡ self.old.last }
+    {
+        let answer = pass_left(rt, &mut self.entries, text, hash, counts);
+        self.entries.rewind();
+        answer
+    }
+
+    /// One pass over all entries, which looks for no text: asks `counts` of each by `dying`, and unlinks those that are.
+    pub fn prune<C: Counts>(&mut self, counts: &mut C)
+        ensures pass { IsPass C.adds C.dies None counts.old self.old.entries Pass.Absent counts.new self.new.entries }
+        ensures last { self.new.last ≡ self.old.last }
+    {
+        prune_left(&mut self.entries, counts);
+        self.entries.rewind();
+    }
+
+    /// Links one new entry as the first, with the next serial, and gives its only share. `hash` is that of the text, as
+    /// `form_of_text` tells it. The entry keeps the limit of holders.
     ///
     /// `TicketsSpent` comes exactly where the last serial isn't below the limit, and otherwise `Memory` alone. A refusal
     /// leaves the bucket as it was.
@@ -72,65 +112,98 @@ impl<Static: StaticAtomSet> Bucket<Static> {
         }
         let serial = self.last + 1;
         let ticket = ticket_word(serial, (hash % BUCKETS) as u16);
-        let entry = Entry::new(self.alloc, ticket, text, hash)?;
-        let share = entry.share()?;
+        let (entry, share) = Entry::new(self.alloc, ticket, text, hash, limits.holders())?;
         self.entries.add_head(entry)?;
         self.last = serial;
         Ok(share)
     }
 
-    /// A share of the text's entry: of the one that is there, or of a new one.
+    /// A pass for the text, which goes on to `link` where it is absent. `hash` is that of the text, as `form_of_text` tells
+    /// it.
     ///
-    /// `FullCount` comes only where the entry has as many shares as an `Arc` may have. Other refusals are those of `link`.
-    pub(super) fn intern(&mut self, text: &str, hash: u64, limits: &Limits) -> Result<Share, Fault>
+    /// It gives the share that the pass found, and `FullCount` where the pass found the entry full. Other refusals are those
+    /// of `link`. Where the counts give shares of the entries that they are asked about, the share is of the text.
+    pub fn intern<R: Wait, C: Counts<Share = Share>>(
+        &mut self,
+        rt: &R,
+        text: &str,
+        hash: u64,
+        limits: &Limits,
+        counts: &mut C,
+    ) -> Result<Share, Fault>
         requires { form_of_text Static.tables text.now ≡ Dynamic hash }
-        ensures intern { IsIntern BUCKETS limits.now.serials text.now hash self.old result self.new }
+        ensures intern { IsIntern C.adds C.dies BUCKETS limits.now.serials text.now hash counts.old self.old result counts.new self.new }
+        ensures share { GivesShares C.adds → IfOk result (λ s. (s.text ≡ text.now) × IsRight Static.tables BUCKETS s) }
+    {
+        let _ = &self.entries;
+        match self.pass(rt, text, hash, counts) {
+            Pass::Found(share) => Ok(share),
+            Pass::Full => Err(Fault::FullCount),
+            Pass::Absent => self.link(text, hash, limits),
+        }
+    }
+
+    /// A share of the text's entry, by the counts that the entries have themselves.
+    pub(super) fn share_of<R: Wait>(
+        &mut self,
+        rt: &R,
+        text: &str,
+        hash: u64,
+        limits: &Limits,
+    ) -> Result<Share, Fault>
+        requires { form_of_text Static.tables text.now ≡ Dynamic hash }
         ensures text { IfOk result (λ s. s.text ≡ text.now) }
         ensures right { IfOk result (λ s. IsRight Static.tables BUCKETS s) }
         ensures refused { IfErr result IsInternFault }
     {
-        match self.find(text, hash)? {
-            Some(share) => Ok(share),
-            None => self.link(text, hash, limits),
-        }
-    }
-
-    // A share of the text's entry. `None` where it has none.
-    fn find(&mut self, text: &str, hash: u64) -> Result<Option<Share>, Fault>
-        requires { form_of_text Static.tables text.now ≡ Dynamic hash }
-        ensures found { IsFound text.now self.old.entries result }
-        ensures right { IfOk result (λ found. IfSome found (λ s. IsRight Static.tables BUCKETS s)) }
-        ensures same { self.new ≡ self.old }
-    {
-        seek(&mut self.entries, text, hash);
-        let share = share_next(&self.entries);
-        self.entries.rewind();
-        share
+        self.intern(rt, text, hash, limits, &mut OwnCounts)
     }
 }
 
-// Passes entries by, up to one of the text. It compares hashes before texts.
-fn seek(entries: &mut Entries, text: &str, hash: u64)
+// Goes over the entries that are left as a pass for the text does.
+fn pass_left<R: Wait, C: Counts>(
+    rt: &R,
+    entries: &mut Entries,
+    text: &str,
+    hash: u64,
+    counts: &mut C,
+) -> Pass<C::Share>
     requires { AllByRecursion (λ e. e.text ≡ text.now → e.hash ≡ hash) entries.old.left }
-    ensures { IsStop text.now entries.old entries.new }
+    ensures { IsPassLeft C.adds C.dies (Some text.now) counts.old entries.old result counts.new entries.new }
 {
     while let Some(entry) = entries.look() {
         if entry.is_of(text, hash) {
-            return;
+            match counts.add(rt, entry) {
+                CountReply::Added(share) => {
+                    entries.keep();
+                    prune_left(entries, counts);
+                    return Pass::Found(share);
+                }
+                CountReply::Full => {
+                    entries.keep();
+                    prune_left(entries, counts);
+                    return Pass::Full;
+                }
+                CountReply::Dying => entries.take_out(),
+            }
+        } else if counts.dying(entry) {
+            entries.take_out();
+        } else {
+            entries.keep();
         }
-        entries.keep();
     }
+    Pass::Absent
 }
 
-// A share of the next entry, if one is left.
-fn share_next(entries: &Entries) -> Result<Option<Share>, Fault>
-    ensures { IsNextShare entries.now.left result }
+// Takes out those of the entries that are left which are dying.
+fn prune_left<C: Counts>(entries: &mut Entries, counts: &mut C)
+    ensures { IsPassLeft C.adds C.dies None counts.old entries.old Pass.Absent counts.new entries.new }
 {
-    let Some(entry) = entries.look() else {
-        return Ok(None);
-    };
-    match entry.share() {
-        Ok(share) => Ok(Some(share)),
-        Err(_) => Err(Fault::FullCount),
+    while let Some(entry) = entries.look() {
+        if counts.dying(entry) {
+            entries.take_out();
+        } else {
+            entries.keep();
+        }
     }
 }

@@ -1,6 +1,6 @@
 // The entries of a bucket, with a place in them. Only this file knows how they are kept.
 ghost use Rattle.std.specs.Prelude.{◌≡◌, ◌<◌, ◌∷◌, ◌++◌, [], length, IfOk, OnErr};
-ghost use Rattle.string_cache.specs.Walked.{IsNext, passed_by, at_start};
+ghost use Rattle.string_cache.specs.Walked.{IsNext, at_start, passed_by, taken_out};
 
 use super::share::Entry;
 use std::alloc::{AllocError, Global};
@@ -33,6 +33,13 @@ impl Entries {
         }
     }
 
+    /// How many entries are left.
+    pub(super) fn len(&self) -> usize
+        ensures { result ≡ length self.now.left }
+    {
+        self.items.len() - self.at
+    }
+
     /// The next entry.
     pub(super) fn look(&self) -> Option<&Entry>
         ensures { IsNext self.now.left result }
@@ -50,6 +57,14 @@ impl Entries {
         ensures { self.new ≡ passed_by self.old self.old.left }
     {
         self.at += 1;
+    }
+
+    /// Takes the next entry out, and frees it.
+    pub(super) fn take_out(&mut self)
+        requires { 0 < length self.old.left }
+        ensures { self.new ≡ taken_out self.old self.old.left }
+    {
+        drop(self.items.remove(self.at));
     }
 
     /// Goes back to the first entry.

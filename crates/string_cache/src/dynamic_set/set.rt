@@ -7,6 +7,8 @@ ghost use Rattle.string_cache.specs.Chain.{IsRight};
 ghost use Rattle.string_cache.specs.declared.dynamic_set.bucket.TheConstants.{BUCKETS};
 
 use super::bucket::{BUCKETS, Bucket};
+use super::counts::OwnCounts;
+use super::held::Held;
 use super::share::Share;
 use std::alloc::Global;
 use std::sync::{Mutex, Wait};
@@ -17,7 +19,7 @@ use string_cache_core::word::Limits;
 /// The dynamic texts of a static type, in 4096 buckets. Threads share it.
 #[derive(Drop)]
 pub struct Set<Static: StaticAtomSet> {
-    buckets: Vec<Mutex<Bucket<Static>>>,
+    pub(super) buckets: Vec<Mutex<Bucket<Static>>>,
     limits: Limits,
     alloc: Global,
     ghost all: { vec_len buckets ≡ BUCKETS },
@@ -28,13 +30,20 @@ impl<Static: StaticAtomSet> Set<Static> {
     pub fn new(alloc: Global) -> Result<Self, Fault>
         ensures { IfErr result (λ fault. fault ≡ Fault.Memory) }
     {
+        Self::with_limits(alloc, Limits::greatest())
+    }
+
+    /// A set without texts, with these limits. It is refused for `Memory` alone.
+    pub fn with_limits(alloc: Global, limits: Limits) -> Result<Self, Fault>
+        ensures { IfErr result (λ fault. fault ≡ Fault.Memory) }
+    {
         let mut buckets = Vec::with_capacity(alloc, BUCKETS as usize)?;
         for _ in 0..BUCKETS {
             buckets.push(Mutex::new(Bucket::new(alloc)))?;
         }
         Ok(Set {
             buckets,
-            limits: Limits::greatest(),
+            limits,
             alloc,
         })
     }
@@ -44,14 +53,49 @@ impl<Static: StaticAtomSet> Set<Static> {
         self.alloc
     }
 
+    /// Takes each bucket once, from 0 to 4095, with one pass over it: entries without shares go.
+    pub fn sweep<R: Wait>(&self, rt: &R) {
+        for bucket in &self.buckets {
+            bucket.lock(rt).prune(&mut OwnCounts);
+        }
+    }
+
+    /// How many entries are linked: the sum over the buckets, each read under its lock.
+    ///
+    /// Beside other threads, which may link and unlink between one bucket and the next, nothing is said of the sum.
+    pub fn linked<R: Wait>(&self, rt: &R) -> u128 {
+        let mut sum = 0u128;
+        for bucket in &self.buckets {
+            sum = sum.saturating_add(bucket.lock(rt).len() as u128);
+        }
+        sum
+    }
+
     /// A share of the entry of a dynamic text with this hash, in the bucket of the hash.
-    pub(crate) fn intern<R: Wait>(&self, rt: &R, text: &str, hash: u64) -> Result<Share, Fault>
+    pub(crate) fn intern<'s, R: Wait>(
+        &'s self,
+        rt: &R,
+        text: &str,
+        hash: u64,
+    ) -> Result<Held<'s, Static>, Fault>
         requires { form_of_text Static.tables text.now ≡ Dynamic hash }
-        ensures text { IfOk result (λ s. s.text ≡ text.now) }
-        ensures right { IfOk result (λ s. IsRight Static.tables BUCKETS s) }
+        ensures text { IfOk result (λ held. held.text ≡ text.now) }
+        ensures right { IfOk result (λ held. IsRight Static.tables BUCKETS held) }
         ensures refused { IfErr result IsInternFault }
     {
         let at = (hash % BUCKETS) as usize;
-        self.buckets[at].lock(rt).intern(text, hash, &self.limits)
+        let mut bucket = self.buckets[at].lock(rt);
+        let share = bucket.share_of(rt, text, hash, &self.limits)?;
+        Ok(Held::new(share, self))
+    }
+
+    /// Gives a share back. Where it was its entry's last, tries the lock of the entry's bucket, once, and prunes the bucket.
+    pub(super) fn give_back(&self, share: Share) {
+        let at = (share.hash() % BUCKETS) as usize;
+        if share.give_back() {
+            if let Some(mut bucket) = self.buckets[at].try_lock() {
+                bucket.prune(&mut OwnCounts);
+            }
+        }
     }
 }

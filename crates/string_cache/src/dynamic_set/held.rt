@@ -1,0 +1,81 @@
+// A share with its set: what a dynamic atom holds.
+ghost use Rattle.std.specs.Prelude.{◌≡◌, IfErr, IfOk};
+
+use super::set::Set;
+use super::share::Share;
+use std::marker::Model;
+use std::sync::Wait;
+use string_cache_core::Fault;
+use string_cache_core::static_sets::StaticAtomSet;
+
+/// One share of an entry, with the set that it is of.
+///
+/// Its drop subtracts one and never waits. Where it was the entry's last share, the bucket's lock is tried once; if it was
+/// free, dying entries are taken out of the bucket, and otherwise the next pass over the bucket does that.
+pub struct Held<'s, Static: StaticAtomSet> {
+    share: Share,
+    set: &'s Set<Static>,
+}
+
+impl<'s, Static: StaticAtomSet> Model for Held<'s, Static> {
+    ghost use Rattle.string_cache.specs.Chain.{IsRight, Linked};
+    ghost use Rattle.string_cache.specs.declared.dynamic_set.bucket.TheConstants.{BUCKETS};
+
+    ghost Value = { Linked };
+
+    ghost view = { λ h. h.share };
+
+    ghost invariant = { λ h. IsRight Static.tables BUCKETS h.share };
+}
+
+impl<'s, Static: StaticAtomSet> Drop for Held<'s, Static> {
+    fn drop(self) {
+        let Self { share, set } = self;
+        set.give_back(share);
+    }
+}
+
+impl<'s, Static: StaticAtomSet> Held<'s, Static> {
+    ghost use Rattle.string_cache.specs.Chain.{IsRight};
+    ghost use Rattle.string_cache.specs.declared.dynamic_set.bucket.TheConstants.{BUCKETS};
+
+    pub(super) fn new(share: Share, set: &'s Set<Static>) -> Held<'s, Static>
+        requires { IsRight Static.tables BUCKETS share }
+        ensures { result ≡ share }
+    {
+        Held { share, set }
+    }
+
+    /// The entry's ticket.
+    pub(crate) fn ticket(&self) -> u64
+        ensures { result ≡ self.now.ticket }
+    {
+        self.share.ticket()
+    }
+
+    /// The entry's text.
+    pub fn text(&self) -> &str
+        ensures { result.now ≡ self.now.text }
+    {
+        self.share.text()
+    }
+
+    /// The hash of the entry's text.
+    pub(crate) fn hash(&self) -> u64
+        ensures { result ≡ self.now.hash }
+    {
+        self.share.hash()
+    }
+
+    /// One share more of the same entry. It is refused for `FullCount` alone, where the entry has as many as it may have.
+    pub fn clone_share<R: Wait>(&self, rt: &R) -> Result<Held<'s, Static>, Fault>
+        ensures same { IfOk result (λ held. held ≡ self.now) }
+        ensures full { IfErr result (λ fault. fault ≡ Fault.FullCount) }
+    {
+        let share = self.share.another(rt)?;
+        Ok(Held {
+            share,
+            set: self.set,
+        })
+    }
+}
