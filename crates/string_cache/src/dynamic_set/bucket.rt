@@ -1,5 +1,5 @@
 // A bucket: what one lock holds.
-ghost use Rattle.std.specs.Prelude.{◌≡◌, [], length, IfOk, IfErr, Some, None};
+ghost use Rattle.std.specs.Prelude.{◌≡◌, ◌<◌, [], length, IfOk, IfErr, Some, None};
 ghost use Rattle.std.specs.List.{AllByRecursion};
 ghost use Rattle.string_cache_core.specs.Tables.{form_of_text};
 ghost use Rattle.string_cache_core.specs.declared.static_sets.TextForm.TheVariants.{Dynamic};
@@ -8,6 +8,7 @@ ghost use Rattle.string_cache.specs.Chain.{IsRight};
 ghost use Rattle.string_cache.specs.Counted.{GivesShares, IsPass};
 ghost use Rattle.string_cache.specs.Link.{IsLink, IsIntern};
 ghost use Rattle.string_cache.specs.PassLeft.{IsPassLeft};
+ghost use Rattle.string_cache.specs.Walked.{passed_by};
 
 use super::counts::{CountReply, Counts, OwnCounts, Pass};
 use super::entries::Entries;
@@ -123,6 +124,7 @@ impl<Static: StaticAtomSet> Bucket<Static> {
     ///
     /// It gives the share that the pass found, and `FullCount` where the pass found the entry full. Other refusals are those
     /// of `link`. Where the counts give shares of the entries that they are asked about, the share is of the text.
+    #[tactic(auto, using(crate::proofs::Shares::share_found))]
     pub fn intern<R: Wait, C: Counts<Share = Share>>(
         &mut self,
         rt: &R,
@@ -175,13 +177,11 @@ fn pass_left<R: Wait, C: Counts>(
         if entry.is_of(text, hash) {
             match counts.add(rt, entry) {
                 CountReply::Added(share) => {
-                    entries.keep();
-                    prune_left(entries, counts);
+                    prune_after(entries, counts);
                     return Pass::Found(share);
                 }
                 CountReply::Full => {
-                    entries.keep();
-                    prune_left(entries, counts);
+                    prune_after(entries, counts);
                     return Pass::Full;
                 }
                 CountReply::Dying => entries.take_out(),
@@ -193,6 +193,15 @@ fn pass_left<R: Wait, C: Counts>(
         }
     }
     Pass::Absent
+}
+
+// Passes the next entry by, and takes out those after it which are dying.
+fn prune_after<C: Counts>(decided: &mut Entries, counts: &mut C)
+    requires { 0 < length decided.old.left }
+    ensures { IsPassLeft C.adds C.dies None counts.old (passed_by decided.old decided.old.left) Pass.Absent counts.new decided.new }
+{
+    decided.keep();
+    prune_left(decided, counts);
 }
 
 // Takes out those of the entries that are left which are dying.

@@ -169,6 +169,7 @@ fn shares_of_a_bucket(rt: HostRuntime) -> Result<(), Fail> {
     drop(two);
     // The entry is dying, and goes with the pass that links the next.
     let next = interned(&mut bucket, &rt, &limits).expect(&rt, "a dynamic text")?;
+    assert!(rt; next.ticket() == ticket_word(2, 0xe77));
     assert!(rt; tickets(&mut bucket) == [next.ticket(), 0, 0]);
     Ok(())
 }

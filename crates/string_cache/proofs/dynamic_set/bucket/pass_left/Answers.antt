@@ -9,13 +9,13 @@ pub returns-in-Added : goal.returns-in-Added
 returns-in-Added g c =
     let next = c.in-Some.ensures in
     c.loop-entry.invariant.0 _ _ _
-    (on_added g.C.Counts.adds g.C.Counts.dies _ _ _ _ _ next.0 next.1 c.args.text.now c.in-Added.share (c.if-is_of.ensures.0 refl).1 c.in-Added.ensures c.keep.ensures _ _ c.prune_left.ensures)
+    (on_added g.C.Counts.adds g.C.Counts.dies _ _ _ _ _ next.0 next.1 c.args.text.now c.in-Added.share (c.if-is_of.ensures.0 refl).1 c.in-Added.ensures refl _ _ c.prune_after.ensures)
 
 pub returns-in-Full : goal.returns-in-Full
 returns-in-Full g c =
     let next = c.in-Some.ensures in
     c.loop-entry.invariant.0 _ _ _
-    (on_full g.C.Counts.adds g.C.Counts.dies _ _ _ _ _ next.0 next.1 c.args.text.now (c.if-is_of.ensures.0 refl).1 c.in-Full.ensures c.keep-in-Full.ensures _ _ c.prune_left-in-Full.ensures)
+    (on_full g.C.Counts.adds g.C.Counts.dies _ _ _ _ _ next.0 next.1 c.args.text.now (c.if-is_of.ensures.0 refl).1 c.in-Full.ensures refl _ _ c.prune_after-in-Full.ensures)
 
 pub loop-entry-preserved-in-Dying : goal.loop-entry-preserved-in-Dying
 loop-entry-preserved-in-Dying g c =
@@ -44,6 +44,6 @@ loop-entry-preserved g c =
     let all = c.loop-entry.invariant.1 in
     let other = not_wanted c.args.text.now c.args.hash c.in-Some.entry.now (all_first P c.loop-entry.entries c.in-Some.entry.now next.0 next.1 all) (λ is. false≢true (c.if-is_of.ensures.1 is)) in (
       λ answer d v p. c.loop-entry.invariant.0 answer d v
-          (on_stays g.C.Counts.adds g.C.Counts.dies _ _ _ _ _ next.0 next.1 (Some c.args.text.now) other c.if-dying.ensures c.keep-else-dying.ensures answer d v p),
-      all_kept P _ _ _ next.0 next.1 c.keep-else-dying.ensures all,
+          (on_stays g.C.Counts.adds g.C.Counts.dies _ _ _ _ _ next.0 next.1 (Some c.args.text.now) other c.if-dying.ensures c.keep.ensures answer d v p),
+      all_kept P _ _ _ next.0 next.1 c.keep.ensures all,
     )
