@@ -1,10 +1,33 @@
--- The lines of the entries that are held, one after the other.
-use Rattle.std.proofs.Common.{◌≡◌, ℕ, ◌+◌, ◌≤◌, List, [], ◌∷◌, ◌++◌, length, drop, sym, refl, ap, ◌∙◌, suc, zero, append_assoc, append-nil, arith, add-one}
-use Rattle.std.specs.Prelude.{Option, None, Some, slice_get}
+-- The serial that is printed of a ticket, and the lines of the entries that are held, one after the other.
+use Rattle.std.proofs.Common.{◌≡◌, ℕ, ◌+◌, ◌/◌, ◌%◌, ◌^◌, ◌<◌, ◌≤◌, ◌==◌, Bool, true, false, List, [], ◌∷◌, ◌++◌, length, drop, sym, refl, ap, ◌∙◌, suc, zero, append_assoc, append-nil, arith, add-one}
+use Rattle.std.specs.Prelude.{Option, None, Some, slice_get, if◌then◌else◌}
 use Rattle.std.specs.Option.{option_map}
+use Rattle.std.proofs.lemmas.Bool.{eq-eqb, ne_eqb, eqb-true}
+use Rattle.string_cache.specs.Layout.{ticket_unit}
+use Rattle.string_cache.specs.Word.{IsTicket, IsTicketWord, ticket_of}
 use Rattle.string_cache.specs.World.{Entry, World}
 use Rattle.string_cache.specs.Steps.{entry_at}
-use Rattle.atoms.specs.Replay.{held_line, held_lines_from}
+use Rattle.atoms.specs.Replay.{held_line, held_lines_from, serial_in}
+
+-- a ticket has its serial
+pub serial_in-ticket : (word serial bucket : ℕ) → IsTicket serial bucket → ticket_of serial bucket ≡ word → serial ≡ serial_in word
+serial_in-ticket word serial bucket range is = rw (eq-eqb (word % 4) 0 (omega (arith, is))) (omega (arith, is, range.2))
+
+-- a word of another tag has none
+pub serial_in-tagged : (word : ℕ) → (word % 4 ≡ 0 → ⊥) → 0 ≡ serial_in word
+serial_in-tagged word other = rw (ne_eqb (word % 4) 0 other) refl
+
+-- nor has a word that is no ticket
+pub serial_in-none : (word : ℕ) → word < 2 ^ 64 → ¬ (IsTicketWord word) → 0 ≡ serial_in word
+serial_in-none word small none = by_tag (word % 4 == 0) (λ e. no_serial (eqb-true (word % 4) 0 e) (word / ticket_unit) refl)
+  where
+    no_serial : word % 4 ≡ 0 → (n : ℕ) → word / ticket_unit ≡ n → 0 ≡ n
+    no_serial tag zero is = refl
+    no_serial tag (suc k) is = absurd (none (suc k, (word % ticket_unit) / 4, (omega arith, omega (arith, is, small), omega arith), omega (arith, is, tag)))
+
+    by_tag : (b : Bool) → (b ≡ true → 0 ≡ word / ticket_unit) → 0 ≡ (if b then word / ticket_unit else 0)
+    by_tag true f = f refl
+    by_tag false f = refl
 
 -- the line of an entry that may be there
 abbrev pub line_at : ℕ → Option ℕ → List ℕ

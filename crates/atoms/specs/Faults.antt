@@ -65,3 +65,12 @@ IsReplayFault Text = Unit {0}
 IsReplayFault (Script line) = Unit {0}
 IsReplayFault Worker = ⊥
 IsReplayFault (Intern fault) = IsMemory fault
+
+-- from counting words
+abbrev pub IsCountFault : AppFault → Type 0
+IsCountFault Read = ⊥
+IsCountFault Write = ⊥
+IsCountFault Text = ⊥
+IsCountFault (Script line) = ⊥
+IsCountFault Worker = Unit {0}
+IsCountFault (Intern fault) = IsInternFault fault

@@ -1,10 +1,10 @@
 -- What `replay` writes of a script.
-use Rattle.std.specs.Prelude.{◌≡◌, ℕ, ◌+◌, nat_lt, if◌then◌else◌, List, [], ◌∷◌, ◌++◌, length, codes, decimal, Option}
+use Rattle.std.specs.Prelude.{◌≡◌, ℕ, ◌+◌, ◌/◌, ◌%◌, ◌==◌, nat_lt, if◌then◌else◌, List, [], ◌∷◌, ◌++◌, length, codes, decimal, Option}
 use Rattle.std.specs.List.{flat_map}
 use Rattle.string_cache.specs.Bounds.{Bounds}
-use Rattle.string_cache.specs.Chain.{serial_of}
 use Rattle.string_cache.specs.declared.steps.StepReply.{StepReply}
 use Rattle.string_cache.specs.declared.steps.StepReply.TheVariants as reply
+use Rattle.string_cache.specs.Layout.{most_buckets, ticket_unit}
 use Rattle.string_cache.specs.Tables.{Tables}
 use Rattle.string_cache.specs.World.{Entry, World}
 use Rattle.string_cache.specs.Steps.{opening}
@@ -13,6 +13,10 @@ use Rattle.string_cache.specs.Theorem.{HasRun}
 use Rattle.atoms.specs.Script.{script_lines, SpellScript}
 use Rattle.atoms.specs.Streams.{AppendsBeginning}
 
+-- the serial of a ticket, and 0 of any other word
+abbrev pub serial_in : ℕ → ℕ
+serial_in word = if word % 4 == 0 then word / ticket_unit else 0
+
 -- the line of a reply
 abbrev pub reply_line : StepReply → List ℕ
 reply_line reply.No = codes "no\n"
@@ -20,7 +24,7 @@ reply_line reply.Taken = codes "taken\n"
 reply_line (reply.Added ticket holders) = codes "added " ++ (decimal holders ++ codes "\n")
 reply_line reply.Dying = codes "dying\n"
 reply_line reply.Full = codes "full\n"
-reply_line (reply.Linked entry ticket) = codes "linked e" ++ (decimal entry ++ (codes " serial " ++ (decimal (serial_of ticket) ++ codes "\n")))
+reply_line (reply.Linked entry ticket) = codes "linked e" ++ (decimal entry ++ (codes " serial " ++ (decimal (serial_in ticket) ++ codes "\n")))
 reply_line reply.Spent = codes "spent\n"
 reply_line reply.Memory = codes "memory\n"
 reply_line (reply.Cloned holders) = codes "cloned " ++ (decimal holders ++ codes "\n")
@@ -54,7 +58,7 @@ pub record RunsOn (t : Tables) (old new : World) (steps : Script) (before after 
 pub record IsOutput (t : Tables) (limits : Bounds) (steps : Script) (output : List ℕ) : Type 0 where
   pub replies : List StepReply
   pub world : World
-  pub run : HasRun t (opening limits 4096) steps [] replies world
+  pub run : HasRun t (opening limits most_buckets) steps [] replies world
   pub all : length replies ≡ length steps
   pub is : output ≡ output_of replies world
 

@@ -3,6 +3,7 @@ use Rattle.std.specs.Prelude.{◌≡◌, ℕ, ◌+◌, ◌-◌, ◌^◌, ◌<◌
 use Rattle.string_cache.specs.Bounds.{Bounds, AreBounds}
 use Rattle.string_cache.specs.declared.steps.Step.{Step}
 use Rattle.string_cache.specs.declared.steps.Step.TheVariants.{TakeIntern, TakeSweep, Add, Link, Clone, Give, Unlink, Free, Leave}
+use Rattle.string_cache.specs.Layout.{holder_bound, serial_bound}
 use Rattle.string_cache.specs.Runs.{Script}
 use Rattle.atoms.specs.Words.{cons_first}
 
@@ -73,7 +74,7 @@ SpellSteps (line ∷ lines) (s ∷ steps) = Spells line s × SpellSteps lines st
 
 -- without a line of limits, both are at their greatest
 abbrev pub greatest : Bounds
-greatest = record { holders = 2 ^ 63 - 1; serials = 2 ^ 50 - 1 }
+greatest = record { holders = holder_bound - 1; serials = serial_bound - 1 }
 
 -- The lines spell limits and steps: the limits in the first line, or in none.
 abbrev pub SpellScript : List (List ℕ) → Bounds → Script → Type 0

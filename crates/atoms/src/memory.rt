@@ -75,6 +75,47 @@ impl Source for Bytes<'_> {
     }
 }
 
+/// How a reader and a writer behave.
+#[derive(Clone, Copy)]
+pub struct Streams<'b> {
+    /// What there is to read.
+    pub text: &'b [u8],
+    /// The most bytes that a read gives.
+    pub gives: usize,
+    /// The read that fails, counted from 1 (0: none).
+    pub read_fails_at: u64,
+    /// The most bytes that a write takes.
+    pub takes: usize,
+    /// The write that fails, counted from 1 (0: none).
+    pub write_fails_at: u64,
+    ghost some: { 0 < gives },
+}
+
+impl<'b> Streams<'b> {
+    /// All bytes at once, and no failure.
+    pub fn ample(text: &'b [u8]) -> Streams<'b> {
+        Streams {
+            text,
+            gives: usize::MAX,
+            read_fails_at: 0,
+            takes: usize::MAX,
+            write_fails_at: 0,
+        }
+    }
+
+    pub fn reader(&self) -> Bytes<'b>
+        ensures { result.failed ≡ false }
+    {
+        Bytes::new(self.text, self.gives, self.read_fails_at)
+    }
+
+    pub fn writer(&self) -> Page
+        ensures { result.failed ≡ false }
+    {
+        Page::new(self.takes, self.write_fails_at)
+    }
+}
+
 const ROOM: usize = 1024;
 
 /// Takes at most `most` bytes a call, fails at call `fails_at`, counted from 1 (0: never), and has room for 1024 bytes.

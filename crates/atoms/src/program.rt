@@ -1,42 +1,96 @@
 // All that the program does, over any reader and writers.
 #![tactic(auto)]
 
-ghost use Rattle.std.specs.Prelude.{◌≡◌, ℕ, ◌≤◌, List, false, IfSome, OnOk, OnErr};
+ghost use Rattle.std.specs.Prelude.{◌≡◌, ℕ, ◌≤◌, List, false, IfSome, IsErr, IfErr, MatchOption, OnOk, OnErr};
+ghost use Rattle.std.specs.Str.{IsUtf8};
 ghost use Rattle.std.specs.Io.KnownBytes.{Appends};
 ghost use Rattle.atoms.specs.Streams.{AppendsBeginning};
 ghost use Rattle.atoms.specs.Words.{word_lines};
-ghost use Rattle.atoms.specs.Commands.{AreWords, AreReplay};
+ghost use Rattle.atoms.specs.CountLines.{count_lines};
+ghost use Rattle.atoms.specs.Commands.{AreCount, AreWords, AreReplay, IsWorkers};
 ghost use Rattle.atoms.specs.Replay.{IsReplay, BeginsReplay};
 ghost use Rattle.string_cache.specs.Tables.{empty_tables};
 
+#[cfg(test)]
+pub mod tests;
+
+use crate::count::tell_counts;
 use crate::faults::AppFault;
-use crate::replay::replay;
+use crate::replay::{number_of, replay};
 use crate::streams::{Sink, Source, write_whole};
 use crate::words::words;
 use std::alloc::Global;
-use std::fmt;
 use std::fmt::Write;
+use std::io::ErrorKind;
+use std::rt::Env;
 use std::sync::Wait;
-use string_cache::EmptyStaticAtomSet;
+use std::thread::Threads;
+use std::{env, fmt};
 use string_cache::dynamic_set::Set;
+use string_cache::{EmptyStaticAtomSet, Fault};
 
 const USAGE: &str = "usage: atoms words | count N | replay\n";
+
+/// The arguments without the program's name. `None` where one isn't UTF-8, and `Intern(Memory)` where they found no room.
+pub fn arguments(rt: &(impl Env + AllocGlobal)) -> Result<Option<Vec<String>>, AppFault>
+    ensures { IfErr result (λ fault. fault ≡ AppFault.Intern Fault.Memory) }
+{
+    let mut given = match env::args(rt) {
+        Ok(given) => given,
+        Err(error) if error.kind() == ErrorKind::OutOfMemory => {
+            return Err(AppFault::Intern(Fault::Memory));
+        }
+        Err(_) => return Ok(None),
+    };
+    let _ = given.next();
+    let mut args = Vec::new(rt.alloc());
+    for arg in given {
+        args.push(arg)?;
+    }
+    Ok(Some(args))
+}
 
 /// What the arguments ask for.
 enum Command {
     Words,
+    /// By so many workers.
+    Count(u32),
     Replay,
+}
+
+/// The most workers that count.
+const MOST_WORKERS: u64 = 64;
+
+/// The number of workers that a text spells. `None` where it spells none from 1 to 64.
+fn workers_of(text: &str) -> Option<u32>
+    ensures { MatchOption result ((n : ℕ) → ¬ (IsWorkers text.now n)) (λ n. IsWorkers text.now n) }
+{
+    let Some(n) = number_of(text) else {
+        return None;
+    };
+    if n == 0 || n > MOST_WORKERS {
+        return None;
+    }
+    Some(n as u32)
 }
 
 /// `None` where the arguments aren't those of a command.
 fn command_of(args: &[String]) -> Option<Command>
     ensures words { AreWords args.now → result ≡ Some Command.Words }
+    ensures count { AreCount args.now → (n : ℕ) × (result ≡ Some (Command.Count n)) }
+    ensures workers { (n : ℕ) → result ≡ Some (Command.Count n) → (1 ≤ n) × (n ≤ 64) }
     ensures replay { AreReplay args.now → result ≡ Some Command.Replay }
-    ensures other { ¬ (AreWords args.now) → ¬ (AreReplay args.now) → result ≡ None }
+    ensures other { ¬ (AreWords args.now) → ¬ (AreCount args.now) → ¬ (AreReplay args.now) → result ≡ None }
 {
     match args {
         [word] if word.as_str() == "words" => Some(Command::Words),
         [word] if word.as_str() == "replay" => Some(Command::Replay),
+        [word, number] if word.as_str() == "count" => {
+            let Some(n) = workers_of(number.as_str()) else {
+                return None;
+            };
+            Some(Command::Count(n))
+        }
         _ => None,
     }
 }
@@ -86,18 +140,41 @@ fn words_in_new_set<R: Wait, S: Source, K: Sink>(
 ) -> Result<(), AppFault>
     requires input { S.has_failed input.old ≡ false }
     requires output { K.has_failed output.old ≡ false }
+    ensures utf8 { OnOk result (IfSome (S.remaining input.old) IsUtf8) }
     ensures lines { OnOk result (IfSome (S.remaining input.old) (λ bytes.
         Appends (K.contents output.old) (K.contents output.new) (word_lines bytes))) }
     ensures beginning { OnErr result (IfSome (S.remaining input.old) (λ bytes.
         AppendsBeginning (K.contents output.old) (K.contents output.new) (word_lines bytes))) }
 {
     let set = Set::<EmptyStaticAtomSet>::new(alloc)?;
-    words(&set, rt, input, output)
+    words(rt, &set, input, output)
+}
+
+/// `tell_counts` over a set of its own.
+fn count_in_new_set<R: Threads + Wait + Sync, S: Source, K: Sink>(
+    rt: &R,
+    alloc: Global,
+    n: u32,
+    input: &mut S,
+    output: &mut K,
+) -> Result<(), AppFault>
+    requires low { 1 ≤ n }
+    requires high { n ≤ 64 }
+    requires input { S.has_failed input.old ≡ false }
+    requires output { K.has_failed output.old ≡ false }
+    ensures utf8 { OnOk result (IfSome (S.remaining input.old) IsUtf8) }
+    ensures lines { OnOk result (IfSome (S.remaining input.old) (λ bytes.
+        Appends (K.contents output.old) (K.contents output.new) (count_lines bytes))) }
+    ensures beginning { OnErr result (IfSome (S.remaining input.old) (λ bytes.
+        AppendsBeginning (K.contents output.old) (K.contents output.new) (count_lines bytes))) }
+{
+    let set = Set::<EmptyStaticAtomSet>::new(alloc)?;
+    tell_counts(rt, &set, n, input, output)
 }
 
 /// Runs the command that the arguments, without the program's name, ask for, and answers the exit status: 0, or 1 after
 /// a fault's line, or 2 after the usage line, where nothing was read or written.
-pub fn program<R: Wait, S: Source, K: Sink, F: Sink>(
+pub fn program<R: Threads + Wait + Sync, S: Source, K: Sink, F: Sink>(
     rt: &R,
     alloc: Global,
     args: &[String],
@@ -108,18 +185,24 @@ pub fn program<R: Wait, S: Source, K: Sink, F: Sink>(
     requires input { S.has_failed input.old ≡ false }
     requires output { K.has_failed output.old ≡ false }
     requires faults { F.has_failed faults.old ≡ false }
+    ensures utf8 { result ≡ 0 → IfSome (S.remaining input.old) IsUtf8 }
     ensures words { AreWords args.now → result ≡ 0 → IfSome (S.remaining input.old) (λ bytes.
         Appends (K.contents output.old) (K.contents output.new) (word_lines bytes)) }
     ensures beginning { AreWords args.now → result ≡ 1 → IfSome (S.remaining input.old) (λ bytes.
         AppendsBeginning (K.contents output.old) (K.contents output.new) (word_lines bytes)) }
     ensures status { AreWords args.now → result ≤ 1 }
+    ensures count { AreCount args.now → result ≡ 0 → IfSome (S.remaining input.old) (λ bytes.
+        Appends (K.contents output.old) (K.contents output.new) (count_lines bytes)) }
+    ensures count_beginning { AreCount args.now → result ≡ 1 → IfSome (S.remaining input.old) (λ bytes.
+        AppendsBeginning (K.contents output.old) (K.contents output.new) (count_lines bytes)) }
+    ensures count_status { AreCount args.now → result ≤ 1 }
     ensures replay { AreReplay args.now → result ≡ 0 → IfSome (S.remaining input.old) (λ bytes.
         (lines : List ℕ) × IsReplay empty_tables bytes lines
         × Appends (K.contents output.old) (K.contents output.new) lines) }
     ensures replay_beginning { AreReplay args.now → result ≡ 1 → IfSome (S.remaining input.old) (λ bytes.
         BeginsReplay empty_tables bytes (K.contents output.old) (K.contents output.new)) }
     ensures replay_status { AreReplay args.now → result ≤ 1 }
-    ensures other { ¬ (AreWords args.now) → ¬ (AreReplay args.now)
+    ensures other { ¬ (AreWords args.now) → ¬ (AreCount args.now) → ¬ (AreReplay args.now)
         → (result ≡ 2) × (input.new ≡ input.old) × (output.new ≡ output.old) }
 {
     let Some(command) = command_of(args) else {
@@ -127,10 +210,34 @@ pub fn program<R: Wait, S: Source, K: Sink, F: Sink>(
     };
     let outcome = match command {
         Command::Words => words_in_new_set(rt, alloc, input, output),
+        Command::Count(n) => count_in_new_set(rt, alloc, n, input, output),
         Command::Replay => replay(alloc, input, output),
     };
     match outcome {
         Ok(()) => 0,
         Err(fault) => refuse(faults, fault),
+    }
+}
+
+/// All that main does once its arguments are read, with the exit status as its answer: it runs the program on them, and
+/// where they aren't UTF-8 it writes the usage line. That they found no room is a fault.
+pub fn run<R: Threads + Wait + Sync, S: Source, K: Sink, F: Sink>(
+    rt: &R,
+    alloc: Global,
+    args: Result<Option<Vec<String>>, AppFault>,
+    input: &mut S,
+    output: &mut K,
+    faults: &mut F,
+) -> u8
+    requires input { S.has_failed input.old ≡ false }
+    requires output { K.has_failed output.old ≡ false }
+    requires faults { F.has_failed faults.old ≡ false }
+    ensures refused { IsErr args → (result ≡ 1) × (input.new ≡ input.old) × (output.new ≡ output.old) }
+    ensures usage { args ≡ Ok None → (result ≡ 2) × (input.new ≡ input.old) × (output.new ≡ output.old) }
+{
+    match args {
+        Ok(Some(args)) => program(rt, alloc, &args, input, output, faults),
+        Ok(None) => usage(faults),
+        Err(no_room) => refuse(faults, no_room),
     }
 }

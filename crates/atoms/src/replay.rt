@@ -1,7 +1,7 @@
 // A script of interleaved steps, and the replies to them.
 #![tactic(auto)]
 
-ghost use Rattle.std.specs.Prelude.{◌≡◌, ◌≢◌, ℕ, List, false, true, string_bytes, IfOk, IfErr, OnOk, OnErr, IfSome};
+ghost use Rattle.std.specs.Prelude.{◌≡◌, ◌≢◌, ◌↔◌, ℕ, List, false, true, string_bytes, IfOk, IfErr, OnOk, OnErr, IfSome};
 ghost use Rattle.std.specs.Str.{IsUtf8};
 ghost use Rattle.std.specs.Io.KnownBytes.{Appends, IsAtEnd, Keeps};
 ghost use Rattle.string_cache.specs.Tables.{empty_tables};
@@ -18,6 +18,7 @@ mod tests;
 
 use crate::faults::AppFault;
 use crate::streams::{Sink, Source, read_all, write_whole};
+pub use line::number_of;
 use line::step_of_line;
 use print::{append_holders, append_replies};
 use script::{check_steps, next_line, opening_of};
@@ -27,7 +28,7 @@ use string_cache::EmptyStaticAtomSet;
 use string_cache::steps::{Step, World};
 use string_cache::word::Limits;
 
-/// So many steps are kept at most, and then made.
+/// The most steps that are kept before they are made.
 const CHUNK: usize = 4096;
 
 /// Makes the steps, and appends the lines of their replies.
@@ -102,8 +103,9 @@ pub fn replay<S: Source, K: Sink>(
     requires reader { S.has_failed reader.old ≡ false }
     requires writer { K.has_failed writer.old ≡ false }
 
-    // The reader has ended, and what it gave is a script, whose output is written.
+    // The reader has ended, and what it gave is a text and a script, whose output is written.
     ensures ended { OnOk result (S.has_ended reader.new ≡ true × IsAtEnd (S.remaining reader.new)) }
+    ensures utf8 { OnOk result (IfSome (S.remaining reader.old) IsUtf8) }
     ensures lines { OnOk result (IfSome (S.remaining reader.old) (λ bytes.
         (output : List ℕ) × IsReplay empty_tables bytes output
         × Appends (K.contents writer.old) (K.contents writer.new) output)) }
@@ -120,9 +122,10 @@ pub fn replay<S: Source, K: Sink>(
         × IfSome (S.remaining reader.old) (λ bytes. ¬ (IsUtf8 bytes)) }
     ensures script { (n : ℕ) → result ≡ Err (AppFault.Script n) → S.has_ended reader.new ≡ true
         × IfSome (S.remaining reader.old) (λ bytes. IsFirstBadLine (script_lines bytes) n) }
-    ensures read { result ≡ Err AppFault.Read → S.has_failed reader.new ≡ true }
-    ensures write { result ≡ Err AppFault.Write → K.has_failed writer.new ≡ true
-        × IfSome (S.remaining reader.old) (λ bytes. (output : List ℕ) × IsReplay empty_tables bytes output) }
+    ensures read { (result ≡ Err AppFault.Read) ↔ (S.has_failed reader.new ≡ true) }
+    ensures write { (result ≡ Err AppFault.Write) ↔ (K.has_failed writer.new ≡ true) }
+    ensures ran { result ≡ Err AppFault.Write
+        → IfSome (S.remaining reader.old) (λ bytes. (output : List ℕ) × IsReplay empty_tables bytes output) }
 {
     let bytes = read_all(alloc, reader)?;
     let Ok(text) = str::from_utf8(&bytes) else {

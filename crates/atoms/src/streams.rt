@@ -1,7 +1,7 @@
 // Readers and writers that remember that they failed or ended.
 #![tactic(auto)]
 
-ghost use Rattle.std.specs.Prelude.{◌≡◌, ◌||◌, ℕ, List, Bool, Option, is_err, length, false, true, IfOk, IfErr, OnOk, OnErr};
+ghost use Rattle.std.specs.Prelude.{◌≡◌, ◌↔◌, ◌||◌, ℕ, List, Bool, Option, is_err, length, false, true, IfOk, IfErr, OnOk, OnErr};
 ghost use Rattle.std.specs.Io.{ReadsAtMost, WritesAtMost};
 ghost use Rattle.std.specs.Io.KnownBytes.{ReadConsumes, WriteAppends, Appends, Consumes, IsAtEnd};
 ghost use Rattle.atoms.specs.Faults.{IsReadingFault};
@@ -151,7 +151,7 @@ pub fn read_all<S: Source>(alloc: Global, reader: &mut S) -> Result<Vec<u8>, App
     ensures end { OnOk result (IsAtEnd (S.remaining reader.new)) }
     ensures bytes { IfOk result (λ v. Consumes (S.remaining reader.old) (S.remaining reader.new) v.items) }
     ensures fault { IfErr result IsReadingFault }
-    ensures failed { result ≡ Err AppFault.Read → S.has_failed reader.new ≡ true }
+    ensures failed { (result ≡ Err AppFault.Read) ↔ (S.has_failed reader.new ≡ true) }
 {
     let mut all = Vec::new(alloc);
     let mut piece = [0u8; PIECE];

@@ -1,7 +1,7 @@
 // For each word of a text, a line that tells how often it came before.
 #![tactic(auto)]
 
-ghost use Rattle.std.specs.Prelude.{◌≡◌, ◌+◌, ◌^◌, ◌<◌, ◌++◌, IfOk, OnOk, OnErr, IfErr, false, true, string_bytes};
+ghost use Rattle.std.specs.Prelude.{◌≡◌, ◌↔◌, ◌+◌, ◌^◌, ◌<◌, ◌++◌, IfOk, OnOk, OnErr, IfErr, false, true, string_bytes};
 ghost use Rattle.std.specs.Io.KnownBytes.{Appends};
 ghost use Rattle.string_cache.specs.Faults.{IsInternFault};
 ghost use Rattle.atoms.specs.Counts.{count_of, CountsOneMore};
@@ -35,15 +35,15 @@ impl Interner for Table<EmptyStaticAtomSet> {
 
 /// Interns words in a set, and holds their atoms.
 #[derive(Drop)]
-struct Holder<'s, 'r, Static: StaticAtomSet, R: Wait> {
-    set: &'s Set<Static>,
+struct Holder<'r, 's, R: Wait, Static: StaticAtomSet> {
     rt: &'r R,
+    set: &'s Set<Static>,
     atoms: Vec<Atom<'s, Static>>,
 }
 
-impl<Static: StaticAtomSet, R: Wait> Interner for Holder<'_, '_, Static, R> {
+impl<R: Wait, Static: StaticAtomSet> Interner for Holder<'_, '_, R, Static> {
     fn intern(&mut self, word: &str) -> Result<(), Fault> {
-        let atom = Atom::from_str_in(self.set, self.rt, word)?;
+        let atom = Atom::from_str_in(self.rt, self.set, word)?;
         self.atoms.push(atom)?;
         Ok(())
     }
@@ -85,7 +85,7 @@ fn write_words<I: Interner, K: Sink>(
     ensures ok { OnOk result (Appends (K.contents writer.old) (K.contents writer.new) (word_lines text.now)) }
     ensures err { OnErr result (AppendsBeginning (K.contents writer.old) (K.contents writer.new) (word_lines text.now)) }
     ensures fault { IfErr result IsWritingFault }
-    ensures failed { result ≡ Err AppFault.Write → K.has_failed writer.new ≡ true }
+    ensures failed { (result ≡ Err AppFault.Write) ↔ (K.has_failed writer.new ≡ true) }
 {
     let mut counts = HashMap::new(alloc);
     let mut pending = String::new(alloc);
@@ -110,10 +110,8 @@ fn tell<I: Interner, S: Source, K: Sink>(
 ) -> Result<(), AppFault>
     requires reader { S.has_failed reader.old ≡ false }
     requires writer { K.has_failed writer.old ≡ false }
-    ensures { TellsWords
-        (record { before = S.remaining reader.old; after = S.remaining reader.new; ended = S.has_ended reader.new; failed = S.has_failed reader.new })
-        (record { before = K.contents writer.old; after = K.contents writer.new; failed = K.has_failed writer.new })
-        result }
+    ensures { TellsWords S.remaining S.has_ended S.has_failed K.contents K.has_failed
+        reader.old reader.new writer.old writer.new result }
 {
     let bytes = read_all(alloc, reader)?;
     let Ok(text) = str::from_utf8(&bytes) else {
@@ -127,23 +125,21 @@ fn tell<I: Interner, S: Source, K: Sink>(
 ///
 /// `Read` and `Text`, input that isn't UTF-8, come before anything is written, and so does `Intern(Memory)` while the
 /// input is read. After another fault a beginning of the lines is written.
-pub fn words<Static: StaticAtomSet, R: Wait, S: Source, K: Sink>(
-    set: &Set<Static>,
+pub fn words<R: Wait, Static: StaticAtomSet, S: Source, K: Sink>(
     rt: &R,
+    set: &Set<Static>,
     reader: &mut S,
     writer: &mut K,
 ) -> Result<(), AppFault>
     requires reader { S.has_failed reader.old ≡ false }
     requires writer { K.has_failed writer.old ≡ false }
-    ensures { TellsWords
-        (record { before = S.remaining reader.old; after = S.remaining reader.new; ended = S.has_ended reader.new; failed = S.has_failed reader.new })
-        (record { before = K.contents writer.old; after = K.contents writer.new; failed = K.has_failed writer.new })
-        result }
+    ensures { TellsWords S.remaining S.has_ended S.has_failed K.contents K.has_failed
+        reader.old reader.new writer.old writer.new result }
 {
     let alloc = set.allocator();
     let mut holder = Holder {
-        set,
         rt,
+        set,
         atoms: Vec::new(alloc),
     };
     tell(alloc, &mut holder, reader, writer)
@@ -158,10 +154,8 @@ pub fn words_alone<S: Source, K: Sink>(
 ) -> Result<(), AppFault>
     requires reader { S.has_failed reader.old ≡ false }
     requires writer { K.has_failed writer.old ≡ false }
-    ensures { TellsWords
-        (record { before = S.remaining reader.old; after = S.remaining reader.new; ended = S.has_ended reader.new; failed = S.has_failed reader.new })
-        (record { before = K.contents writer.old; after = K.contents writer.new; failed = K.has_failed writer.new })
-        result }
+    ensures { TellsWords S.remaining S.has_ended S.has_failed K.contents K.has_failed
+        reader.old reader.new writer.old writer.new result }
 {
     let mut table = Table::<EmptyStaticAtomSet>::new(alloc)?;
     tell(alloc, &mut table, reader, writer)

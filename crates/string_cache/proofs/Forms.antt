@@ -1,16 +1,13 @@
 -- What the form of a text tells.
 use Rattle.std.proofs.Common.{◌≡◌, ℕ, ◌<◌, ◌≤◌, List, [], length, Bool, true, false, refl, sym, ◌∙◌, ap, subst, arith, if◌then◌else◌, nat_lt, IsTrue, ◌⊎◌, ⊎_elim}
-use Rattle.std.proofs.lemmas.Bool.{ltb-false}
 use Rattle.std.proofs.lemmas.List.{get_or_default, get_or_past}
 use Rattle.std.specs.List.{Contains}
 use Rattle.std.specs.Cmp.Lexicographic.{same_text}
-use Rattle.std.specs.Str.{bytes_eq, IsUtf8}
+use Rattle.std.specs.Str.{bytes_eq}
 use Rattle.string_cache_core.specs.declared.static_sets.TextForm.{TextForm}
 use Rattle.string_cache_core.specs.declared.static_sets.TextForm.TheVariants.{Inline, Static, Dynamic}
 use Rattle.string_cache_core.specs.Tables.{Tables, IsPerfectTable, IsStaticIndex, form_of_text, is_static_form, place_in, text_at}
-use Rattle.string_cache_core.specs.Word.{IsInlineText, inline_word}
 use Rattle.string_cache_core.proofs.TableLemmas.{placed_static}
-use Rattle.string_cache_core.proofs.Unpacking.{inline_word_same}
 
 static_by : (long listed : Bool) (place word hash index : ℕ) → (let form : TextForm = if long then (if listed then Static place else Dynamic hash) else Inline word in form) ≡ Static index
     → (listed ≡ true) × (place ≡ index)
@@ -48,15 +45,3 @@ pub not_static : (t : Tables) (text : List ℕ) (form : TextForm) → form ≡ f
     → is_static_form (form_of_text t text) ≡ false
 not_static t text form is either =
     ap is_static_form (sym is) ∙ ⊎_elim {C = is_static_form form ≡ false} (λ inline. ap is_static_form inline.1) (λ dynamic. ap is_static_form dynamic.1) either
-
-inline_by : (long listed : Bool) (place own hash word : ℕ) → (let form : TextForm = if long then (if listed then Static place else Dynamic hash) else Inline own in form) ≡ Inline word
-    → (long ≡ false) × (own ≡ word)
-inline_by true true place own hash word e = cc
-inline_by true false place own hash word e = cc
-inline_by false listed place own hash word e = (refl, cc)
-
--- a text with the word of an inline text is that text
-pub unpacked_text : (t : Tables) (text found : List ℕ) (word : ℕ) → Inline word ≡ form_of_text t text → IsUtf8 text → IsInlineText found → inline_word found ≡ word → found ≡ text
-unpacked_text t text found word form utf8 inline same =
-    let both = inline_by (nat_lt 7 (length text)) (bytes_eq (text_at t (place_in t text)) text) (place_in t text) (inline_word text) _ word (sym form) in
-    inline_word_same found text inline (utf8, ltb-false 7 (length text) both.0) (same ∙ sym both.1)

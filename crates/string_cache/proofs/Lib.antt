@@ -3,4 +3,3 @@ pub mod Forms
 pub mod PassKeeps
 pub mod Passes
 pub mod Shares
-pub mod Walks

@@ -7,7 +7,7 @@ use Rattle.string_cache_core.specs.Pass.{Reply, added, full, died, gone, stays, 
 use Rattle.string_cache_core.specs.Tables.{Tables}
 use Rattle.string_cache.specs.Chain.{Linked, IsKept, IsRight, SerialsDiffer, serial_of}
 use Rattle.string_cache.specs.PassLeft.{IsPassLeft}
-use Rattle.string_cache.specs.Walked.{Walked, at_start}
+use Rattle.node_chain.specs.Walked.{Walked, at_start}
 use Rattle.string_cache.specs.declared.dynamic_set.counts.CountReply.{CountReply}
 use Rattle.string_cache.specs.declared.dynamic_set.counts.Pass.{Pass}
 
@@ -41,11 +41,11 @@ is_kept_of_kept t buckets last es rs h = record {
 
 -- after a pass over the whole list, and back at its start
 module _ {C S : Type 0} (adds : C → Linked → CountReply S → C → Type 0) (dies : C → Linked → Bool → C → Type 0) where
-  pub is_kept_after : (t : Tables) (buckets last : ℕ) (wanted : Option (List ℕ)) (c d : C) (w v u : Walked) (answer : Pass S)
+  pub is_kept_after : (t : Tables) (buckets last : ℕ) (wanted : Option (List ℕ)) (c d : C) (w v u : Walked Linked) (answer : Pass S)
       → (w.passed ≡ []) × IsKept t buckets (record { entries = w.left; last = last })
       → IsPassLeft adds dies wanted c w answer d v → u ≡ at_start (v.passed ++ v.left)
       → (u.passed ≡ []) × IsKept t buckets (record { entries = u.left; last = last })
   is_kept_after t buckets last wanted c d w v u answer was p is =
       let all : v.passed ++ v.left ≡ kept w.left p.pass.replies = ap (λ l. v.passed ++ l) p.none ∙ append-nil v.passed ∙ p.passed ∙ ap (λ l. l ++ p.after) was.0 ∙ p.pass.left in
       let here : u ≡ at_start (kept w.left p.pass.replies) = is ∙ ap at_start all in
-      subst (λ (x : Walked). (x.passed ≡ []) × IsKept t buckets (record { entries = x.left; last = last })) (sym here) (refl, is_kept_of_kept t buckets last w.left p.pass.replies was.1)
+      subst (λ (x : Walked Linked). (x.passed ≡ []) × IsKept t buckets (record { entries = x.left; last = last })) (sym here) (refl, is_kept_of_kept t buckets last w.left p.pass.replies was.1)

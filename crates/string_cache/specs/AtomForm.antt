@@ -1,6 +1,7 @@
 -- What an atom holds.
-use Rattle.std.specs.Prelude.{ℕ, ◌<◌, length}
-use Rattle.string_cache_core.specs.Tables.{Tables, text_at, IsStaticIndex}
+use Rattle.std.specs.Prelude.{◌≡◌, ℕ, ◌<◌, length}
+use Rattle.string_cache_core.specs.Tables.{Tables, form_of_text, text_at, IsStaticIndex}
+use Rattle.string_cache_core.specs.declared.static_sets.TextForm.TheVariants as form
 use Rattle.string_cache_core.specs.Word.{inline_word, static_word, IsInlineText}
 use Rattle.string_cache.specs.AtomValue.{AtomValue}
 use Rattle.string_cache.specs.Chain.{IsRight}
@@ -17,4 +18,4 @@ value_of_form t (Dynamic held) = record { text = held.text; word = held.ticket }
 abbrev pub IsOwnForm : {X : Type 0} → Tables → ℕ → Form X → Type 0
 IsOwnForm t buckets (Inline text) = IsInlineText text
 IsOwnForm t buckets (Static index) = IsStaticIndex t index × (index < length t.atoms)
-IsOwnForm t buckets (Dynamic held) = IsRight t buckets held
+IsOwnForm t buckets (Dynamic held) = (form_of_text t held.text ≡ form.Dynamic held.hash) × IsRight t buckets held

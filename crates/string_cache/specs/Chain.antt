@@ -1,8 +1,8 @@
 -- What clauses see of a bucket.
-use Rattle.std.specs.Prelude.{◌≡◌, ◌≢◌, ℕ, ◌/◌, ◌%◌, ◌^◌, ◌≤◌, List, [], ◌∷◌}
+use Rattle.std.specs.Prelude.{◌≡◌, ◌≢◌, ℕ, ◌/◌, ◌%◌, ◌≤◌, List, [], ◌∷◌}
 use Rattle.std.specs.List.{AllByRecursion}
-use Rattle.string_cache_core.specs.declared.static_sets.TextForm.TheVariants.{Dynamic}
-use Rattle.string_cache_core.specs.Tables.{Tables, entry_hash, form_of_text}
+use Rattle.string_cache_core.specs.Layout.{ticket_unit}
+use Rattle.string_cache_core.specs.Tables.{Tables, entry_hash}
 use Rattle.string_cache_core.specs.Word.{ticket_of, IsTicket}
 
 -- an entry: its ticket, its text, and the hash of the text
@@ -18,12 +18,10 @@ pub record Chain : Type 0 where
 
 -- the serial of a ticket
 abbrev pub serial_of : ℕ → ℕ
-serial_of ticket = ticket / 2 ^ 14
+serial_of ticket = ticket / ticket_unit
 
--- The text is dynamic under the tables, the hash is that of the text, and the ticket is that of its serial in the bucket
--- of the hash.
+-- the hash is that of the text under the tables, and the ticket is that of its serial in the bucket of the hash
 pub record IsRight (t : Tables) (buckets : ℕ) (e : Linked) : Type 0 where
-  pub dynamic : form_of_text t e.text ≡ Dynamic e.hash
   pub hash : e.hash ≡ entry_hash t e.text
   pub ticket : e.ticket ≡ ticket_of (serial_of e.ticket) (e.hash % buckets)
   pub given : IsTicket (serial_of e.ticket) (e.hash % buckets)

@@ -4,6 +4,7 @@ pub use Rattle.string_cache_core.specs.Faults
 pub use Rattle.string_cache_core.specs.Form
 pub use Rattle.string_cache_core.specs.InlineText
 pub use Rattle.string_cache_core.specs.Kept
+pub use Rattle.string_cache_core.specs.Layout
 pub use Rattle.string_cache_core.specs.Map
 pub use Rattle.string_cache_core.specs.Pass
 pub use Rattle.string_cache_core.specs.PassSteps
@@ -27,5 +28,5 @@ pub mod Packed
 pub mod PassLeft
 pub mod Precomputed
 pub mod Printed
+pub mod SetValue
 pub mod Share
-pub mod Walked

@@ -4,11 +4,11 @@ use Rattle.string_cache.specs.Chain.{Linked}
 use Rattle.string_cache.specs.Counted.{IsPass}
 use Rattle.string_cache.specs.declared.dynamic_set.counts.CountReply.{CountReply}
 use Rattle.string_cache.specs.declared.dynamic_set.counts.Pass.{Pass}
-use Rattle.string_cache.specs.Walked.{Walked}
+use Rattle.node_chain.specs.Walked.{Walked}
 
 -- those that weren't answered as dying are passed by, and none is left
 pub record IsPassLeft {C S : Type 0} (adds : C → Linked → CountReply S → C → Type 0) (dies : C → Linked → Bool → C → Type 0)
-    (wanted : Option (List ℕ)) (c : C) (w : Walked) (answer : Pass S) (d : C) (v : Walked) : Type 0 where
+    (wanted : Option (List ℕ)) (c : C) (w : Walked Linked) (answer : Pass S) (d : C) (v : Walked Linked) : Type 0 where
   pub after : List Linked
   pub pass : IsPass adds dies wanted c w.left answer d after
   pub passed : v.passed ≡ w.passed ++ after

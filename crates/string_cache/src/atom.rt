@@ -8,6 +8,7 @@ ghost use Rattle.std.specs.Cmp.{on_per};
 ghost use Rattle.std.specs.Cmp.Lexicographic.{pointwise, nat_list_eq_equiv};
 ghost use Rattle.std.specs.Cow.{cow_str_bytes};
 ghost use Rattle.string_cache_core.specs.Faults.{IsInternFault};
+ghost use Rattle.string_cache_core.specs.Layout.{most_buckets};
 ghost use Rattle.string_cache_core.specs.Tables.{IsPerfectTable, IsStaticIndex, form_of_text, hash_number, is_dynamic, is_dynamic_form, is_inline_form, is_static_form, text_at};
 ghost use Rattle.string_cache_core.specs.Word.{IsInlineText, inline_word, static_word};
 ghost use Rattle.string_cache.specs.AtomForm.{IsOwnForm, value_of_form};
@@ -19,7 +20,7 @@ mod compare;
 #[cfg(test)]
 mod tests;
 
-use crate::dynamic_set::{BUCKETS, Held, Set};
+use crate::dynamic_set::{Held, Set};
 use std::borrow::CowStr;
 use std::marker::Model;
 use std::sync::Wait;
@@ -27,7 +28,7 @@ use string_cache_core::Fault;
 use string_cache_core::static_sets::{
     EmptyStaticAtomSet, StaticAtomSet, TextForm, form_of_text, static_text,
 };
-use string_cache_core::word::{InlineText, pack_inline_word, static_word, unpack_inline};
+use string_cache_core::word::{InlineText, static_word, unpack_inline};
 
 /// How an atom holds its text.
 #[derive(Drop)]
@@ -54,16 +55,16 @@ impl<'s, Static: StaticAtomSet> Model for Atom<'s, Static> {
     ghost Value = { AtomValue };
 
     ghost use Rattle.string_cache.specs.AtomForm.{value_of_form, IsOwnForm};
-    ghost use Rattle.string_cache.specs.declared.dynamic_set.bucket.TheConstants.{BUCKETS};
+    ghost use Rattle.string_cache_core.specs.Layout.{most_buckets};
 
     ghost view = { λ a. value_of_form Static.tables a.form };
 
-    ghost invariant = { λ a. IsOwnForm Static.tables BUCKETS a.form };
+    ghost invariant = { λ a. IsOwnForm Static.tables most_buckets a.form };
 }
 
 impl<'s, Static: StaticAtomSet> Atom<'s, Static> {
     fn of_form(form: Form<'s, Static>) -> Self
-        requires { IsOwnForm Static.tables BUCKETS form }
+        requires { IsOwnForm Static.tables most_buckets form }
         ensures { result ≡ value_of_form Static.tables form.entry }
     {
         Atom { form }
@@ -74,13 +75,16 @@ impl<'s, Static: StaticAtomSet> Atom<'s, Static> {
     ///
     /// `Memory` comes where a new text finds no room, `TicketsSpent` where its bucket has given its last ticket, and
     /// `FullCount` where the text's entry has as many holders as the set's limits allow, or as an `Arc` may have.
-    pub fn from_str_in<R: Wait>(set: &'s Set<Static>, rt: &R, text: &str) -> Result<Self, Fault>
+    pub fn from_str_in<R: Wait>(rt: &R, set: &'s Set<Static>, text: &str) -> Result<Self, Fault>
         ensures text { IfOk result (λ atom. atom.text ≡ text.now) }
         ensures refused { IfErr result IsInternFault }
         ensures dynamic { OnErr result (IsTrue (is_dynamic Static.tables text.now)) }
     {
+        if let Some(text) = InlineText::new(text) {
+            return Ok(Self::of_form(Form::Inline(text)));
+        }
         match form_of_text::<Static>(text) {
-            TextForm::Inline(word) => Ok(Self::of_form(Form::Inline(unpack_inline(word).unwrap()))),
+            TextForm::Inline(_) => unreachable!(),
             TextForm::Static(index) => Ok(Self::of_form(Form::Static(index))),
             TextForm::Dynamic(hash) => {
                 let held = set.intern(rt, text, hash)?;
@@ -91,28 +95,28 @@ impl<'s, Static: StaticAtomSet> Atom<'s, Static> {
 
     /// The atom of an owned text, as `from_str_in` gives it. The text is dropped in both outcomes.
     pub fn from_string_in<R: Wait>(
-        set: &'s Set<Static>,
         rt: &R,
+        set: &'s Set<Static>,
         text: String,
     ) -> Result<Self, Fault>
         ensures text { IfOk result (λ atom. atom.text ≡ string_bytes text) }
         ensures refused { IfErr result IsInternFault }
         ensures dynamic { OnErr result (IsTrue (is_dynamic Static.tables (string_bytes text))) }
     {
-        Self::from_cow_in(set, rt, CowStr::Owned(text))
+        Self::from_cow_in(rt, set, CowStr::Owned(text))
     }
 
     /// The atom of a text that is borrowed or owned, as `from_str_in` gives it. An owned text is dropped in both outcomes.
     pub fn from_cow_in<R: Wait>(
-        set: &'s Set<Static>,
         rt: &R,
+        set: &'s Set<Static>,
         text: CowStr<'_>,
     ) -> Result<Self, Fault>
         ensures text { IfOk result (λ atom. atom.text ≡ cow_str_bytes text.entry) }
         ensures refused { IfErr result IsInternFault }
         ensures dynamic { OnErr result (IsTrue (is_dynamic Static.tables (cow_str_bytes text.entry))) }
     {
-        Self::from_str_in(set, rt, text.as_str())
+        Self::from_str_in(rt, set, text.as_str())
     }
 
     /// Another atom of the same text and word.
@@ -199,10 +203,10 @@ impl<'s, Static: StaticAtomSet> Atom<'s, Static> {
     /// The word: the inline word of the text, the static word of its place, or the ticket of its entry.
     pub fn unsafe_data(&self) -> u64
         ensures word { result ≡ self.now.word }
-        ensures of_text { IsWordOf Static.tables BUCKETS self.now.text result }
+        ensures of_text { IsWordOf Static.tables most_buckets self.now.text result }
     {
         match &self.form {
-            Form::Inline(text) => pack_inline_word(text.as_str()).unwrap(),
+            Form::Inline(text) => text.word(),
             Form::Static(index) => static_word(*index),
             Form::Dynamic(held) => held.ticket(),
         }
@@ -214,7 +218,7 @@ impl<'s, Static: StaticAtomSet> Atom<'s, Static> {
         ensures { result ≡ hash_number Static.tables self.now.text }
     {
         match &self.form {
-            Form::Inline(text) => pack_inline_word(text.as_str()).unwrap(),
+            Form::Inline(text) => text.word(),
             Form::Static(index) => Static::get().hashes[*index as usize],
             Form::Dynamic(held) => held.hash(),
         }
@@ -247,7 +251,7 @@ impl<'s, Static: StaticAtomSet> Default for Atom<'s, Static> {
     ghost is_default = { λ atom. atom ≡ record { text = []; word = 1 } };
 
     fn default() -> Self {
-        Self::of_form(Form::Inline(unpack_inline(1).unwrap()))
+        Self::of_form(Form::Inline(InlineText::new("").unwrap()))
     }
 }
 

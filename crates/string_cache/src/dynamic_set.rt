@@ -9,7 +9,6 @@ mod share;
 #[cfg(test)]
 mod tests;
 
-pub(crate) use bucket::BUCKETS;
 pub use bucket::Bucket;
 pub use counts::{CountReply, Counts, Pass};
 pub use held::Held;

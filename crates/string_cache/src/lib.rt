@@ -6,8 +6,6 @@
 pub mod atom;
 pub mod dynamic_set;
 #[cfg(test)]
-mod examples;
-#[cfg(test)]
 mod samples;
 #[cfg(test)]
 mod tests;

@@ -1,7 +1,19 @@
-// Static types for tests.
+// Static types for tests, and the hash of a text under one.
 #![tactic(auto)]
 
+ghost use Rattle.std.specs.Prelude.{◌≡◌};
+ghost use Rattle.string_cache_core.specs.Tables.{entry_hash};
+
+use crate::phf::hash;
 use crate::static_sets::{PhfStrSet, StaticAtomSet};
+
+/// The hash of a text's entry.
+#[tactic(auto, unfolding(string_cache_core::specs::Tables::entry_hash))]
+pub fn hash_of<Static: StaticAtomSet>(text: &str) -> u64
+    ensures { result ≡ entry_hash Static.tables text.now }
+{
+    hash(text, Static::get().key).entry_hash()
+}
 
 /// One text, whose place is always 0.
 #[derive(PartialEq, Eq, PartialOrd, Ord)]

@@ -1,10 +1,10 @@
 // What no contract says: words and texts that come from outside, and sets that threads share.
 #![tactic(auto)]
 
-use crate::dynamic_set::{Bucket, Set, Share};
+use crate::dynamic_set::Set;
 use crate::samples::{One, Short, Twice};
-use crate::static_sets::{EmptyStaticAtomSet, StaticAtomSet, TextForm, form_of_text};
-use crate::word::{Limits, ticket_word};
+use crate::static_sets::{EmptyStaticAtomSet, StaticAtomSet};
+use crate::word::ticket_word;
 use crate::{Atom, DefaultAtom, Fault};
 use std::sync::Wait;
 use std::test::Fail;
@@ -19,7 +19,7 @@ fn are_equal<'s, R: Wait>(
     left: (&'s Set<EmptyStaticAtomSet>, &str),
     right: (&'s Set<EmptyStaticAtomSet>, &str),
 ) -> Result<bool, Fault> {
-    Ok(Atom::from_str_in(left.0, rt, left.1)? == Atom::from_str_in(right.0, rt, right.1)?)
+    Ok(Atom::from_str_in(rt, left.0, left.1)? == Atom::from_str_in(rt, right.0, right.1)?)
 }
 
 #[test]
@@ -33,7 +33,7 @@ fn inline_atoms(rt: HostRuntime) -> Result<(), Fail> {
         ("\0", 0x11),
         ("é", 0xa9_c321),
     ] {
-        let atom = Atom::from_str_in(&set, &rt, text)?;
+        let atom = Atom::from_str_in(&rt, &set, text)?;
         assert!(rt; atom.is_inline());
         assert!(rt; atom.unsafe_data() == word);
         assert!(rt; atom.as_bytes() == text.as_bytes());
@@ -46,7 +46,7 @@ fn inline_atoms(rt: HostRuntime) -> Result<(), Fail> {
 fn dynamic_atoms(rt: HostRuntime) -> Result<(), Fail> {
     let set: Set<EmptyStaticAtomSet> = Set::new(rt.alloc())?;
     // Held to the end, so that its entry is found again.
-    let _held = Atom::from_str_in(&set, &rt, "abcdefgh")?;
+    let _held = Atom::from_str_in(&rt, &set, "abcdefgh")?;
     // The low 12 bits of f1 are the bucket: of 0x86f9a2c5, 0x06a47210 and 0xb9737e77.
     for (text, bucket) in [
         ("abcdefgh", 0x2c5),
@@ -54,7 +54,7 @@ fn dynamic_atoms(rt: HostRuntime) -> Result<(), Fail> {
         ("tokenised", 0xe77),
         ("abcdefgh", 0x2c5),
     ] {
-        let atom = Atom::from_str_in(&set, &rt, text)?;
+        let atom = Atom::from_str_in(&rt, &set, text)?;
         assert!(rt; atom.is_dynamic());
         assert!(rt; atom.unsafe_data() == ticket_word(1, bucket));
         assert!(rt; atom.as_str() == text);
@@ -78,7 +78,7 @@ pub fn at_last<T, F: Fn() -> Result<T, Fault>>(call: F) -> Result<T, Fault>
 fn refused_calls_made_again(rt: HostRuntime) -> Result<(), Fail> {
     let alloc = rt.alloc();
     let set: Set<EmptyStaticAtomSet> = at_last(|| Set::new(alloc))?;
-    let atom = at_last(|| Atom::from_str_in(&set, &rt, "abcdefgh"))?;
+    let atom = at_last(|| Atom::from_str_in(&rt, &set, "abcdefgh"))?;
     assert!(rt; atom.unsafe_data() == ticket_word(1, 0x2c5));
     Ok(())
 }
@@ -120,7 +120,7 @@ fn packed_inline(rt: HostRuntime) {
 fn static_atoms(rt: HostRuntime) -> Result<(), Fail> {
     let set: Set<One> = Set::new(rt.alloc())?;
     for atom in [
-        Atom::from_str_in(&set, &rt, "sentence")?,
+        Atom::from_str_in(&rt, &set, "sentence")?,
         Atom::try_static("sentence").expect(&rt, "a static text"),
         Atom::pack_static(0).expect(&rt, "a static text"),
     ] {
@@ -128,7 +128,7 @@ fn static_atoms(rt: HostRuntime) -> Result<(), Fail> {
         assert!(rt; atom.unsafe_data() == 2);
         assert!(rt; atom.as_str() == "sentence");
     }
-    assert!(rt; Atom::from_str_in(&set, &rt, "sentencf")?.is_dynamic());
+    assert!(rt; Atom::from_str_in(&rt, &set, "sentencf")?.is_dynamic());
     Ok(())
 }
 
@@ -148,37 +148,12 @@ fn odd_tables(rt: HostRuntime) -> Result<(), Fail> {
 
     let set: Set<Twice> = Set::new(rt.alloc())?;
     // The low bit of f2, 0x56e93a5c, is the place of "sentence" among two.
-    assert!(rt; Atom::from_str_in(&set, &rt, "sentence")?.unsafe_data() == 2);
+    assert!(rt; Atom::from_str_in(&rt, &set, "sentence")?.unsafe_data() == 2);
     assert!(rt; Atom::<Twice>::pack_static(0).is_some());
     assert!(rt; Atom::<Twice>::pack_static(1).is_none());
 
     let set: Set<Short> = Set::new(rt.alloc())?;
-    assert!(rt; Atom::from_str_in(&set, &rt, "short")?.unsafe_data() == 0x7472_6f68_7351);
-    Ok(())
-}
-
-fn link(
-    bucket: &mut Bucket<EmptyStaticAtomSet>,
-    text: &str,
-    limits: &Limits,
-) -> Option<Result<Share, Fault>> {
-    match form_of_text::<EmptyStaticAtomSet>(text) {
-        TextForm::Dynamic(hash) => Some(bucket.link(text, hash, limits)),
-        TextForm::Inline(_) | TextForm::Static(_) => None,
-    }
-}
-
-#[test]
-fn spent_tickets(rt: HostRuntime) -> Result<(), Fail> {
-    let limits = Limits::new(1, 2).expect(&rt, "limits");
-    let mut bucket = Bucket::new(rt.alloc());
-    for serial in [1, 2] {
-        let share = link(&mut bucket, "tokenised", &limits).expect(&rt, "a dynamic text")?;
-        assert!(rt; share.ticket() == ticket_word(serial, 0xe77));
-        assert!(rt; share.text() == "tokenised");
-    }
-    let refused = link(&mut bucket, "tokenised", &limits).expect(&rt, "a dynamic text");
-    assert!(rt; matches!(refused, Err(Fault::TicketsSpent)));
+    assert!(rt; Atom::from_str_in(&rt, &set, "short")?.unsafe_data() == 0x7472_6f68_7351);
     Ok(())
 }
 
@@ -188,8 +163,8 @@ fn shared_by_threads(rt: HostRuntime) -> Result<(), Fail> {
     crosses(&set);
     let (shared, handle) = (&set, &rt);
     let intern = |own: &str| -> Result<_, Fault> {
-        let both = Atom::from_str_in(shared, handle, "tokenised")?;
-        let own = Atom::from_str_in(shared, handle, own)?;
+        let both = Atom::from_str_in(handle, shared, "tokenised")?;
+        let own = Atom::from_str_in(handle, shared, own)?;
         Ok((both, own))
     };
     let (left, right) = thread::join(&rt, || intern("sentence"), || intern("repeated"));

@@ -75,13 +75,13 @@ impl<'s, Static: StaticAtomSet> Atom<'s, Static> {
     ///
     /// `NotText` comes exactly where the value isn't a text, and then no lock is taken. A text is refused only where it is
     /// dynamic, with the faults of `from_str_in`.
-    pub fn from_json_in<R: Wait>(set: &'s Set<Static>, rt: &R, value: &Value) -> Result<Self, Fault>
+    pub fn from_json_in<R: Wait>(rt: &R, set: &'s Set<Static>, value: &Value) -> Result<Self, Fault>
         ensures text { IfOk result (λ atom. as_str (view value.now) ≡ Some atom.text) }
         ensures not_text { (result ≡ Err Fault.NotText) ↔ IsNone (as_str (view value.now)) }
         ensures dynamic { OnErr result (IfSome (as_str (view value.now)) (λ text. IsTrue (is_dynamic Static.tables text))) }
     {
         match value.as_str() {
-            Some(text) => Self::from_str_in(set, rt, text),
+            Some(text) => Self::from_str_in(rt, set, text),
             None => Err(Fault::NotText),
         }
     }

@@ -11,7 +11,7 @@ use Rattle.string_cache_core.specs.declared.static_sets.TextForm.TheVariants.{In
 use Rattle.string_cache_core.specs.Map.{Holding, InternMap, IsHeldTicket}
 use Rattle.string_cache_core.specs.Kept.{Kept, map_of, IsSoundMap}
 use Rattle.string_cache_core.specs.Places.{IsPlace}
-use Rattle.string_cache_core.specs.Table.{IsTextOf, IsHeld, IsFixedWord}
+use Rattle.string_cache_core.specs.Table.{IsTextOf, IsHeld, IsFixedWord, HasWord, HasWordBy}
 use Rattle.string_cache_core.specs.Tables.{Tables, place_in, text_at, entry_hash, form_of_text, fixed_word, IsStaticIndex}
 use Rattle.string_cache_core.specs.Word.{inline_word, static_word, ticket_of, IsInlineWord, IsStaticWord, IsTicketWord}
 use Rattle.string_cache_core.proofs.Unpacking.{inline_word_tag}
@@ -101,6 +101,41 @@ text-if-ticket t m word serial bucket is None held = none
     none : (text : List ℕ) → IsTextOf t m word text → ⊥
     none text (inl s) = let e = s.2 in omega (arith, e, is)
     none text (inr h) = held (record { text = text; holders = h.0; held = h.1 })
+
+-- the text that a word lends has the word
+text-owned : (t : Tables) (m : InternMap) (word : ℕ) → IsSoundMap t m → (text : List ℕ) → IsTextOf t m word text → HasWord t m text word
+text-owned t m word sound text (inl s) = subst (λ (f : TextForm). HasWordBy m text (fixed_word f) word) (sym s.1) s.2
+text-owned t m word sound text (inr h) =
+    subst (λ (fixed : Option ℕ). HasWordBy m text fixed word) (sym (sound.given text (record { ticket = word; holders = h.0 }) h.1).dynamic) h
+
+-- a word lends one text
+one-text : (t : Tables) (m : InternMap) (word : ℕ) → IsSoundMap t m → (text other : List ℕ) → IsTextOf t m word text → IsTextOf t m word other → text ≡ other
+one-text t m word sound text other (inl s) (inl k) =
+    let a = s.2 in let b = k.2 in
+    let index : s.0 ≡ k.0 = omega (arith, a, b) in
+    sym (static-text t text s.0 s.1) ∙ ap (text_at t) index ∙ static-text t other k.0 k.1
+one-text t m word sound text other (inl s) (inr k) =
+    let a = s.2 in let tag = held-tag t m sound other (record { ticket = word; holders = k.0 }) k.1 in absurd (omega (arith, a, tag))
+one-text t m word sound text other (inr h) (inl k) =
+    let a = k.2 in let tag = held-tag t m sound text (record { ticket = word; holders = h.0 }) h.1 in absurd (omega (arith, a, tag))
+one-text t m word sound text other (inr h) (inr k) =
+    sound.apart text other (record { ticket = word; holders = h.0 }) (record { ticket = word; holders = k.0 }) h.1 k.1 refl
+
+abbrev pub Lends : Tables → InternMap → ℕ → Option (Bor (List ℕ)) → Type 0
+Lends t m word result = MatchOption result ((text : List ℕ) → ¬ (IsTextOf t m word text)) (λ text. IsTextOf t m word text.now)
+
+pub lent-found : (t : Tables) (m : InternMap) (word : ℕ) (result : Option (Bor (List ℕ))) → Lends t m word result → (text : List ℕ) → IsTextOf t m word text → IsSome result
+lent-found t m word (Some lent) lends text is = refl
+lent-found t m word None lends text is = absurd (lends text is)
+
+pub lent-same : (t : Tables) (m : InternMap) (word : ℕ) → IsSoundMap t m → (result : Option (Bor (List ℕ))) → Lends t m word result
+    → IfSome result (λ lent. (text : List ℕ) → IsTextOf t m word text → lent.now ≡ text)
+lent-same t m word sound (Some lent) lends = λ text is. one-text t m word sound lent.now text lends is
+lent-same t m word sound None lends = tt
+
+pub lent-owned : (t : Tables) (m : InternMap) (word : ℕ) → IsSoundMap t m → (result : Option (Bor (List ℕ))) → Lends t m word result → IfSome result (λ text. HasWord t m text.now word)
+lent-owned t m word sound (Some text) lends = text-owned t m word sound text.now lends
+lent-owned t m word sound None lends = tt
 
 -- ---- what is held
 

@@ -12,27 +12,26 @@ use Rattle.std.proofs.lemmas.List.Sums.{sum_by_push}
 use Rattle.indexmap.specs.IndexMap.{insert_entry}
 use Rattle.indexmap.specs.IndexSet.{insert_key}
 use Rattle.indexmap.proofs.CallerLemmas.{insert_entry-new}
+use Rattle.string_cache_core.specs.Layout.{most_buckets, serial_bound}
 use Rattle.string_cache_core.specs.Map.{Holding}
 use Rattle.string_cache_core.specs.Tables.{Tables, entry_hash, form_of_text, fixed_word}
 use Rattle.string_cache_core.specs.Word.{ticket_of}
-use Rattle.string_cache_core.specs.Kept.{Pair, pairs_of, tickets_of, IsGiven, IsKept}
+use Rattle.string_cache_core.specs.Kept.{Pair, pairs_of, tickets_of, IsGiven, IsKeptTable}
 use Rattle.string_cache_core.proofs.KeptPairs.{lookup-pairs, updates-pairs, pair_of_ticket, given-grows, last-set, last-grows}
 use Rattle.string_cache_core.proofs.KeptTickets.{at-push, is-nowhere}
-
-pub same-ticket : (b c s t : ℕ) → b < 4096 → c < 4096 → ticket_of s b ≡ ticket_of t c → (b ≡ c) × (s ≡ t)
-same-ticket b c s t hb hc e = (omega arith, omega arith)
+use Rattle.string_cache_core.proofs.Tickets.{ticket_of-same}
 
 if-own : (bucket serial other : ℕ) → serial ≤ (if bucket == bucket then serial else other)
 if-own bucket serial other = rw (eq-eqb bucket bucket refl) (omega arith)
 
 -- the next ticket of a bucket stands nowhere
 pub fresh : (t : Tables) (lasts : List ℕ) (pairs : List Pair) (bucket : ℕ) → ((at : ℕ) (pair : Pair) → slice_get pairs at ≡ Some pair → IsGiven t (length lasts) (slice_index lasts) pair.0 pair.1)
-    → bucket < 4096 → (at : ℕ) → slice_get (tickets_of pairs) at ≡ Some (ticket_of (slice_index lasts bucket + 1) bucket) → ⊥
+    → bucket < most_buckets → (at : ℕ) → slice_get (tickets_of pairs) at ≡ Some (ticket_of (slice_index lasts bucket + 1) bucket) → ⊥
 fresh t lasts pairs bucket given below at h =
     let next = ticket_of (slice_index lasts bucket + 1) bucket in
     let p = pair_of_ticket pairs at next h in
     let g = given at (p.0, record { ticket = next; holders = p.1 }) p.2 in
-    let same = same-ticket bucket (entry_hash t p.0 % length lasts) (slice_index lasts bucket + 1) g.serial below g.right.2 g.is in
+    let same = ticket_of-same bucket (entry_hash t p.0 % length lasts) (slice_index lasts bucket + 1) g.serial below g.right.2 g.is in
     let last = ap (slice_index lasts) same.0 in
     let upto = g.given in
     omega (arith, last, upto, same.1)
@@ -49,15 +48,15 @@ module _ {Y S : Type 0} (m r n : HashMap (String Y) Holding S) (key : String Y) 
       ∙ ap (λ t. pairs_of m.entries ++ (t, v) ∷ []) spells
 
 module _ (t : Tables) (lasts : List ℕ) (pairs : List Pair) (tickets new : List ℕ) (bytes : ℕ) (text : List ℕ) (bucket serial : ℕ)
-    (dynamic : fixed_word (form_of_text t text) ≡ None) (own : bucket ≡ entry_hash t text % length lasts) (range : serial < 2 ^ 50) (next : serial ≡ slice_index lasts bucket + 1) (small : length text < 2 ^ 64)
-    (inserted : new ≡ insert_key nat_eq tickets (ticket_of serial bucket)) (kept : IsKept t lasts pairs tickets bytes) where
-  below : bucket < 4096
+    (dynamic : fixed_word (form_of_text t text) ≡ None) (own : bucket ≡ entry_hash t text % length lasts) (range : serial < serial_bound) (next : serial ≡ slice_index lasts bucket + 1) (small : length text < 2 ^ 64)
+    (inserted : new ≡ insert_key nat_eq tickets (ticket_of serial bucket)) (kept : IsKeptTable t lasts pairs tickets bytes) where
+  below : bucket < most_buckets
   below = let b = kept.buckets in omega (arith, own, b)
 
   within : bucket < length lasts
   within = let b = kept.buckets in let l = below in omega (arith, b, l)
 
-  pub kept-added : IsKept t (slice_set lasts bucket serial) (pairs ++ (text, record { ticket = ticket_of serial bucket; holders = 1 }) ∷ []) new (bytes + length text)
+  pub kept-added : IsKeptTable t (slice_set lasts bucket serial) (pairs ++ (text, record { ticket = ticket_of serial bucket; holders = 1 }) ∷ []) new (bytes + length text)
   kept-added = record {
     buckets = length-set lasts bucket serial ∙ kept.buckets;
     given = λ j pair h. elim (at-push pairs (text, record { ticket = ticket_of serial bucket; holders = 1 }) j pair h) [
@@ -88,7 +87,7 @@ module _ (t : Tables) (lasts : List ℕ) (pairs : List Pair) (tickets new : List
       this = resized text (record { ticket = ticket_of serial bucket; holders = 1 }) (record {
         dynamic = dynamic;
         serial = serial;
-        right = (omega arith, range, subst (λ (b : ℕ). b < 4096) own below);
+        right = (omega arith, range, subst (λ (b : ℕ). b < most_buckets) own below);
         given = subst (λ (b : ℕ). serial ≤ slice_index (slice_set lasts bucket serial) b) own (rw (last-set lasts bucket serial bucket within) (if-own bucket serial (slice_index lasts bucket)));
         is = ap (λ (b : ℕ). ticket_of serial b) own;
         held = omega arith;

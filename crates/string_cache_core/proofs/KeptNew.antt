@@ -3,9 +3,10 @@ use Rattle.std.proofs.Common.{◌≡◌, ◌∙◌, ap, sym, subst, refl, ℕ, z
 use Rattle.std.specs.Prelude.{slice_index, String}
 use Rattle.std.specs.HashMap.{HashMap}
 use Rattle.std.proofs.lemmas.List.{length-replicate}
+use Rattle.string_cache_core.specs.Layout.{most_buckets}
 use Rattle.string_cache_core.specs.Map.{Holding, empty_map}
 use Rattle.string_cache_core.specs.Tables.{Tables}
-use Rattle.string_cache_core.specs.Kept.{pairs_of, IsKept}
+use Rattle.string_cache_core.specs.Kept.{pairs_of, IsKeptTable}
 use Rattle.string_cache_core.proofs.KeptPairs.{none_some, shows}
 
 zeros-at : (n i : ℕ) → slice_index (replicate n zero) i ≡ zero
@@ -13,17 +14,17 @@ zeros-at zero i = refl
 zeros-at (suc n) zero = refl
 zeros-at (suc n) (suc i) = zeros-at n i
 
-module _ {Y S : Type 0} (t : Tables) (lasts : List ℕ) (m : HashMap (String Y) Holding S) (tickets : List ℕ) (zeros : lasts ≡ replicate 4096 zero) (none : m.entries ≡ []) (no_ticket : tickets ≡ []) where
-  pub new-kept : IsKept t lasts (pairs_of m.entries) tickets 0
-  new-kept = subst (λ (es : List (String Y × Holding)). IsKept t lasts (pairs_of es) tickets 0) (sym none) (record {
-    buckets = ap length zeros ∙ length-replicate 4096 zero;
+module _ {Y S : Type 0} (t : Tables) (lasts : List ℕ) (m : HashMap (String Y) Holding S) (tickets : List ℕ) (zeros : lasts ≡ replicate most_buckets zero) (none : m.entries ≡ []) (no_ticket : tickets ≡ []) where
+  pub new-kept : IsKeptTable t lasts (pairs_of m.entries) tickets 0
+  new-kept = subst (λ (es : List (String Y × Holding)). IsKeptTable t lasts (pairs_of es) tickets 0) (sym none) (record {
+    buckets = ap length zeros ∙ length-replicate most_buckets zero;
     given = λ at pair h. absurd (none_some h);
     short = λ at pair h. absurd (none_some h);
     index = no_ticket;
     counted = refl;
   })
 
-module _ {Y S : Type 0} (lasts : List ℕ) (m : HashMap (String Y) Holding S) (zeros : lasts ≡ replicate 4096 zero) (none : m.entries ≡ []) where
-  pub new-map : shows lasts (pairs_of m.entries) ≡ empty_map 4096
+module _ {Y S : Type 0} (lasts : List ℕ) (m : HashMap (String Y) Holding S) (zeros : lasts ≡ replicate most_buckets zero) (none : m.entries ≡ []) where
+  pub new-map : shows lasts (pairs_of m.entries) ≡ empty_map most_buckets
   new-map = ap (λ (es : List (String Y × Holding)). shows lasts (pairs_of es)) none
-      ∙ (λ i. record { buckets = (ap length zeros ∙ length-replicate 4096 zero) i; held = λ text. None; last = λ bucket. (ap (λ (ls : List ℕ). slice_index ls bucket) zeros ∙ zeros-at 4096 bucket) i })
+      ∙ (λ i. record { buckets = (ap length zeros ∙ length-replicate most_buckets zero) i; held = λ text. None; last = λ bucket. (ap (λ (ls : List ℕ). slice_index ls bucket) zeros ∙ zeros-at most_buckets bucket) i })

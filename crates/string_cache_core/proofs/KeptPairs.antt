@@ -17,7 +17,7 @@ use Rattle.indexmap.specs.IndexMap.{with_value_at, values, IsUnique}
 use Rattle.indexmap.proofs.CallerLemmas.{updates-with_value_at}
 use Rattle.string_cache_core.specs.Bounds.{Bounds}
 use Rattle.string_cache_core.specs.Map.{Holding, InternMap, with_held, with_last}
-use Rattle.string_cache_core.specs.Kept.{Pair, pairs_of, tickets_of, IsGiven, IsKept}
+use Rattle.string_cache_core.specs.Kept.{Pair, pairs_of, tickets_of, IsGiven, IsKeptTable}
 use Rattle.string_cache_core.specs.Places.{IsFound}
 use Rattle.string_cache_core.specs.Tables.{Tables, entry_hash}
 use Rattle.string_cache_core.proofs.KeptBytes.{bytes-set}
@@ -156,8 +156,8 @@ module _ {Y S : Type 0} (t : Tables) (lasts : List ℕ) (m n : HashMap (String Y
     pub is-written : n ≡ with_value_at m at (holds_now pair.1 holders)
     is-written = written pair.1 (value-at m.entries at pair there)
 
-    pub written-kept : 0 < holders → IsKept t lasts (pairs_of m.entries) tickets bytes → IsKept t lasts (pairs_of n.entries) tickets bytes
-    written-kept some kept = subst (λ (k : HashMap (String Y) Holding S). IsKept t lasts (pairs_of k.entries) tickets bytes) (sym is-written) (record {
+    pub written-kept : 0 < holders → IsKeptTable t lasts (pairs_of m.entries) tickets bytes → IsKeptTable t lasts (pairs_of n.entries) tickets bytes
+    written-kept some kept = subst (λ (k : HashMap (String Y) Holding S). IsKeptTable t lasts (pairs_of k.entries) tickets bytes) (sym is-written) (record {
       buckets = kept.buckets;
       given = all-set (λ pair. IsGiven t (length lasts) (slice_index lasts) pair.0 pair.1) m.entries at (holds_now pair.1 holders)
           (λ own h. given-held t (length lasts) (slice_index lasts) own.0 own.1 (holds_now pair.1 holders) (ap (λ (p : Pair). p.1.ticket) (the_same _ _ (sym h ∙ there))) some (kept.given at own h)) kept.given;
@@ -202,6 +202,6 @@ found-is limits lasts es text at key v entry of_key value = record {
 }
 
 -- the same pairs and tickets, wherever they lie
-pub kept-moved : (t : Tables) (lasts : List ℕ) (old new : List Pair) (tickets moved : List ℕ) (bytes : ℕ) → new ≡ old → moved ≡ tickets → IsKept t lasts old tickets bytes → IsKept t lasts new moved bytes
+pub kept-moved : (t : Tables) (lasts : List ℕ) (old new : List Pair) (tickets moved : List ℕ) (bytes : ℕ) → new ≡ old → moved ≡ tickets → IsKeptTable t lasts old tickets bytes → IsKeptTable t lasts new moved bytes
 kept-moved t lasts old new tickets moved bytes same stays kept =
-    subst (λ pairs. IsKept t lasts pairs moved bytes) (sym same) (subst (λ ts. IsKept t lasts old ts bytes) (sym stays) kept)
+    subst (λ pairs. IsKeptTable t lasts pairs moved bytes) (sym same) (subst (λ ts. IsKeptTable t lasts old ts bytes) (sym stays) kept)

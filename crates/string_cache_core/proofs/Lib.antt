@@ -1,4 +1,6 @@
 pub mod BytesValue
+pub mod CallerLemmas
+pub mod CallsKeep
 pub mod HeldWords
 pub mod KeptAdding
 pub mod KeptBytes
@@ -14,11 +16,14 @@ pub mod StepBag
 pub mod StepDoes
 pub mod StepDoesMore
 pub mod StepEntries
+pub mod StepGoes
 pub mod StepHistory
 pub mod StepInterns
+pub mod StepItems
 pub mod StepListed
 pub mod StepLists
 pub mod StepLoop
+pub mod StepOpening
 pub mod StepPasses
 pub mod StepPlaces
 pub mod StepPlans
@@ -28,5 +33,6 @@ pub mod StepSweeps
 pub mod StepZeros
 pub mod TableLemmas
 pub mod TextBytes
+pub mod Tickets
 pub mod Unpacking
 pub mod WordsApart

@@ -7,14 +7,14 @@ use Rattle.string_cache_core.specs.declared.table.call.Call.{Call}
 use Rattle.string_cache_core.specs.declared.table.call.Call.TheVariants as call
 use Rattle.string_cache_core.specs.declared.table.call.TableReply.{TableReply}
 use Rattle.string_cache_core.specs.Bounds.{Bounds}
-use Rattle.string_cache_core.specs.Calls.{Answers, Replays}
+use Rattle.string_cache_core.specs.Calls.{Answers, AnswersAll}
 use Rattle.string_cache_core.specs.Map.{Holding, InternMap, MapCall, Intern, Clone, Give, MapReply, MayAdd, MayIntern, MayReply, with_held, with_last, bucket_in}
 use Rattle.string_cache_core.specs.Table.{InternsBy, Clones, Gives}
 use Rattle.string_cache_core.specs.Tables.{Tables, form_of_text, fixed_word}
 
 -- one call more, at the end
 pub replays-push : (t : Tables) (limits : Bounds) (m mid new : InternMap) (calls : List Call) (answers : List TableReply) (c : Call) (answer : TableReply)
-    → Replays t limits m calls answers mid → Answers t limits mid c answer new → Replays t limits m (calls ++ c ∷ []) (answers ++ answer ∷ []) new
+    → AnswersAll t limits m calls answers mid → Answers t limits mid c answer new → AnswersAll t limits m (calls ++ c ∷ []) (answers ++ answer ∷ []) new
 replays-push t limits m mid new [] [] c answer h a = (new, subst (λ (k : InternMap). Answers t limits k c answer new) h a, refl)
 replays-push t limits m mid new [] (r ∷ rs) c answer h a = absurd h
 replays-push t limits m mid new (d ∷ ds) [] c answer h a = absurd h
@@ -72,7 +72,7 @@ answers-grow t limits m new (call.Clone word) answer bucket (inr x) = grows-same
 answers-grow t limits m new (call.Give word) answer bucket (inl x) = grows-gives t limits m new word bucket x.0
 answers-grow t limits m new (call.Give word) answer bucket (inr x) = grows-same m new bucket x.2
 
-pub replays-grow : (t : Tables) (limits : Bounds) (m new : InternMap) (calls : List Call) (answers : List TableReply) (bucket : ℕ) → Replays t limits m calls answers new → m.last bucket ≤ new.last bucket
+pub replays-grow : (t : Tables) (limits : Bounds) (m new : InternMap) (calls : List Call) (answers : List TableReply) (bucket : ℕ) → AnswersAll t limits m calls answers new → m.last bucket ≤ new.last bucket
 replays-grow t limits m new [] [] bucket h = grows-same m new bucket h
 replays-grow t limits m new [] (r ∷ rs) bucket h = absurd h
 replays-grow t limits m new (c ∷ cs) [] bucket h = absurd h

@@ -24,7 +24,7 @@ use Rattle.string_cache_core.specs.Tables.{Tables, is_dynamic}
 pub data EntriesGo (w : World) (q : ℕ) (es : List Entry) : Type 0 where
   Stay : es ≡ w.entries → EntriesGo w q es
   -- an entry changes; it is only unlinked by who holds its bucket
-  Change : (k : ℕ) (x y : Entry) → At w.entries k x → y.text ≡ x.text → y.bucket ≡ x.bucket → (is_linked y.place ≡ true → is_linked x.place ≡ true)
+  Change : (k : ℕ) (x y : Entry) → At w.entries k x → y.text ≡ x.text → y.ticket ≡ x.ticket → y.bucket ≡ x.bucket → (is_linked y.place ≡ true → is_linked x.place ≡ true)
       → (is_linked x.place ≡ true → (is_linked y.place ≡ true) ⊎ ((pass : Pass) × (pass_of w q ≡ Some pass) × (x.bucket ≡ pass.bucket)))
       → es ≡ slice_set w.entries k y → EntriesGo w q es
   -- a new entry in the bucket that the party holds
@@ -103,19 +103,19 @@ alone (p ∷ ps) a b x y apart fa fb same =
 
 -- The same entries stand in the bucket.
 pub record SameIn (bucket : ℕ) (es es' : List Entry) : Type 0 where
-  pub forth : (k : ℕ) (x : Entry) → At es k x → is_linked_in bucket x ≡ true → (y : Entry) × At es' k y × (is_linked_in bucket y ≡ true) × (y.text ≡ x.text)
-  pub back : (k : ℕ) (y : Entry) → At es' k y → is_linked_in bucket y ≡ true → (x : Entry) × At es k x × (is_linked_in bucket x ≡ true) × (y.text ≡ x.text)
+  pub forth : (k : ℕ) (x : Entry) → At es k x → is_linked_in bucket x ≡ true → (y : Entry) × At es' k y × (is_linked_in bucket y ≡ true) × (y.text ≡ x.text) × (y.ticket ≡ x.ticket)
+  pub back : (k : ℕ) (y : Entry) → At es' k y → is_linked_in bucket y ≡ true → (x : Entry) × At es k x × (is_linked_in bucket x ≡ true) × (y.text ≡ x.text) × (y.ticket ≡ x.ticket)
 
 pub same_in : (bucket : ℕ) (es : List Entry) → SameIn bucket es es
-same_in bucket es = record { forth = λ k x at h. (x, at, h, refl); back = λ k y at h. (y, at, h, refl) }
+same_in bucket es = record { forth = λ k x at h. (x, at, h, refl, refl); back = λ k y at h. (y, at, h, refl, refl) }
 
 in_bucket : (bucket : ℕ) (x y : Entry) → y.bucket ≡ x.bucket → is_linked y.place ≡ true → is_linked_in bucket x ≡ true → is_linked_in bucket y ≡ true
 in_bucket bucket x y same l h = and_from (is_linked y.place) (y.bucket == bucket) l (ap (λ (b : ℕ). b == bucket) same ∙ (and_parts (is_linked x.place) (x.bucket == bucket) h).1)
 
 -- an entry changes, and stays linked if it is in the bucket
-pub same_change : (bucket : ℕ) (es : List Entry) (k : ℕ) (x y : Entry) → At es k x → y.text ≡ x.text → y.bucket ≡ x.bucket → (is_linked y.place ≡ true → is_linked x.place ≡ true)
+pub same_change : (bucket : ℕ) (es : List Entry) (k : ℕ) (x y : Entry) → At es k x → y.text ≡ x.text → y.ticket ≡ x.ticket → y.bucket ≡ x.bucket → (is_linked y.place ≡ true → is_linked x.place ≡ true)
     → (x.bucket ≡ bucket → is_linked x.place ≡ true → is_linked y.place ≡ true) → SameIn bucket es (slice_set es k y)
-same_change bucket es k x y at text same back forth = record {
+same_change bucket es k x y at text ticket same back forth = record {
   forth = λ j z a h. elim (cases_eq j k) [
     | inl e ↦
         let is : z ≡ x = at_one es k z x (subst (λ (i : ℕ). At es i z) e a) at in
@@ -125,22 +125,23 @@ same_change bucket es k x y at text same back forth = record {
           subst (λ (i : ℕ). At (slice_set es k y) i y) (sym e) (at_set_same es k x y at),
           in_bucket bucket x y same (forth (eqb-true x.bucket bucket parts.1) parts.0) hx,
           text ∙ sym (ap (λ (v : Entry). v.text) is),
+          ticket ∙ sym (ap (λ (v : Entry). v.ticket) is),
         )
-    | inr n ↦ (z, set_other es k y j z n a, h, refl)
+    | inr n ↦ (z, set_other es k y j z n a, h, refl, refl)
   ];
   back = λ j z a h. elim (at_set_cases es k y j z a) [
     | inl (e, f) ↦
         let hy : is_linked_in bucket y ≡ true = sym (ap (is_linked_in bucket) f) ∙ h in
-        (x, subst (λ (i : ℕ). At es i x) (sym e) at, in_bucket bucket y x (sym same) (back (and_parts (is_linked y.place) (y.bucket == bucket) hy).0) hy, ap (λ (v : Entry). v.text) f ∙ text)
-    | inr (n, old) ↦ (z, old, h, refl)
+        (x, subst (λ (i : ℕ). At es i x) (sym e) at, in_bucket bucket y x (sym same) (back (and_parts (is_linked y.place) (y.bucket == bucket) hy).0) hy, ap (λ (v : Entry). v.text) f ∙ text, ap (λ (v : Entry). v.ticket) f ∙ ticket)
+    | inr (n, old) ↦ (z, old, h, refl, refl)
   ];
 }
 
 same_push : (bucket : ℕ) (es : List Entry) (y : Entry) → y.bucket ≢ bucket → SameIn bucket es (es ++ y ∷ [])
 same_push bucket es y n = record {
-  forth = λ k x at h. (x, at_push_old es y k x at, h, refl);
+  forth = λ k x at h. (x, at_push_old es y k x at, h, refl, refl);
   back = λ k z at h. elim (at_push_cases es y k z at) [
-    | inl old ↦ (z, old, h, refl)
+    | inl old ↦ (z, old, h, refl, refl)
     | inr (e, f) ↦ absurd (n (sym (ap (λ (v : Entry). v.bucket) f) ∙ eqb-true z.bucket bucket (and_parts (is_linked z.place) (z.bucket == bucket) h).1))
   ];
 }
@@ -154,7 +155,7 @@ module _ (tables : Tables) where
     nothing r = record { entries = Stay refl; passes = As_they_are refl }
 
     counts : (k : ℕ) (x : Entry) (n : ℕ) → At w.entries k x → EntriesGo w q (slice_set w.entries k (record x { count = n }))
-    counts k x n at = Change k x (record x { count = n }) at refl refl (λ l. l) (λ l. inl l) refl
+    counts k x n at = Change k x (record x { count = n }) at refl refl refl (λ l. l) (λ l. inl l) refl
 
     take_goes : (bucket : ℕ) (wanted : Option (List ℕ)) → is_none (pass_of w q) ≡ true → is_free w bucket ≡ true → G (take_bucket w q bucket wanted)
     unfolding take_bucket
@@ -192,7 +193,7 @@ module _ (tables : Tables) where
     unfolding unlink
     unlink_goes k pass x p at b =
         if_case G (x.count == 0) _ _
-        (λ e. record { entries = Change k x (record x { place = place.UnlinkedBy pass.party }) at refl refl (λ l. differ l) (λ l. inr (pass, p, b)) refl; passes = As_they_are refl })
+        (λ e. record { entries = Change k x (record x { place = place.UnlinkedBy pass.party }) at refl refl refl (λ l. differ l) (λ l. inr (pass, p, b)) refl; passes = As_they_are refl })
         (λ e. record { entries = Stay refl; passes = Next pass (looks_at pass (suc k)) p refl refl refl })
 
     own_unlinked : (x : Entry) → is_unlinked_by q x.place ≡ true → is_linked x.place ≡ true → ⊥
@@ -234,7 +235,7 @@ module _ (tables : Tables) where
     goes (Free (suc k)) =
         bind_case G (slice_get w.entries k) _ _ (nothing _) (λ x at.
         guard_case G (is_unlinked_by q x.place) _ _ (nothing _) (λ ok.
-        record { entries = Change k x (record x { place = place.Freed }) at refl refl (λ l. differ l) (λ l. absurd (own_unlinked x ok l)) refl; passes = As_they_are refl }))
+        record { entries = Change k x (record x { place = place.Freed }) at refl refl refl (λ l. differ l) (λ l. absurd (own_unlinked x ok l)) refl; passes = As_they_are refl }))
     goes Leave =
         bind_case G (pass_of w q) _ _ (nothing _) (λ pass p.
         guard_case G (is_none pass.wanted && all_looked_at w pass) _ _ (nothing _) (λ ok. record { entries = Stay refl; passes = One_less refl }))
@@ -256,7 +257,7 @@ module _ (tables : Tables) where
 
     still_placed : (es : List Entry) → EntriesGo w q es → (k : ℕ) (x : Entry) → At es k x → x.bucket ≡ bucket_of tables (length w.lasts) x.text
     still_placed es (Stay e) k x at = held.placed k x (subst (λ (v : List Entry). At v k x) e at)
-    still_placed es (Change j x y a text bucket back forth e) k z at = elim (at_set_cases w.entries j y k z (subst (λ (v : List Entry). At v k z) e at)) [
+    still_placed es (Change j x y a text ticket bucket back forth e) k z at = elim (at_set_cases w.entries j y k z (subst (λ (v : List Entry). At v k z) e at)) [
       | inl (i, f) ↦ ap (λ (v : Entry). v.bucket) f ∙ bucket ∙ held.placed j x a ∙ ap (bucket_of tables (length w.lasts)) (sym (ap (λ (v : Entry). v.text) f ∙ text))
       | inr (n, old) ↦ held.placed k z old
     ]
@@ -289,8 +290,8 @@ module _ (tables : Tables) where
   module _ (w : World) (held : SoundWorld tables w) (party : ℕ) (pass : Pass) (found : pass_of w party ≡ Some pass) (q : ℕ) (n : q ≢ party) where
     others_same : (es : List Entry) → EntriesGo w q es → SameIn pass.bucket w.entries es
     others_same es (Stay e) = subst (SameIn pass.bucket w.entries) (sym e) (same_in pass.bucket w.entries)
-    others_same es (Change k x y at text bucket back forth e) =
-        subst (SameIn pass.bucket w.entries) (sym e) (same_change pass.bucket w.entries k x y at text bucket back
+    others_same es (Change k x y at text ticket bucket back forth e) =
+        subst (SameIn pass.bucket w.entries) (sym e) (same_change pass.bucket w.entries k x y at text ticket bucket back
         (λ inside l. elim (forth l) [
           | inl still ↦ still
           | inr (own, p, b) ↦ absurd (n (alone w.passes q party own pass held.apart p found (sym b ∙ inside)))

@@ -1,5 +1,5 @@
 -- What the code does at an entry, whoever's pass it is, is what the table says.
-use Rattle.std.proofs.Common.{◌≡◌, ℕ, ◌+◌, ◌-◌, ◌%◌, ◌<◌, ◌≤◌, ◌≢◌, Bool, true, false, cond, List, Option, None, Some, refl, sym, ap, ◌∙◌, subst}
+use Rattle.std.proofs.Common.{◌≡◌, ℕ, ◌+◌, ◌-◌, ◌%◌, ◌<◌, ◌≤◌, Bool, true, false, cond, List, Option, None, Some, refl, sym, ap, ◌∙◌, subst}
 use Rattle.std.specs.Option.{unwrap_or}
 use Rattle.std.specs.Str.{bytes_eq}
 use Rattle.string_cache_core.specs.declared.faults.Fault.{Fault}
@@ -12,7 +12,7 @@ use Rattle.string_cache_core.specs.declared.steps.StepReply.TheVariants as reply
 use Rattle.string_cache_core.specs.World.{World}
 use Rattle.string_cache_core.specs.Steps.{take_intern_if, bucket_of, pass_of, is_free, entry_at, has, step, IsStep, clone, give, without_one, take_bucket, with_entry, with_ticket, with_one}
 use Rattle.string_cache_core.specs.StepPlaces.{EntryAt}
-use Rattle.string_cache_core.proofs.StepLists.{some_then, test_fails, test_holds, replied}
+use Rattle.string_cache_core.proofs.StepLists.{some_then, test_holds, replied}
 use Rattle.string_cache_core.specs.Tables.{Tables, entry_hash, form_of_text, text_at, place_in, is_dynamic, is_dynamic_form}
 use Rattle.string_cache_core.specs.Word.{inline_word}
 use Rattle.string_cache_core.specs.declared.static_sets.TextForm.{TextForm}
@@ -24,16 +24,6 @@ and_three true true false e f = f
 and_three true false c e f = absurd (let g : false ≡ true = e in cc)
 and_three false b c e f = absurd (let g : false ≡ true = f in cc)
 
-and_last : (a b c : Bool) → (a && c) ≡ false → (a && b && c) ≡ false
-and_last true true c f = f
-and_last true false c f = refl
-and_last false b c f = refl
-
-and_mid : (a b c : Bool) → b ≡ false → (a && b && c) ≡ false
-and_mid true true c f = absurd (let g : true ≡ false = f in cc)
-and_mid true false c f = refl
-and_mid false b c f = refl
-
 module _ (tables : Tables) where
   module _ (w : World) (party number k : ℕ) (e : EntryAt w number k) where
     entry_is : entry_at w number ≡ Some e.entry
@@ -41,9 +31,6 @@ module _ (tables : Tables) where
 
     clone_is : has w.bag e.entry.ticket ≡ true → step tables w party (Clone number) ≡ clone w number e.entry
     clone_is h = some_then _ _ _ _ entry_is ∙ test_holds _ _ _ h
-
-    pub clone_not_held : has w.bag e.entry.ticket ≡ false → IsStep tables w party (Clone number) reply.No w
-    clone_not_held h = some_then _ _ _ _ entry_is ∙ test_fails _ _ _ h
 
     pub clone_full : has w.bag e.entry.ticket ≡ true → w.limits.holders ≤ e.entry.count → IsStep tables w party (Clone number) reply.Full w
     unfolding clone
@@ -61,9 +48,6 @@ module _ (tables : Tables) where
         pair f g i = (f i, g i)
 
   module _ (w : World) (party number k : ℕ) (e : EntryAt w number k) where
-    pub give_not_held : has w.bag e.entry.ticket ≡ false → IsStep tables w party (Give number) reply.No w
-    give_not_held h = some_then _ _ _ _ (entry_is w party number k e) ∙ test_fails _ _ _ h
-
     pub give_given : has w.bag e.entry.ticket ≡ true → (left : ℕ) (new : World) → left ≡ e.entry.count - 1
         → new ≡ record w { entries = slice_set w.entries k (record e.entry { count = e.entry.count - 1 }); bag = without_one e.entry.ticket w.bag } → IsStep tables w party (Give number) (reply.Given left) new
     unfolding give
@@ -78,12 +62,6 @@ module _ (tables : Tables) where
         pair f g i = (f i, g i)
 
   module _ (w : World) (party bucket : ℕ) where
-    pub sweep_beyond : nat_lt bucket (length w.lasts) ≡ false → IsStep tables w party (TakeSweep bucket) reply.No w
-    sweep_beyond h = test_fails _ _ _ (and_mid (is_none (pass_of w party)) (nat_lt bucket (length w.lasts)) (is_free w bucket) h)
-
-    pub sweep_busy : (n : ℕ) → n ≡ bucket → (is_none (pass_of w party) && is_free w n) ≡ false → IsStep tables w party (TakeSweep bucket) reply.No w
-    sweep_busy n e h = test_fails _ _ _ (and_last (is_none (pass_of w party)) (nat_lt bucket (length w.lasts)) (is_free w bucket) (ap (λ (m : ℕ). is_none (pass_of w party) && is_free w m) (sym e) ∙ h))
-
     pub sweep_taken : (n : ℕ) → n ≡ bucket → nat_lt bucket (length w.lasts) ≡ true → (is_none (pass_of w party) && is_free w n) ≡ true → (new : World) → new ≡ (take_bucket w party n None).1
         → IsStep tables w party (TakeSweep bucket) reply.Taken new
     unfolding take_bucket
@@ -100,25 +78,13 @@ by_form false c place hash own word e = absurd cc
 pub hash_is : (tables : Tables) (text : List ℕ) (hash : ℕ) → form_of_text tables text ≡ form.Dynamic hash → hash ≡ entry_hash tables text
 hash_is tables text hash e = by_form (nat_lt 7 (length text)) (bytes_eq (text_at tables (place_in tables text)) text) (place_in tables text) hash (entry_hash tables text) (inline_word text) e
 
-pub not_dynamic : (f : TextForm) → ((hash : ℕ) → f ≢ form.Dynamic hash) → is_dynamic_form f ≡ false
-not_dynamic (form.Inline word) n = refl
-not_dynamic (form.Static index) n = refl
-not_dynamic (form.Dynamic hash) n = absurd (n hash refl)
-
 module _ (tables : Tables) (w : World) (party : ℕ) (text : List ℕ) where
   abbrev Intern : StepReply → World → Type 0
   Intern r new = unwrap_or (take_intern_if tables w party text) (reply.No, w) ≡ (r, new)
 
-  pub intern_other : is_dynamic tables text ≡ false → Intern reply.No w
-  intern_other h = test_fails _ _ _ (and_mid (is_none (pass_of w party)) (is_dynamic tables text) (is_free w (bucket_of tables (length w.lasts) text)) h)
-
   module _ (hash bucket : ℕ) (is : form_of_text tables text ≡ form.Dynamic hash) (right : bucket ≡ hash % length w.lasts) where
     bucket_is : bucket ≡ bucket_of tables (length w.lasts) text
     bucket_is = right ∙ ap (λ (n : ℕ). n % length w.lasts) (hash_is tables text hash is)
-
-    pub intern_busy : (is_none (pass_of w party) && is_free w bucket) ≡ false → Intern reply.No w
-    intern_busy h = test_fails _ _ _ (and_last (is_none (pass_of w party)) (is_dynamic tables text) (is_free w (bucket_of tables (length w.lasts) text))
-        (ap (λ (m : ℕ). is_none (pass_of w party) && is_free w m) (sym bucket_is) ∙ h))
 
     pub intern_taken : (is_none (pass_of w party) && is_free w bucket) ≡ true → (wanted : Option (List ℕ)) → wanted ≡ Some text → (new : World) → new ≡ (take_bucket w party bucket wanted).1 → Intern reply.Taken new
     unfolding take_bucket

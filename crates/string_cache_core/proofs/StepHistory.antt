@@ -1,12 +1,11 @@
 -- Each step keeps what worlds keep, and what it decides is a call of the map.
-use Rattle.std.proofs.Common.{◌≡◌, ℕ, ◌+◌, ◌-◌, ◌<◌, ◌≤◌, ◌≢◌, ◌⊎◌, inl, inr, Bool, true, false, cond, not, List, [], ◌∷◌, ◌++◌, length, Option, None, Some, refl, sym, ap, ◌∙◌, subst, arith, zero, suc, replicate, get_or-set_same, get_or-set_other}
+use Rattle.std.proofs.Common.{◌≡◌, ℕ, ◌+◌, ◌-◌, ◌<◌, ◌≤◌, ◌≢◌, ◌⊎◌, inl, inr, Bool, true, false, cond, not, List, [], ◌∷◌, ◌++◌, length, Option, None, Some, refl, sym, ap, ◌∙◌, subst, arith, zero, suc, get_or-set_same, get_or-set_other}
 use Rattle.std.specs.Prelude.{Err, slice_get, slice_set, slice_index, nat_lt, ◌==◌, ◌&&◌, ◌||◌, is_none, if◌then◌else◌}
 use Rattle.std.specs.List.{AllByRecursion}
 use Rattle.std.specs.Option.{option_map, option_map_or, unwrap_or}
 use Rattle.std.specs.Str.{bytes_eq}
 use Rattle.std.specs.String.{string_bytes}
 use Rattle.std.proofs.lemmas.Bool.{and_parts, and_from, and_right, or_cases, cases_eq, false_from_ne_true, eqb-true, eq-eqb, ltb-false, lt-ltb}
-use Rattle.std.proofs.lemmas.List.{length-replicate}
 use Rattle.std.proofs.lemmas.Nat.{mod_below}
 use Rattle.std.proofs.lemmas.Slice.Eq.{bytes_eq-Decides}
 use borrow.Author.Tests.{ltb-true}
@@ -16,12 +15,11 @@ use Rattle.string_cache_core.specs.declared.steps.Step.{Step}
 use Rattle.string_cache_core.specs.declared.steps.Step.TheVariants.{TakeIntern, TakeSweep, Add, Link, Clone, Give, Unlink, Free, Leave}
 use Rattle.string_cache_core.specs.declared.steps.StepReply.{StepReply}
 use Rattle.string_cache_core.specs.declared.steps.StepReply.TheVariants as reply
-use Rattle.string_cache_core.specs.Steps.{bucket_of, ◌>>=◌, has, replaced, last_of, pass_of, is_linked_in, wants, with_entry, with_pass, with_ticket, with_one, without_one, finds_dying, looks_at, decides, take_bucket, add, all_found_dying, is_found_dying, link, clone, give, unlink, all_looked_at, step, opening}
+use Rattle.string_cache_core.specs.Steps.{bucket_of, ◌>>=◌, has, replaced, last_of, pass_of, is_linked_in, wants, with_entry, with_pass, with_ticket, with_one, without_one, finds_dying, looks_at, decides, take_bucket, add, all_found_dying, is_found_dying, link, clone, give, unlink, all_looked_at, step}
 use Rattle.string_cache_core.specs.Word.{ticket_of}
-use Rattle.string_cache_core.specs.Bounds.{Bounds}
 use Rattle.string_cache_core.specs.World.{Entry, Pass, World, is_linked, is_unlinked_by}
 use Rattle.string_cache_core.specs.Sound.{is_living, At, times, Sound, SoundTable, SoundPass}
-use Rattle.string_cache_core.specs.Runs.{holding, living_at, live_map, wanted_by, ticket_at, call_of, history_of, Event, Leads, Made, Replays}
+use Rattle.string_cache_core.specs.Runs.{holding, living_at, live_map, wanted_by, ticket_at, call_of, Made, ReplaysHistory}
 use Rattle.string_cache_core.specs.Map.{InternMap, Holding, MapCall, MapReply, MayReply, MayIntern, MayAdd, MayLink, IsHeldTicket, unless_given_up, with_held, with_last, empty_map}
 use Rattle.string_cache_core.specs.Map as map
 use Rattle.string_cache_core.specs.declared.faults.Fault.TheVariants as fault
@@ -66,11 +64,11 @@ module _ (tables : Tables) where
     pub sound : Sound tables o.1
     pub limits : o.1.limits ≡ w.limits
     pub buckets : length o.1.lasts ≡ length w.lasts
-    pub told : Replays tables w.limits (live_map w) (call_of w party s o.0) (live_map o.1)
+    pub told : ReplaysHistory tables w.limits (live_map w) (call_of w party s o.0) (live_map o.1)
 
   module _ (w : World) (sound : Sound tables w) (party : ℕ) where
     nothing : (s : Step) → call_of w party s reply.No ≡ [] → Keeps w party s (reply.No, w)
-    nothing s e = record { sound = sound; limits = refl; buckets = refl; told = subst (λ (calls : List Made). Replays tables w.limits (live_map w) calls (live_map w)) (sym e) refl }
+    nothing s e = record { sound = sound; limits = refl; buckets = refl; told = subst (λ (calls : List Made). ReplaysHistory tables w.limits (live_map w) calls (live_map w)) (sym e) refl }
 
     taken : (bucket : ℕ) (wanted : Option (List ℕ)) → bucket < length w.lasts → ((text : List ℕ) → wanted ≡ Some text → bucket ≡ bucket_of tables (length w.lasts) text) → Sound tables (take_bucket w party bucket wanted).1
     unfolding take_bucket
@@ -86,7 +84,7 @@ module _ (tables : Tables) where
       sound = taken bucket wanted below right;
       limits = refl;
       buckets = refl;
-      told = subst (λ (calls : List Made). Replays tables w.limits (live_map w) calls (live_map w)) (sym e) refl;
+      told = subst (λ (calls : List Made). ReplaysHistory tables w.limits (live_map w) calls (live_map w)) (sym e) refl;
     }
 
     -- a pass that looks at an entry, or decides
@@ -481,74 +479,3 @@ module _ (tables : Tables) where
         bind_case (Keeps w party Leave) (pass_of w party) _ _ none (λ pass p.
         guard_case (Keeps w party Leave) (is_none pass.wanted && all_looked_at w pass) _ _ none (λ ok.
         record { sound = record { table = sound.table; each = all_without_party (SoundPass tables (length w.lasts) w.entries) w.passes party sound.each }; limits = refl; buckets = refl; told = refl }))
-
-  -- ---- whole runs
-
-  Replays-append : (limits : Bounds) (m : InternMap) (xs ys : List Made) (mid new : InternMap) → Replays tables limits m xs mid → Replays tables limits mid ys new → Replays tables limits m (xs ++ ys) new
-  Replays-append limits m [] ys mid new a b = subst (λ (m : InternMap). Replays tables limits m ys new) a b
-  Replays-append limits m (x ∷ xs) ys mid new a b = (a.0, a.1, Replays-append limits a.0 xs ys mid new a.2 b)
-
-  pub record KeepsAll (w : World) (events : List Event) (new : World) : Type 0 where
-    pub buckets : length new.lasts ≡ length w.lasts
-    pub sound : Sound tables new
-    pub limits : new.limits ≡ w.limits
-    pub told : Replays tables w.limits (live_map w) (history_of tables w events) (live_map new)
-
-  pub keeps_all : (w : World) → Sound tables w → (events : List Event) (new : World) → Leads tables w events new → KeepsAll w events new
-  keeps_all w sound [] new e = record {
-    sound = subst (Sound tables) (sym e) sound;
-    buckets = ap (λ (v : World). length v.lasts) e;
-    limits = ap (λ (v : World). v.limits) e;
-    told = ap live_map e;
-  }
-  keeps_all w sound (e ∷ events) new leads =
-      let mid = leads.0 in
-      let one : Keeps w e.party e.does (e.reply, mid) = subst (Keeps w e.party e.does) leads.1 (keeps w sound e.party e.does) in
-      let rest = keeps_all mid one.sound events new leads.2 in
-      let is : mid ≡ (step tables w e.party e.does).1 = sym (ap (λ (o : StepReply × World). o.1) leads.1) in
-      record {
-        sound = rest.sound;
-        limits = rest.limits ∙ one.limits;
-        buckets = rest.buckets ∙ one.buckets;
-        told = Replays-append w.limits (live_map w) (call_of w e.party e.does e.reply) (history_of tables (step tables w e.party e.does).1 events) (live_map mid) (live_map new) one.told
-            (subst (λ (v : World). Replays tables w.limits (live_map mid) (history_of tables v events) (live_map new)) is
-            (subst (λ (limits : Bounds). Replays tables limits (live_map mid) (history_of tables mid events) (live_map new)) one.limits rest.told));
-      }
-
-  zeros : (n b : ℕ) → slice_index (replicate n 0) b ≡ 0
-  zeros zero b = refl
-  zeros (suc n) zero = refl
-  zeros (suc n) (suc b) = zeros n b
-
-  nothing_at : (j : ℕ) (x : Entry) {P : Type 0} → At {X = Entry} [] j x → P
-  nothing_at j x h = absurd (let e : ◌≡◌ {A = Option Entry} None (Some x) = h in cc)
-
-  opens : (limits : Bounds) (n : ℕ) → 0 < n → n ≤ 4096 → Sound tables (record { limits = limits; lasts = replicate n 0; entries = []; passes = []; bag = [] })
-  opens limits n some few = record {
-    table = record {
-      some = subst (λ (m : ℕ). 0 < m) (sym (length-replicate n 0)) some;
-      few = subst (λ (m : ℕ). m ≤ 4096) (sym (length-replicate n 0)) few;
-      numbered = λ k x a. nothing_at k x a;
-      apart = λ j k x y a b e. nothing_at j x a;
-      one = λ j k x y a b lx ly e. nothing_at j x a;
-      counted = λ k x a. nothing_at k x a;
-      bagged = λ t none. refl;
-      linked = λ k x a h. nothing_at k x a;
-    };
-    each = tt;
-  }
-
-  empty_seen : (limits : Bounds) (n : ℕ) → live_map (record { limits = limits; lasts = replicate n 0; entries = []; passes = []; bag = [] }) ≡ empty_map (length (replicate {A = ℕ} n 0))
-  unfolding living_at
-  empty_seen limits n = same_map _ _ refl (λ text. refl) (λ b. zeros n b)
-
-  pub opening_sound : (limits : Bounds) (n : ℕ) → 0 < n → n ≤ 4096 → Sound tables (opening limits n)
-  unfolding opening
-  opening_sound limits n some few = opens limits n some few
-
-  pub one_map : (limits : Bounds) (n : ℕ) (some : 0 < n) (few : n ≤ 4096) (events : List Event) (new : World) → Leads tables (opening limits n) events new
-      → Replays tables (opening limits n).limits (empty_map (length (opening limits n).lasts)) (history_of tables (opening limits n) events) (live_map new)
-  unfolding opening
-  one_map limits n some few events new leads =
-      subst (λ (m : InternMap). Replays tables (opening limits n).limits m (history_of tables (opening limits n) events) (live_map new)) (empty_seen limits n)
-      (keeps_all (opening limits n) (opening_sound limits n some few) events new leads).told

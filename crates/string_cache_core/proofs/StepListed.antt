@@ -5,10 +5,11 @@ use Rattle.std.specs.List.{list_all, position, position_or_len, remove}
 use Rattle.std.specs.Option.{option_map_or}
 use Rattle.std.specs.Str.{bytes_eq}
 use Rattle.std.proofs.lemmas.Bool.{eqb-true, and_parts, and_from, or_cases, cases_Bool, ltb-true, ltb-false}
+use Rattle.string_cache_core.specs.Layout.{most_buckets}
 use Rattle.string_cache_core.specs.World.{Entry, Pass, World, is_linked}
 use Rattle.string_cache_core.specs.Steps.{has, without_one, is_linked_in, is_looked_at, all_looked_at, is_found_dying, all_found_dying}
 use Rattle.string_cache_core.specs.Sound.{At}
-use Rattle.string_cache_core.specs.Listed.{entry_in, is_seen, is_dying, AreListed, IsKept}
+use Rattle.string_cache_core.specs.Listed.{entry_in, is_seen, is_dying, AreListed, AreListsKept}
 use Rattle.string_cache_core.proofs.StepLists.{get_or_at, at_one, at_set_same, at_set_cases, at_push_cases, if_case, numbered_at, numbered_all, implied, has_first, has_then, has_old, has_new}
 use Rattle.string_cache_core.proofs.StepSound.{same_text}
 use Rattle.string_cache_core.proofs.StepPlaces.{there_is}
@@ -196,16 +197,16 @@ at_place xs k item d h is =
     let same : item ≡ there.0 = is ∙ get_or_at xs k d there.0 there.1 in
     there.1 ∙ ap Some (sym same)
 
-module _ (es : List Entry) (lasts : List ℕ) (lists : List (List ℕ)) (kept : IsKept es lasts lists) where
-  pub kept_change : (k : ℕ) (item y d : Entry) → k < length es → item ≡ get_or es k d → y.bucket ≡ item.bucket → (is_linked y.place ≡ true → is_linked item.place ≡ true) → IsKept (slice_set es k y) lasts lists
+module _ (es : List Entry) (lasts : List ℕ) (lists : List (List ℕ)) (kept : AreListsKept es lasts lists) where
+  pub kept_change : (k : ℕ) (item y d : Entry) → k < length es → item ≡ get_or es k d → y.bucket ≡ item.bucket → (is_linked y.place ≡ true → is_linked item.place ≡ true) → AreListsKept (slice_set es k y) lasts lists
   kept_change k item y d h is bucket was = record {
     buckets = kept.buckets;
     lists = kept.lists;
     listed = listed_set es lists kept.listed k item y (at_place es k item d h is) bucket was;
   }
 
-  pub kept_out : (k : ℕ) (item y d : Entry) (b : ℕ) (numbers new e : List ℕ) → k < length es → item ≡ get_or es k d → is_linked y.place ≡ false → b < 4096 → numbers ≡ get_or lists b e
-      → new ≡ without_one (k + 1) numbers → IsKept (slice_set es k y) lasts (slice_set lists b new)
+  pub kept_out : (k : ℕ) (item y d : Entry) (b : ℕ) (numbers new e : List ℕ) → k < length es → item ≡ get_or es k d → is_linked y.place ≡ false → b < most_buckets → numbers ≡ get_or lists b e
+      → new ≡ without_one (k + 1) numbers → AreListsKept (slice_set es k y) lasts (slice_set lists b new)
   kept_out k item y d b numbers new e h is gone below list out = record {
     buckets = kept.buckets;
     lists = length-set lists b new ∙ kept.lists;
@@ -213,16 +214,8 @@ module _ (es : List Entry) (lasts : List ℕ) (lists : List (List ℕ)) (kept : 
         (listed_out es lists kept.listed k item y b numbers (at_place es k item d h is) gone (at_place lists b numbers e (let n = kept.lists in omega (arith, n, below)) list));
   }
 
-  pub kept_more : (b : ℕ) (numbers new e : List ℕ) (n : ℕ) → b < 4096 → numbers ≡ get_or lists b e → new ≡ numbers ++ n ∷ [] → IsKept es lasts (slice_set lists b new)
-  kept_more b numbers new e n below list is = record {
-    buckets = kept.buckets;
-    lists = length-set lists b new ∙ kept.lists;
-    listed = subst (λ (ns : List ℕ). AreListed es (slice_set lists b ns)) (sym is)
-        (listed_more es lists kept.listed b numbers n (at_place lists b numbers e (let m = kept.lists in omega (arith, m, below)) list));
-  }
-
-  pub kept_link : (y : Entry) (numbers new e : List ℕ) (n serial : ℕ) (es' : List Entry) → y.bucket < 4096 → numbers ≡ get_or lists y.bucket e → new ≡ numbers ++ n ∷ [] → n ≡ length es + 1
-      → es' ≡ es ++ y ∷ [] → IsKept es' (slice_set lasts y.bucket serial) (slice_set lists y.bucket new)
+  pub kept_link : (y : Entry) (numbers new e : List ℕ) (n serial : ℕ) (es' : List Entry) → y.bucket < most_buckets → numbers ≡ get_or lists y.bucket e → new ≡ numbers ++ n ∷ [] → n ≡ length es + 1
+      → es' ≡ es ++ y ∷ [] → AreListsKept es' (slice_set lasts y.bucket serial) (slice_set lists y.bucket new)
   kept_link y numbers new e n serial es' below list is number pushed = record {
     buckets = length-set lasts y.bucket serial ∙ kept.buckets;
     lists = length-set lists y.bucket new ∙ kept.lists;
@@ -230,7 +223,7 @@ module _ (es : List Entry) (lasts : List ℕ) (lists : List (List ℕ)) (kept : 
         (slice_set lists y.bucket new) (ap (λ (ns : List ℕ). slice_set lists y.bucket ns) is ∙ ap (λ (i : ℕ). slice_set lists y.bucket (numbers ++ i ∷ [])) number);
   }
 
-module _ (w : World) (pass : Pass) (lasts : List ℕ) (lists : List (List ℕ)) (kept : IsKept w.entries lasts lists) (below : pass.bucket < 4096) (numbers e : List ℕ) (list : numbers ≡ get_or lists pass.bucket e) where
+module _ (w : World) (pass : Pass) (lasts : List ℕ) (lists : List (List ℕ)) (kept : AreListsKept w.entries lasts lists) (below : pass.bucket < most_buckets) (numbers e : List ℕ) (list : numbers ≡ get_or lists pass.bucket e) where
   there : At lists pass.bucket numbers
   there = at_place lists pass.bucket numbers e (let m = kept.lists in omega (arith, m, below)) list
 
@@ -242,7 +235,7 @@ module _ (w : World) (pass : Pass) (lasts : List ℕ) (lists : List (List ℕ)) 
 
 -- ---- as the code reads it
 
-module _ (old w : World) (same : old ≡ w) (mine pass : Pass) (is : mine ≡ pass) (lasts : List ℕ) (lists : List (List ℕ)) (kept : IsKept old.entries lasts lists) (below : mine.bucket < 4096)
+module _ (old w : World) (same : old ≡ w) (mine pass : Pass) (is : mine ≡ pass) (lasts : List ℕ) (lists : List (List ℕ)) (kept : AreListsKept old.entries lasts lists) (below : mine.bucket < most_buckets)
     (numbers e : List ℕ) (list : numbers ≡ get_or lists mine.bucket e) (es : List Entry) (entries : es ≡ old.entries) where
   pub seen_in : (looked : List ℕ) → looked ≡ mine.looked → (result : Bool) → result ≡ list_all (is_seen es mine.bucket looked) numbers → result ≡ all_looked_at w pass
   seen_in looked looks result r =

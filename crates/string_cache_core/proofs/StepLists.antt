@@ -1,10 +1,9 @@
 -- Facts about lists and tests that the proofs on steps use.
-use Rattle.std.proofs.Common.{◌≡◌, ℕ, ◌+◌, ◌<◌, ◌≢◌, ◌⊎◌, inl, inr, Bool, true, false, cond, not, List, [], ◌∷◌, ◌++◌, length, get_or, drop, Option, None, Some, refl, sym, ap, ◌∙◌, subst, arith, zero, suc}
-use Rattle.std.specs.Prelude.{slice_set, ◌==◌, ◌&&◌, ◌||◌}
+use Rattle.std.proofs.Common.{◌≡◌, ℕ, ◌+◌, ◌<◌, ◌≢◌, ◌⊎◌, inl, inr, Bool, true, false, cond, not, List, [], ◌∷◌, ◌++◌, length, get_or, Option, None, Some, refl, sym, ap, ◌∙◌, subst, arith, zero, suc}
+use Rattle.std.specs.Prelude.{slice_set, ◌==◌, ◌||◌}
 use Rattle.std.specs.List.{find, filter, list_all, enumerate_from, AllByRecursion}
 use Rattle.std.specs.Option.{unwrap_or}
 use Rattle.std.proofs.lemmas.Bool.{and_parts, and_from, or_cases, false_from_ne_true, eqb-true, eq-eqb, cases_Bool}
-use Rattle.std.proofs.lemmas.List.{at_drop_more}
 use Rattle.std.proofs.lemmas.List.Sums.{sum_by-cons}
 use Rattle.string_cache_core.specs.Steps.{◌>>=◌, only_if, has, with_one, without_one}
 use Rattle.string_cache_core.specs.Sound.{At, times}
@@ -133,13 +132,6 @@ module _ {X : Type 0} where
       let all = and_parts (p (n, z)) _ h in
       let e : n + 1 + k ≡ n + suc k = omega arith in
       subst (λ (m : ℕ). p (m, x) ≡ true) e (numbered_at p xs (n + 1) k x all.1 a)
-
--- the same of what is left of the list at a place
-pub numbered_rest : {X : Type 0} (p : ℕ × X → Bool) (xs : List X) (n k : ℕ) (x : X) → k < length xs → x ≡ get_or xs k x → list_all p (enumerate_from (n + k) (drop k xs)) ≡ (p (n + k, x) && list_all p (enumerate_from (n + (k + 1)) (drop (k + 1) xs)))
-numbered_rest {X} p xs n k x h is =
-    at_drop_more (λ (ys : List X). list_all p (enumerate_from (n + k) ys)) xs k x h
-    ∙ ap (λ (y : X). p (n + k, y) && list_all p (enumerate_from (n + k + 1) (drop (k + 1) xs))) (sym is)
-    ∙ (let e : n + k + 1 ≡ n + (k + 1) = omega arith in ap (λ (m : ℕ). p (n + k, x) && list_all p (enumerate_from m (drop (k + 1) xs))) e)
 
 -- ---- the bag
 

@@ -5,12 +5,13 @@ use Rattle.string_cache_core.specs.declared.steps.Step.TheVariants.{Free}
 use Rattle.string_cache_core.specs.declared.steps.StepReply.TheVariants as reply
 use Rattle.string_cache_core.specs.Tables.{Tables}
 use Rattle.string_cache_core.specs.Bounds.{Bounds}
+use Rattle.string_cache_core.specs.Layout.{most_buckets}
 use Rattle.string_cache_core.specs.World.{Entry, World}
 use Rattle.string_cache_core.specs.Steps.{entry_at, opening}
 use Rattle.string_cache_core.specs.Sound.{At, Sound, is_living}
 use Rattle.string_cache_core.specs.Runs.{Event, Leads}
 use Rattle.string_cache_core.specs.Theorem.{event, places_in_bag, IsSoundRun}
-use Rattle.string_cache_core.proofs.StepHistory.{keeps_all, opening_sound, one_map}
+use Rattle.string_cache_core.proofs.StepOpening.{keeps_all, opening_sound, one_map}
 use Rattle.string_cache_core.proofs.StepEntries.{frees_soundly, sound_by}
 use Rattle.string_cache_core.proofs.StepZeros.{zeros_go_all}
 use Rattle.string_cache_core.proofs.StepSweeps.{only_held}
@@ -61,7 +62,7 @@ module _ (tables : Tables) where
   freed_apart w sound (x ∷ events) new leads (suc i) (suc j) p q e a b =
       ap suc (freed_apart leads.0 (sound_by tables w sound x leads.0 leads.1) events new leads.2 i j p q e a b)
 
-  pub every_run : (limits : Bounds) (n : ℕ) (events : List Event) (new : World) → 0 < n → n ≤ 4096 → Leads tables (opening limits n) events new
+  pub every_run : (limits : Bounds) (n : ℕ) (events : List Event) (new : World) → 0 < n → n ≤ most_buckets → Leads tables (opening limits n) events new
       → IsSoundRun tables (opening limits n) events new
   every_run limits n events new some few leads =
       let first = opening_sound tables limits n some few in

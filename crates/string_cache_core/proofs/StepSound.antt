@@ -6,12 +6,14 @@ use Rattle.std.specs.Option.{option_map}
 use Rattle.std.specs.Str.{bytes_eq}
 use Rattle.std.proofs.lemmas.Bool.{and_parts, and_from, and_left, and_right, cases_eq, false_from_ne_true}
 use Rattle.std.proofs.lemmas.Slice.Eq.{bytes_eq-Decides}
+use Rattle.string_cache_core.specs.Layout.{most_buckets}
 use Rattle.string_cache_core.specs.Steps.{replaced, without_party, with_one}
 use Rattle.string_cache_core.specs.Word.{ticket_of}
 use Rattle.string_cache_core.specs.World.{Entry, Pass, is_linked}
 use Rattle.string_cache_core.specs.Sound.{is_living, At, times, IsNumbered, SoundTable, IsDead, SoundPass}
 use Rattle.string_cache_core.specs.Runs.{living_at}
 use Rattle.string_cache_core.specs.Map.{InternMap, Holding}
+use Rattle.string_cache_core.proofs.Tickets.{ticket_of-same}
 use Rattle.string_cache_core.proofs.StepLists.{at_set_same, at_set_cases, at_push_old, at_push_cases, at_push_new, at_one, find-set, find-push, find-is, find-none, all_weaker, times-with_one_same, times-with_one_other, if_case}
 use Rattle.string_cache_core.specs.Tables.{Tables}
 
@@ -116,9 +118,6 @@ all_without_party P (pass ∷ passes) party all =
 
 -- ---- one more entry
 
-pub ticket_of-same : (b c s t : ℕ) → b < 4096 → c < 4096 → ticket_of s b ≡ ticket_of t c → (b ≡ c) × (s ≡ t)
-ticket_of-same b c s t hb hc e = (omega arith, omega arith)
-
 module _ (es : List Entry) (lasts bag : List ℕ) (y : Entry) (table : SoundTable es lasts bag) (below : y.bucket < length lasts) (ticket : y.ticket ≡ ticket_of (slice_index lasts y.bucket + 1) y.bucket) where
   pub fresh : (k : ℕ) (x : Entry) → At es k x → x.ticket ≢ y.ticket
   fresh k x a e =
@@ -146,7 +145,7 @@ module _ (es : List Entry) (lasts bag : List ℕ) (y : Entry) (table : SoundTabl
   pub table-push : y.count ≡ 1 → is_linked y.place ≡ true → ((k : ℕ) (x : Entry) → At es k x → is_living x ≡ true → x.text ≢ y.text) → SoundTable (es ++ y ∷ []) (slice_set lasts y.bucket (slice_index lasts y.bucket + 1)) (with_one y.ticket bag)
   table-push count linked alone = record {
     some = subst (λ (m : ℕ). 0 < m) (sym same_length) table.some;
-    few = subst (λ (m : ℕ). m ≤ 4096) (sym same_length) table.few;
+    few = subst (λ (m : ℕ). m ≤ most_buckets) (sym same_length) table.few;
     numbered = λ j z a. elim (at_push_cases es y j z a) [
       | inl old ↦ numbered_old z (table.numbered j z old)
       | inr (e, f) ↦ subst (λ (v : Entry). IsNumbered (slice_set lasts y.bucket (slice_index lasts y.bucket + 1)) v) (sym f)

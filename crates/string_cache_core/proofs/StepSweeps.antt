@@ -14,10 +14,10 @@ use Rattle.string_cache_core.specs.Runs.{Event, Leads}
 use Rattle.string_cache_core.specs.Theorem.{event, IsAlone, Sweeps, OnlyHeldLinked, places_in_bag}
 use Rattle.string_cache_core.specs.Sound.{At, Sound}
 use Rattle.string_cache_core.proofs.StepLists.{at_one, at_set_cases, at_push_cases, bind_case, guard_case, if_case}
-use Rattle.string_cache_core.proofs.StepHistory.{keeps_all}
+use Rattle.string_cache_core.proofs.StepOpening.{keeps_all}
 use Rattle.string_cache_core.proofs.StepEntries.{sound_by, all_sound, stays_gone}
 use Rattle.string_cache_core.proofs.StepPasses.{leads-append}
-use Rattle.string_cache_core.proofs.StepZeros.{zero_taken, zero_all, zero_left}
+use Rattle.string_cache_core.proofs.StepZeros.{AtZero, zero_taken, zero_all, zero_left}
 use Rattle.string_cache_core.specs.Tables.{Tables}
 
 -- What stood at zero here, linked if z is.
@@ -133,30 +133,41 @@ module _ (tables : Tables) where
   all_right P [] ys all = all
   all_right P (x ∷ xs) ys all = all_right P xs ys all.1
 
+  unlinked_is : (es : List Entry) (k : ℕ) (x y : Entry) → At es k x → At es k y → is_linked x.place ≡ false → is_linked y.place ≡ true → ⊥
+  unlinked_is es k x y a b out l =
+      let clash : false ≡ true = sym out ∙ ap (λ (z : Entry). is_linked z.place) (at_one es k x y a b) ∙ l in
+      not_linked clash
+
+  -- What was at zero in a bucket that the party held isn't linked once the party has left.
+  left_gone : (u : World) → Sound tables u → (party bucket k : ℕ) → AtZero u party bucket k → (after : List Event) (v : World) → Leads tables u (event party Leave reply.Left ∷ after) v
+      → (y : Entry) → At v.entries k y → is_linked y.place ≡ true → ⊥
+  left_gone u sound party bucket k z after v leads y at l =
+      let leave = event party Leave reply.Left in
+      let out = zero_left tables u sound party bucket k z leave leads.0 leads.1 refl refl in
+      let end = stays_gone tables leads.0 (sound_by tables u sound leave leads.0 leads.1) after v leads.2 k out.0 out.1 out.2 in
+      unlinked_is v.entries k end.0 y end.1 at end.2 l
+
+  -- Nor is what is at zero at the end, where the party is alone from the step on that took the bucket.
+  taken_gone : (u mid : World) → Sound tables u → (party bucket : ℕ) → step tables u party (TakeSweep bucket) ≡ (reply.Taken, mid) → (middle after : List Event) (v : World)
+      → Leads tables mid (middle ++ event party Leave reply.Left ∷ after) v → IsAlone party (middle ++ event party Leave reply.Left ∷ after)
+      → (k : ℕ) (y : Entry) → At v.entries k y → y.count ≡ 0 → y.bucket ≡ bucket → is_linked y.place ≡ true → ⊥
+  taken_gone u mid sound party bucket does middle after v leads alone k y at zero_now right l =
+      let sound' = sound_by tables u sound (event party (TakeSweep bucket) reply.Taken) mid does in
+      let then = came_all party mid (middle ++ event party Leave reply.Left ∷ after) v leads alone k y at zero_now in
+      let z = zero_taken tables u party bucket (TakeSweep bucket) mid refl does k then.entry then.at then.zero_then (sym then.bucket ∙ right) in
+      let rest = leads-append tables mid v middle (event party Leave reply.Left ∷ after) leads in
+      left_gone rest.0 (all_sound tables mid sound' middle rest.0 rest.1) party bucket k (zero_all tables mid sound' party bucket k z middle rest.0 rest.1) after v rest.2 y at l
+
   -- An entry of a bucket that was swept isn't both at zero and linked.
   swept_gone : (w : World) → Sound tables w → (party bucket : ℕ) (before middle after : List Event) (v : World)
       → Leads tables w (before ++ (event party (TakeSweep bucket) reply.Taken ∷ middle ++ event party Leave reply.Left ∷ after)) v
       → IsAlone party (before ++ (event party (TakeSweep bucket) reply.Taken ∷ middle ++ event party Leave reply.Left ∷ after))
       → (k : ℕ) (y : Entry) → At v.entries k y → y.count ≡ 0 → y.bucket ≡ bucket → is_linked y.place ≡ true → ⊥
   swept_gone w sound party bucket before middle after v leads alone k y at zero_now right l =
-      let take = event party (TakeSweep bucket) reply.Taken in
-      let leave = event party Leave reply.Left in
-      let first = leads-append tables w v before (take ∷ middle ++ leave ∷ after) leads in
-      let sound1 = all_sound tables w sound before first.0 first.1 in
-      let mid = first.2.0 in
-      let sound2 = sound_by tables first.0 sound1 take mid first.2.1 in
-      let rest = leads-append tables mid v middle (leave ∷ after) first.2.2 in
-      let sound3 = all_sound tables mid sound2 middle rest.0 rest.1 in
-      let sound4 = sound_by tables rest.0 sound3 leave rest.2.0 rest.2.1 in
-      let alone' = (all_right (λ (e : Event). (e.party ≡ party) × ((n : ℕ) → e.does ≢ Give n)) before (take ∷ middle ++ leave ∷ after) alone).1 in
-      let then = came_all party mid (middle ++ leave ∷ after) v first.2.2 alone' k y at zero_now in
-      let z = zero_taken tables first.0 party bucket (TakeSweep bucket) mid refl first.2.1 k then.entry then.at then.zero_then (sym then.bucket ∙ right) in
-      let z' = zero_all tables mid sound2 party bucket k z middle rest.0 rest.1 in
-      let out = zero_left tables rest.0 sound3 party bucket k z' leave rest.2.0 rest.2.1 refl refl in
-      let end = stays_gone tables rest.2.0 sound4 after v rest.2.2 k out.0 out.1 out.2 in
-      let is : end.0 ≡ y = at_one v.entries k end.0 y end.1 at in
-      let clash : false ≡ true = sym end.2 ∙ ap (λ (x : Entry). is_linked x.place) is ∙ l in
-      not_linked clash
+      let swept = event party (TakeSweep bucket) reply.Taken ∷ middle ++ event party Leave reply.Left ∷ after in
+      let first = leads-append tables w v before swept leads in
+      let alone' = (all_right (λ (e : Event). (e.party ≡ party) × ((n : ℕ) → e.does ≢ Give n)) before swept alone).1 in
+      taken_gone first.0 first.2.0 (all_sound tables w sound before first.0 first.1) party bucket first.2.1 middle after v first.2.2 alone' k y at zero_now right l
 
   pub only_held : (w : World) → Sound tables w → (party : ℕ) (part : List Event) (v : World) → Leads tables w part v → IsAlone party part → ((bucket : ℕ) → bucket < length w.lasts → Sweeps party part bucket) → OnlyHeldLinked v
   only_held w sound party part v leads alone sweeps zero y at = absurd (let e : ◌≡◌ {A = Option Entry} None (Some y) = at in cc)

@@ -12,7 +12,7 @@ use Rattle.string_cache_core.specs.Word.{inline_word, static_word, IsInlineText}
 use Rattle.string_cache_core.proofs.Unpacking.{inline_word_same}
 use Rattle.string_cache_core.proofs.HeldWords.{form_by, static-text, held-tag}
 
-inline_by : (long there : Bool) (place hash own word : ℕ) → form_by long there place hash own ≡ Inline word → (long ≡ false) × (own ≡ word)
+pub inline_by : (long there : Bool) (place hash own word : ℕ) → form_by long there place hash own ≡ Inline word → (long ≡ false) × (own ≡ word)
 inline_by true true place hash own word e = cc
 inline_by true false place hash own word e = cc
 inline_by false there place hash own word e = (refl, cc)
@@ -21,13 +21,13 @@ upto : (n : ℕ) → nat_lt 7 n ≡ false → n ≤ 7
 upto n e = ltb-false 7 n e
 
 -- a text with a word is inline, static or held
-abbrev Has : Tables → InternMap → List ℕ → ℕ → Type 0
+abbrev pub Has : Tables → InternMap → List ℕ → ℕ → Type 0
 Has t m text word =
     (IsInlineText text × (word ≡ inline_word text))
     ⊎ ((index : ℕ) × (form_of_text t text ≡ Static index) × (word ≡ static_word index))
     ⊎ ((holders : ℕ) × (m.held text ≡ Some (record { ticket = word; holders = holders })))
 
-has : (t : Tables) (m : InternMap) (text : List ℕ) (word : ℕ) → IsUtf8 text → HasWord t m text word → Has t m text word
+pub has : (t : Tables) (m : InternMap) (text : List ℕ) (word : ℕ) → IsUtf8 text → HasWord t m text word → Has t m text word
 has t m text word utf8 h = by (form_of_text t text) refl h
   where
     by : (form : TextForm) → form_of_text t text ≡ form → HasWordBy m text (fixed_word form) word → Has t m text word

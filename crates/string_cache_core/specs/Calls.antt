@@ -28,8 +28,8 @@ Answers t limits m (call.Give word) answer new =
     (Gives t limits m word new × (answer ≡ reply.Given)) ⊎ IsNotHeld t m word answer new
 
 -- The calls, one after another, may be replied to so, and leave the map new.
-abbrev pub Replays : Tables → Bounds → InternMap → List Call → List TableReply → InternMap → Type 0
-Replays t limits m [] [] new = new ≡ m
-Replays t limits m [] (answer ∷ answers) new = ⊥
-Replays t limits m (c ∷ calls) [] new = ⊥
-Replays t limits m (c ∷ calls) (answer ∷ answers) new = (mid : InternMap) × Answers t limits m c answer mid × Replays t limits mid calls answers new
+abbrev pub AnswersAll : Tables → Bounds → InternMap → List Call → List TableReply → InternMap → Type 0
+AnswersAll t limits m [] [] new = new ≡ m
+AnswersAll t limits m [] (answer ∷ answers) new = ⊥
+AnswersAll t limits m (c ∷ calls) [] new = ⊥
+AnswersAll t limits m (c ∷ calls) (answer ∷ answers) new = (mid : InternMap) × Answers t limits m c answer mid × AnswersAll t limits mid calls answers new

@@ -1,5 +1,5 @@
--- The numbers of the faults.
-use Rattle.std.specs.Prelude.{ℕ, ⊤}
+-- The numbers of the faults, and what calls may be refused for.
+use Rattle.std.specs.Prelude.{◌≡◌, ℕ, ⊤, Result, Err, OnErr}
 use Rattle.string_cache_core.specs.declared.faults.Fault.{Fault}
 use Rattle.string_cache_core.specs.declared.faults.Fault.TheVariants.{Memory, FullCount, TicketsSpent, NotText}
 
@@ -15,3 +15,7 @@ IsInternFault Memory = ⊤
 IsInternFault FullCount = ⊤
 IsInternFault TicketsSpent = ⊤
 IsInternFault NotText = ⊥
+
+-- An Err is for want of memory, and leaves all as it was.
+abbrev pub RefusesUnchanged : {W A : Type 0} → W → Result A Fault → W → Type 0
+RefusesUnchanged old result new = OnErr result ((new ≡ old) × (result ≡ Err Memory))

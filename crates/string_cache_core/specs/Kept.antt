@@ -4,6 +4,7 @@ use Rattle.std.specs.List.{sum_by}
 use Rattle.std.specs.Map.{lookup}
 use Rattle.std.specs.Str.{bytes_eq}
 use Rattle.string_cache_core.specs.Bounds.{Bounds}
+use Rattle.string_cache_core.specs.Layout.{most_buckets}
 use Rattle.string_cache_core.specs.Map.{Holding, InternMap}
 use Rattle.string_cache_core.specs.Tables.{Tables, entry_hash, form_of_text, fixed_word}
 use Rattle.string_cache_core.specs.Word.{ticket_of, IsTicket}
@@ -39,8 +40,8 @@ pub record IsGiven (t : Tables) (buckets : ℕ) (last : ℕ → ℕ) (text : Lis
   pub held : 0 < had.holders
 
 -- The tickets stand in a list of their own, each at the place of its text, and the bytes of the texts are counted.
-pub record IsKept (t : Tables) (lasts : List ℕ) (pairs : List Pair) (tickets : List ℕ) (bytes : ℕ) : Type 0 where
-  pub buckets : length lasts ≡ 4096
+pub record IsKeptTable (t : Tables) (lasts : List ℕ) (pairs : List Pair) (tickets : List ℕ) (bytes : ℕ) : Type 0 where
+  pub buckets : length lasts ≡ most_buckets
   pub given : (at : ℕ) (pair : Pair) → slice_get pairs at ≡ Some pair → IsGiven t (length lasts) (slice_index lasts) pair.0 pair.1
   pub short : (at : ℕ) (pair : Pair) → slice_get pairs at ≡ Some pair → length pair.0 < 2 ^ 64
   pub index : tickets ≡ tickets_of pairs

@@ -4,6 +4,7 @@ pub mod Faults
 pub mod Form
 pub mod InlineText
 pub mod Kept
+pub mod Layout
 pub mod Listed
 pub mod Map
 pub mod Pass

@@ -1,4 +1,4 @@
--- Words of private contracts: where a text and a ticket stand.
+-- Words of private contracts of the table: where a text and a ticket stand.
 use Rattle.std.specs.Prelude.{◌≡◌, ℕ, ◌<◌, List, Some, slice_get}
 use Rattle.string_cache_core.specs.Map.{Holding}
 use Rattle.string_cache_core.specs.Kept.{Kept, map_of}

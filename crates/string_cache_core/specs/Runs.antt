@@ -87,6 +87,6 @@ history_of t w [] = []
 history_of t w (e ∷ events) = call_of w e.party e.does e.reply ++ history_of t (step t w e.party e.does).1 events
 
 -- From m the calls, one after another, may be replied to so, and leave new.
-abbrev pub Replays : Tables → Bounds → InternMap → List Made → InternMap → Type 0
-Replays t limits m [] new = new ≡ m
-Replays t limits m (made ∷ calls) new = (mid : InternMap) × MayReply t limits m made.call made.reply mid × Replays t limits mid calls new
+abbrev pub ReplaysHistory : Tables → Bounds → InternMap → List Made → InternMap → Type 0
+ReplaysHistory t limits m [] new = new ≡ m
+ReplaysHistory t limits m (made ∷ calls) new = (mid : InternMap) × MayReply t limits m made.call made.reply mid × ReplaysHistory t limits mid calls new

@@ -1,6 +1,7 @@
 -- What every world keeps that steps lead to.
 use Rattle.std.specs.Prelude.{◌≡◌, ◌≢◌, ℕ, ◌<◌, ◌≤◌, ◌==◌, ◌&&◌, nat_lt, Bool, true, List, [], ◌∷◌, length, count_by, Some, slice_get, slice_index, suc}
 use Rattle.std.specs.List.{AllByRecursion}
+use Rattle.string_cache_core.specs.Layout.{most_buckets}
 use Rattle.string_cache_core.specs.Tables.{Tables}
 use Rattle.string_cache_core.specs.Word.{ticket_of}
 use Rattle.string_cache_core.specs.World.{Entry, Pass, World, is_linked}
@@ -24,7 +25,7 @@ IsNumbered lasts x = (serial : ℕ) × (x.ticket ≡ ticket_of serial x.bucket) 
 
 pub record SoundTable (entries : List Entry) (lasts bag : List ℕ) : Type 0 where
   pub some : 0 < length lasts
-  pub few : length lasts ≤ 4096
+  pub few : length lasts ≤ most_buckets
   pub numbered : (k : ℕ) (x : Entry) → At entries k x → IsNumbered lasts x
   -- no ticket comes twice
   pub apart : (j k : ℕ) (x y : Entry) → At entries j x → At entries k y → x.ticket ≡ y.ticket → j ≡ k

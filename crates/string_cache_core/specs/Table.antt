@@ -1,12 +1,12 @@
 -- What the calls of a table do, as calls of the map that it is.
-use Rattle.std.specs.Prelude.{◌≡◌, ℕ, ◌⊎◌, ◌↔◌, List, Option, None, Some, Result, Ok, Err}
+use Rattle.std.specs.Prelude.{◌≡◌, ℕ, ◌<◌, ◌≤◌, ◌==◌, ◌⊎◌, ◌↔◌, List, count_by, Option, None, Some, Result, Ok, Err}
 use Rattle.std.specs.Str.{IsUtf8}
 use Rattle.string_cache_core.specs.Bounds.{Bounds}
 use Rattle.string_cache_core.specs.declared.faults.Fault.{Fault}
 use Rattle.string_cache_core.specs.declared.static_sets.TextForm.TheVariants as form
 use Rattle.string_cache_core.specs.Map.{Holding, InternMap, IsHeldTicket, MapReply, Intern, Clone, Give, MayReply, MayAdd}
 use Rattle.string_cache_core.specs.Tables.{Tables, form_of_text, fixed_word, IsStaticTextWord}
-use Rattle.string_cache_core.specs.Word.{static_word, IsInlineWord}
+use Rattle.string_cache_core.specs.Word.{static_word, ticket_of, IsInlineWord, IsTicket}
 
 -- the word that the map's reply gives
 abbrev pub as_word : MapReply → Result ℕ Fault
@@ -41,6 +41,16 @@ IsFixedWord t word = IsInlineWord word ⊎ IsStaticTextWord t word
 abbrev pub IsHeld : Tables → InternMap → ℕ → Type 0
 IsHeld t m word = IsFixedWord t word ⊎ IsHeldTicket m word
 
+-- At least so many hold the word; a word that a text's form fixes is held by any number.
+abbrev pub IsHeldBy : Tables → InternMap → ℕ → ℕ → Type 0
+IsHeldBy t m word n =
+    (n ≡ 0) ⊎ IsFixedWord t word
+    ⊎ ((text : List ℕ) × (holders : ℕ) × (m.held text ≡ Some (record { ticket = word; holders = holders })) × (n ≤ holders))
+
+-- Each word can be given as often as it is listed. A caller lists what it interned and cloned, and has not given.
+abbrev pub AreHeld : Tables → InternMap → List ℕ → Type 0
+AreHeld t m words = (word : ℕ) → IsHeldBy t m word (count_by (λ own. own == word) words)
+
 -- cloning a word that is held: nothing changes at a fixed word, and a ticket is the map's call
 abbrev pub Clones : Tables → Bounds → InternMap → ℕ → Result ℕ Fault → InternMap → Type 0
 Clones t limits m word result new =
@@ -63,6 +73,27 @@ HasWordBy m text None word = (holders : ℕ) × (m.held text ≡ Some (record { 
 abbrev pub HasWord : Tables → InternMap → List ℕ → ℕ → Type 0
 HasWord t m text word = HasWordBy m text (fixed_word (form_of_text t text)) word
 
+-- what a word has in m, it has in new
+pub record KeepsWord (t : Tables) (m new : InternMap) (word : ℕ) : Type 0 where
+  pub held : IsHeld t m word → IsHeld t new word
+  pub text : (text : List ℕ) → IsTextOf t m word text → IsTextOf t new word text
+  pub owned : (text : List ℕ) → HasWord t m text word → HasWord t new text word
+
 -- Two words that texts have at once are equal exactly if the texts are.
 abbrev pub HasOneTextEach : Tables → InternMap → Type 0
 HasOneTextEach t m = (text other : List ℕ) (word also : ℕ) → IsUtf8 text → IsUtf8 other → HasWord t m text word → HasWord t m other also → (word ≡ also) ↔ (text ≡ other)
+
+-- ---- no ticket comes twice
+
+-- The ticket is of a serial that its bucket has given.
+abbrev pub IsGivenTicket : InternMap → ℕ → Type 0
+IsGivenTicket m ticket = (serial : ℕ) × (bucket : ℕ) × IsTicket serial bucket × (ticket_of serial bucket ≡ ticket) × (serial ≤ m.last bucket)
+
+-- The ticket is of a serial above the last that its bucket has given.
+abbrev pub IsNewTicket : InternMap → ℕ → Type 0
+IsNewTicket m ticket = (serial : ℕ) × (bucket : ℕ) × IsTicket serial bucket × (ticket_of serial bucket ≡ ticket) × (m.last bucket < serial)
+
+-- Each ticket that new holds is given there, and is held in m or new to it.
+pub record GivesOnce (m new : InternMap) : Type 0 where
+  pub given : (ticket : ℕ) → IsHeldTicket new ticket → IsGivenTicket new ticket
+  pub fresh : (ticket : ℕ) → IsHeldTicket new ticket → IsHeldTicket m ticket ⊎ IsNewTicket m ticket

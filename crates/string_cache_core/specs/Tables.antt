@@ -1,10 +1,10 @@
 -- Static tables, and the form, the hash number and the words that they give.
-use Rattle.std.specs.Prelude.{◌≡◌, ℕ, ◌^◌, ◌<◌, ◌⊎◌, Bool, true, false, List, [], ◌∷◌, length, nat_lt, if◌then◌else◌, slice_index, slice_index_or, Option, Some, None}
+use Rattle.std.specs.Prelude.{◌≡◌, ℕ, ◌^◌, ◌<◌, Bool, true, false, List, [], ◌∷◌, length, nat_lt, if◌then◌else◌, slice_index, slice_index_or, Option, Some, None}
 use Rattle.std.specs.Str.{bytes_eq}
 use Rattle.string_cache_core.specs.declared.static_sets.TextForm.{TextForm}
 use Rattle.string_cache_core.specs.declared.static_sets.TextForm.TheVariants.{Inline, Static, Dynamic}
 use Rattle.string_cache_core.specs.Phf.{hashes_of, hash_of_hashes, place_of}
-use Rattle.string_cache_core.specs.Word.{inline_word, static_word, IsInlineWord, IsTicketWord}
+use Rattle.string_cache_core.specs.Word.{inline_word, static_word}
 
 -- the key of the hash, the pairs of displacements, the texts, and the hash number of each
 pub record Tables : Type 0 where
@@ -94,10 +94,6 @@ AllAreStatic t = (i : ℕ) → i < length t.atoms → 7 < length (text_at t i) �
 -- the word is that of a static text
 abbrev pub IsStaticTextWord : Tables → ℕ → Type 0
 IsStaticTextWord t word = (index : ℕ) × IsStaticIndex t index × (static_word index ≡ word)
-
--- a word of some text under the tables, or a ticket
-abbrev pub IsCanonical : Tables → ℕ → Type 0
-IsCanonical t word = IsInlineWord word ⊎ IsStaticTextWord t word ⊎ IsTicketWord word
 
 -- the tables whose one text is the empty one, under which no text is static
 abbrev pub empty_tables : Tables

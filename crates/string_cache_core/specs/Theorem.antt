@@ -4,6 +4,7 @@ use Rattle.std.specs.Prelude.{◌≡◌, ◌≢◌, ℕ, ◌<◌, ◌≤◌, ◌
 use Rattle.std.specs.List.{filter, AllByRecursion}
 use Rattle.std.specs.String.{string_bytes}
 use Rattle.string_cache_core.specs.Bounds.{Bounds}
+use Rattle.string_cache_core.specs.Layout.{most_buckets}
 use Rattle.string_cache_core.specs.declared.steps.entry.Place.TheVariants as place
 use Rattle.string_cache_core.specs.declared.steps.Step.{Step}
 use Rattle.string_cache_core.specs.declared.steps.Step.TheVariants.{TakeIntern, TakeSweep, Add, Link, Clone, Give, Unlink, Free, Leave}
@@ -15,7 +16,7 @@ use Rattle.string_cache_core.specs.Steps.{step, entry_at, is_linked_in, opening,
 use Rattle.string_cache_core.specs.Sound.{is_living}
 use Rattle.string_cache_core.specs.Map.{MapCall, empty_map}
 use Rattle.string_cache_core.specs.Map as map
-use Rattle.string_cache_core.specs.Runs.{Event, Leads, Script, events_of, Made, call_of, history_of, live_map, Replays}
+use Rattle.string_cache_core.specs.Runs.{Event, Leads, Script, events_of, Made, call_of, history_of, live_map, ReplaysHistory}
 
 abbrev pub event : ℕ → Step → StepReply → Event
 event party does given = record { party = party; does = does; reply = given }
@@ -118,7 +119,7 @@ pub record IsSoundRun (t : Tables) (old : World) (events : List Event) (new : Wo
   -- Each reply and each new world is the table's.
   pub steps : Leads t old events new
   -- The calls that the replies are read as are those of one map, from the empty map to what the last world shows.
-  pub one_map : Replays t old.limits (empty_map (length old.lasts)) (history_of t old events) (live_map new)
+  pub one_map : ReplaysHistory t old.limits (empty_map (length old.lasts)) (history_of t old events) (live_map new)
   -- No two entries that were ever linked have one ticket, and no two living ones one text.
   pub distinct_tickets : (j k : ℕ) (x y : Entry) → entry_at new j ≡ Some x → entry_at new k ≡ Some y → x.ticket ≡ y.ticket → j ≡ k
   pub distinct_texts : (j k : ℕ) (x y : Entry) → entry_at new j ≡ Some x → entry_at new k ≡ Some y → is_living x ≡ true → is_living y ≡ true → x.text ≡ y.text → j ≡ k
@@ -148,5 +149,5 @@ pub record HasRun (t : Tables) (old : World) (script : Script) (before after : L
   pub one_each : length appended ≤ length script
   pub leads : Leads t old (events_of script appended) new
   -- Where old is the opening world, or one that steps led to from there: every interleaving is one map's.
-  pub sound : (limits : Bounds) (buckets : ℕ) (earlier : List Event) → 0 < buckets → buckets ≤ 4096 → Leads t (opening limits buckets) earlier old
+  pub sound : (limits : Bounds) (buckets : ℕ) (earlier : List Event) → 0 < buckets → buckets ≤ most_buckets → Leads t (opening limits buckets) earlier old
       → IsSoundRun t (opening limits buckets) (earlier ++ events_of script appended) new

@@ -3,6 +3,7 @@
 use Rattle.std.specs.Prelude.{◌≡◌, ℕ, ◌+◌, ◌*◌, ◌^◌, ◌<◌, ◌≤◌, List, length, sum_by}
 use Rattle.std.specs.List.{enumerate_from}
 use Rattle.std.specs.Str.{IsUtf8}
+use Rattle.string_cache_core.specs.Layout.{most_buckets, serial_bound, ticket_unit}
 
 -- the number that bytes spell, low byte first: the sum of byte i times 256 ^ i
 abbrev pub bytes_value : List ℕ → ℕ
@@ -20,12 +21,13 @@ inline_word text = 1 + 16 * length text + 256 * bytes_value text
 abbrev pub static_word : ℕ → ℕ
 static_word index = index * 2 ^ 32 + 2
 
--- the word of a bucket's entry: tag 0, the bucket in bits 2 to 13, and above it the serial that the bucket gave the entry
+-- the word of a bucket's entry: tag 0, the bucket above it, and above that the serial that the bucket gave
+-- the entry
 abbrev pub ticket_of : ℕ → ℕ → ℕ
-ticket_of serial bucket = serial * 2 ^ 14 + bucket * 4
+ticket_of serial bucket = serial * ticket_unit + bucket * 4
 
 abbrev pub IsTicket : ℕ → ℕ → Type 0
-IsTicket serial bucket = (1 ≤ serial) × (serial < 2 ^ 50) × (bucket < 4096)
+IsTicket serial bucket = (1 ≤ serial) × (serial < serial_bound) × (bucket < most_buckets)
 
 -- the word is the inline word of a text
 abbrev pub IsInlineWord : ℕ → Type 0

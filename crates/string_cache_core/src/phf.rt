@@ -2,7 +2,8 @@
 //! (hash, displace and compress: Belazzougui, Botelho and Dietzfelbinger, 2009).
 #![tactic(auto)]
 
-ghost use Rattle.std.specs.Prelude.{◌≡◌, ◌<◌, ◌≤◌, length};
+ghost use Rattle.std.specs.Prelude.{◌≡◌, ◌+◌, ◌*◌, ◌/◌, ◌%◌, ◌^◌, ◌<◌, ◌≤◌, drop, length};
+ghost use Rattle.string_cache_core.specs.Word.{bytes_value};
 ghost use Rattle.string_cache_core.specs.Phf.{start, round, rounds, absorb, absorb_all, xor_of, sip24_of, hashes_of, hash_of_hashes, place_of};
 
 /// The three hashes of a text.
@@ -91,10 +92,7 @@ impl Sip {
         for word in words {
             self.absorb(u64::from_le_bytes(*word), count);
         }
-        let mut last = [0u8; 8];
-        last[..rest.len()].copy_from_slice(rest);
-        last[7] = (bytes.len() % 256) as u8;
-        self.absorb(u64::from_le_bytes(last), count);
+        self.absorb(last_word(bytes, rest), count);
     }
 
     #[tactic(auto, unfolding(crate::specs::Phf::xor_of))]
@@ -103,6 +101,38 @@ impl Sip {
     {
         self.v0 ^ self.v1 ^ self.v2 ^ self.v3
     }
+}
+
+/// The last word of a text: the bytes behind its whole words, then zeros, and in the top byte the length modulo 256.
+fn last_word(bytes: &[u8], rest: &[u8]) -> u64
+    requires { rest.now ≡ drop (length bytes.now / 8 * 8) bytes.now }
+    ensures { result ≡ bytes_value rest.now + length bytes.now % 256 * 2 ^ 56 }
+{
+    let len = (bytes.len() % 256) as u8;
+    match bytes.last_chunk::<8>() {
+        Some(tail) => tail_word(*tail, 8 - rest.len() as u32, len),
+        None => short_word(rest, len),
+    }
+}
+
+/// The last word of a text that ends with these eight bytes, of which the first `gone`, 1 to 8, are in its whole words.
+fn tail_word(tail: [u8; 8], gone: u32, len: u8) -> u64
+    requires { (1 ≤ gone) × (gone ≤ 8) }
+    ensures { result ≡ bytes_value (drop gone tail) + len * 2 ^ 56 }
+{
+    let word = u64::from_le_bytes(tail) >> (8 * gone - 8);
+    (word >> 8) + (u64::from(len) << 56) // no shift by 64 at once
+}
+
+/// The last word of a text without whole words.
+fn short_word(rest: &[u8], len: u8) -> u64
+    requires { length rest.now < 8 }
+    ensures { result ≡ bytes_value rest.now + len * 2 ^ 56 }
+{
+    let mut last = [0u8; 8];
+    last[..rest.len()].copy_from_slice(rest);
+    last[7] = len;
+    u64::from_le_bytes(last)
 }
 
 /// SipHash-2-4 of the bytes under the keys `k0` and `k1`, with 64 bits.

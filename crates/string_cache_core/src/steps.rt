@@ -5,6 +5,8 @@
 
 ghost use Rattle.std.specs.Prelude.{◌≡◌, ◌+◌, false, length, IfOk, OnOk, OnErr, Some};
 ghost use Rattle.std.specs.Option.{option_map};
+ghost use Rattle.string_cache_core.specs.Faults.{RefusesUnchanged};
+ghost use Rattle.string_cache_core.specs.Layout.{most_buckets};
 ghost use Rattle.string_cache_core.specs.Steps.{IsStep, entry_at, opening};
 ghost use Rattle.string_cache_core.specs.Theorem.{HasRun};
 ghost use Rattle.string_cache_core.specs.PassSteps.{PassIsSteps};
@@ -95,7 +97,7 @@ pub enum StepReply {
     Left,
 }
 
-/// A world of 4096 buckets and of the entries that were ever linked in them, in which parties make steps.
+/// A world of `MOST_BUCKETS` buckets and of the entries that were ever linked in them, in which parties make steps.
 #[derive(Drop)]
 pub struct World<S: StaticAtomSet> {
     state: State,
@@ -119,7 +121,7 @@ impl<S: StaticAtomSet> World<S> {
 
     /// A world in which nothing is linked, nothing is held, and all parties are idle.
     pub fn new(alloc: Global, limits: Limits) -> Result<Self, Fault>
-        ensures ok { IfOk result (λ world. world ≡ opening limits 4096) }
+        ensures ok { IfOk result (λ world. world ≡ opening limits most_buckets) }
         ensures err { OnErr result (result ≡ Err Fault.Memory) }
     {
         let state = State::new(alloc, limits)?;
@@ -131,7 +133,7 @@ impl<S: StaticAtomSet> World<S> {
 
     fn apply(&mut self, party: u32, step: &Step) -> Result<StepReply, Fault>
         ensures ok { IfOk result (λ reply. IsStep S.tables self.old party step.now reply self.new) }
-        ensures err { OnErr result ((self.new ≡ self.old) × (result ≡ Err Fault.Memory)) }
+        ensures err { RefusesUnchanged self.old result self.new }
     {
         let reply = self.state.apply::<S>(party, step)?;
         Ok(reply)
@@ -141,7 +143,7 @@ impl<S: StaticAtomSet> World<S> {
     /// nothing.
     pub fn step(&mut self, party: u32, step: Step) -> Result<StepReply, Fault>
         ensures ok { IfOk result (λ reply. IsStep S.tables self.old party step reply self.new) }
-        ensures err { OnErr result ((self.new ≡ self.old) × (result ≡ Err Fault.Memory)) }
+        ensures err { RefusesUnchanged self.old result self.new }
     {
         self.apply(party, &step)
     }
@@ -171,7 +173,8 @@ impl<S: StaticAtomSet> World<S> {
     }
 }
 
-/// Does nothing. Its contract is that any pass over a bucket's list is steps that are all enabled.
-pub fn pass_is_steps()
-    ensures { PassIsSteps }
+/// Does nothing. Its contract is that any pass over a bucket's list is steps that are all enabled, and that the list which
+/// they leave is the one that the pass leaves. `S` is what a pass may find, a share: any type.
+pub fn pass_is_steps<S>()
+    ensures { PassIsSteps S }
 {}

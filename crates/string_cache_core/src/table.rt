@@ -1,18 +1,19 @@
 //! The table of texts for one thread.
 #![tactic(auto)]
 
-ghost use Rattle.std.specs.Prelude.{IsTrue, ◌≡◌, ℕ, ◌+◌, ◌-◌, ◌^◌, ◌%◌, ◌<◌, ◌≤◌, OnOk, OnErr, IfOk, IfErr, MatchOption, Option, None, Some, slice_get, length, List, ◌↔◌};
+ghost use Rattle.std.specs.Prelude.{IsTrue, ◌≡◌, ◌≢◌, ℕ, ◌∷◌, ◌++◌, ◌+◌, ◌-◌, ◌^◌, ◌%◌, ◌<◌, ◌≤◌, OnOk, OnErr, IfOk, IfErr, IfSome, IsSome, MatchOption, Option, None, Some, slice_get, length, List, ◌↔◌};
 ghost use Rattle.string_cache_core.specs.Bounds.{Bounds};
 ghost use Rattle.string_cache_core.specs.Faults.{IsInternFault};
 ghost use Rattle.string_cache_core.specs.declared.faults.Fault.TheVariants.{FullCount, Memory};
-ghost use Rattle.string_cache_core.specs.Calls.{Answers, Replays};
+ghost use Rattle.string_cache_core.specs.Calls.{Answers, AnswersAll};
 ghost use Rattle.std.specs.List.{IsDistinct, sum_by};
 ghost use Rattle.std.specs.Map.{keys_of};
 ghost use Rattle.std.specs.Str.{bytes_eq};
+ghost use Rattle.string_cache_core.specs.Layout.{holder_bound, most_buckets, serial_bound};
 ghost use Rattle.string_cache_core.specs.Map.{Holding, InternMap, IsHeldTicket, Intern, MapReply, MayReply, empty_map, with_held, with_last, bucket_in};
-ghost use Rattle.string_cache_core.specs.Table.{Adds, Interns, Clones, Gives, HasOneTextEach, IsFixedWord, IsHeld, IsTextOf, as_word};
+ghost use Rattle.string_cache_core.specs.Table.{Adds, Interns, Clones, Gives, AreHeld, GivesOnce, HasOneTextEach, HasWord, IsFixedWord, IsHeld, IsTextOf, KeepsWord, as_word};
 ghost use Rattle.string_cache_core.specs.Tables.{form_of_text, fixed_word, entry_hash};
-ghost use Rattle.string_cache_core.specs.Word.{ticket_of};
+ghost use Rattle.string_cache_core.specs.Word.{inline_word, ticket_of};
 ghost use Rattle.string_cache_core.specs.declared.static_sets.TextForm.TheVariants.{Dynamic};
 
 mod call;
@@ -22,7 +23,7 @@ mod tests;
 
 use crate::Fault;
 use crate::static_sets::{StaticAtomSet, TextForm, form_of_text, static_text};
-use crate::word::{Form, Limits, form_of, static_word, ticket_word};
+use crate::word::{Form, Limits, MOST_BUCKETS, bucket_of, form_of, static_word, ticket_word};
 pub use call::{Call, TableReply};
 use held::{Held, write_holders};
 use indexmap::{IndexMap, IndexSet};
@@ -42,13 +43,13 @@ pub struct Table<S: StaticAtomSet> {
 }
 
 impl<S: StaticAtomSet> Model for Table<S> {
-    ghost use Rattle.string_cache_core.specs.Kept.{Kept, pairs_of, IsKept};
+    ghost use Rattle.string_cache_core.specs.Kept.{Kept, pairs_of, IsKeptTable};
 
     ghost Value = { Kept };
 
     ghost view = { λ a. record { limits = a.limits; lasts = a.lasts.items; pairs = pairs_of a.entries.entries } };
 
-    ghost invariant = { λ a. IsKept S.tables a.lasts.items (pairs_of a.entries.entries) a.tickets.keys a.bytes };
+    ghost invariant = { λ a. IsKeptTable S.tables a.lasts.items (pairs_of a.entries.entries) a.tickets.keys a.bytes };
 }
 
 impl<S: StaticAtomSet> Table<S> {
@@ -57,8 +58,8 @@ impl<S: StaticAtomSet> Table<S> {
 
     /// A table in which nothing is held, with the greatest limits. `Memory` where its buckets find none.
     pub fn new(alloc: Global) -> Result<Self, Fault>
-        ensures empty { IfOk result (λ table. map_of table ≡ empty_map 4096) }
-        ensures limits { IfOk result (λ table. table.limits ≡ record { holders = 2 ^ 63 - 1; serials = 2 ^ 50 - 1 }) }
+        ensures empty { IfOk result (λ table. map_of table ≡ empty_map most_buckets) }
+        ensures limits { IfOk result (λ table. table.limits ≡ record { holders = holder_bound - 1; serials = serial_bound - 1 }) }
         ensures fault { IfErr result (λ fault. fault ≡ Memory) }
     {
         Table::with_limits(alloc, Limits::greatest())
@@ -66,13 +67,13 @@ impl<S: StaticAtomSet> Table<S> {
 
     /// A table in which nothing is held, with these limits. `Memory` where its buckets find none.
     pub fn with_limits(alloc: Global, limits: Limits) -> Result<Self, Fault>
-        ensures empty { IfOk result (λ table. map_of table ≡ empty_map 4096) }
+        ensures empty { IfOk result (λ table. map_of table ≡ empty_map most_buckets) }
         ensures limits { IfOk result (λ table. table.limits ≡ limits) }
         ensures fault { IfErr result (λ fault. fault ≡ Memory) }
     {
         Ok(Table {
             limits,
-            lasts: vec![in alloc; 0; 4096]?,
+            lasts: vec![in alloc; 0; MOST_BUCKETS]?,
             entries: IndexMap::new(alloc),
             tickets: IndexSet::new(alloc),
             bytes: 0,
@@ -83,38 +84,40 @@ impl<S: StaticAtomSet> Table<S> {
 
     /// The word of a text. A text of at most 7 bytes has its inline word and a static text its static word, which no limit
     /// and no want of memory refuses. Any other has a ticket: one holder more where the text is held, and else its bucket's
-    /// next ticket, with one holder.
+    /// next ticket, with one holder. No ticket comes twice.
     ///
     /// `FullCount` where the text has as many holders as the limits allow, `TicketsSpent` where a text that isn't held finds
     /// no serial left in its bucket, and `Memory` where it finds no memory. A refusal changes nothing.
     pub fn intern(&mut self, text: &str) -> Result<u64, Fault>
         ensures limits { self.new.limits ≡ self.old.limits }
         ensures interns { Interns S.tables self.old.limits (map_of self.old) text.now result (map_of self.new) }
+        ensures word { IfOk result (λ word. HasWord S.tables (map_of self.new) text.now word) }
+        ensures short { IfOk result (λ word. length text.now ≤ 7 → word ≡ inline_word text.now) }
+        ensures lends { IfOk result (λ word. 7 < length text.now → IsTextOf S.tables (map_of self.new) word text.now) }
+        ensures held { IfOk result (λ word. IsHeld S.tables (map_of self.new) word) }
+        ensures listed { (words : List ℕ) → AreHeld S.tables (map_of self.old) words → IfOk result (λ word. AreHeld S.tables (map_of self.new) (word ∷ words)) }
+        ensures keeps { (other : ℕ) → KeepsWord S.tables (map_of self.old) (map_of self.new) other }
+        ensures apart { HasOneTextEach S.tables (map_of self.new) }
+        ensures once { GivesOnce (map_of self.old) (map_of self.new) }
         ensures fault { IfErr result IsInternFault }
         ensures err { OnErr result (self.new ≡ self.old) }
     {
+        self.is_sound(); // before and after, as the last clauses say
+        let outcome = self.intern_text(text);
         self.is_sound();
-        if let Some(at) = self.find(text) {
-            return self.add_holder(at); // what is held is dynamic
-        }
-        match form_of_text::<S>(text) {
-            TextForm::Inline(word) => Ok(word),
-            TextForm::Static(index) => Ok(static_word(index)),
-            TextForm::Dynamic(hash) => self.intern_new(text, hash),
-        }
+        outcome
     }
 
     /// The text of a static word or of a ticket that is held. `None` for any other word; an inline word holds its text
     /// itself.
     pub fn text(&self, word: u64) -> Option<&str>
-        ensures { MatchOption result ((text : List ℕ) → ¬ (IsTextOf S.tables (map_of self.now) word text)) (λ text. IsTextOf S.tables (map_of self.now) word text.now) }
+        ensures text { MatchOption result ((text : List ℕ) → ¬ (IsTextOf S.tables (map_of self.now) word text)) (λ text. IsTextOf S.tables (map_of self.now) word text.now) }
+        ensures found { (text : List ℕ) → IsTextOf S.tables (map_of self.now) word text → IsSome result }
+        ensures same { IfSome result (λ lent. (text : List ℕ) → IsTextOf S.tables (map_of self.now) word text → lent.now ≡ text) }
+        ensures word { IfSome result (λ text. HasWord S.tables (map_of self.now) text.now word) }
     {
         self.is_sound();
-        match form_of(word)? {
-            Form::Inline(_) => None,
-            Form::Static(index) => static_text::<S>(index),
-            Form::Dynamic { .. } => self.ticket_text(word),
-        }
+        self.find_text(word)
     }
 
     /// Whether a word is held: an inline word always is, a static word where the static type has its text, and a ticket where
@@ -135,9 +138,14 @@ impl<S: StaticAtomSet> Table<S> {
         requires { IsHeld S.tables (map_of self.old) word }
         ensures limits { self.new.limits ≡ self.old.limits }
         ensures clones { Clones S.tables self.old.limits (map_of self.old) word result (map_of self.new) }
+        ensures word { IfOk result (λ clone. clone ≡ word) }
+        ensures held { IfOk result (λ clone. IsHeld S.tables (map_of self.new) clone) }
+        ensures listed { (words : List ℕ) → AreHeld S.tables (map_of self.old) words → IfOk result (λ clone. AreHeld S.tables (map_of self.new) (clone ∷ words)) }
+        ensures keeps { (other : ℕ) → KeepsWord S.tables (map_of self.old) (map_of self.new) other }
         ensures fault { IfErr result (λ fault. fault ≡ FullCount) }
         ensures err { OnErr result (self.new ≡ self.old) }
     {
+        self.is_sound();
         match self.place_of(word) {
             Some(at) => self.add_holder(at),
             None => Ok(word),
@@ -150,7 +158,10 @@ impl<S: StaticAtomSet> Table<S> {
         requires { IsHeld S.tables (map_of self.old) word }
         ensures limits { self.new.limits ≡ self.old.limits }
         ensures gives { Gives S.tables self.old.limits (map_of self.old) word (map_of self.new) }
+        ensures listed { (before after : List ℕ) → AreHeld S.tables (map_of self.old) (before ++ word ∷ after) → AreHeld S.tables (map_of self.new) (before ++ after) }
+        ensures keeps { (other : ℕ) → other ≢ word → KeepsWord S.tables (map_of self.old) (map_of self.new) other }
     {
+        self.is_sound();
         if let Some(at) = self.place_of(word) {
             self.give_at(at);
         }
@@ -175,8 +186,9 @@ impl<S: StaticAtomSet> Table<S> {
     /// made.
     pub fn run(&mut self, calls: &[Call]) -> Result<Vec<TableReply>, Fault>
         ensures limits { self.new.limits ≡ self.old.limits }
-        ensures replays { IfOk result (λ replies. Replays S.tables self.old.limits (map_of self.old) calls.now replies.items (map_of self.new)) }
+        ensures replays { IfOk result (λ replies. AnswersAll S.tables self.old.limits (map_of self.old) calls.now replies.items (map_of self.new)) }
         ensures apart { OnOk result (HasOneTextEach S.tables (map_of self.new)) }
+        ensures once { OnOk result (GivesOnce (map_of self.old) (map_of self.new)) }
         ensures grow { OnOk result ((bucket : ℕ) → (map_of self.old).last bucket ≤ (map_of self.new).last bucket) }
         ensures fault { IfErr result (λ fault. fault ≡ Memory) }
         ensures err { OnErr result (self.new ≡ self.old) }
@@ -184,6 +196,7 @@ impl<S: StaticAtomSet> Table<S> {
         let mut replies = Vec::with_capacity(self.alloc, calls.len())?;
         for call in calls {
             let reply = self.call(call);
+            self.is_sound();
             replies.push_reserved(reply);
         }
         self.is_sound();
@@ -192,11 +205,11 @@ impl<S: StaticAtomSet> Table<S> {
 
     // ---- places
 
-    /// What every table keeps to.
+    /// Does nothing: its contract says what the invariant makes of every table's map, wherever a proof needs it.
     fn is_sound(&self)
         ensures { IsSoundMap S.tables (map_of self.now) }
     {
-        let _ = self.tickets.len(); // each ticket once
+        let _ = self.tickets.len(); // whose contract says that each ticket stands there once
     }
 
     /// Where the text stands. It isn't looked for where it is too short to be dynamic.
@@ -211,11 +224,23 @@ impl<S: StaticAtomSet> Table<S> {
         Some(at)
     }
 
+    /// The text of a word.
+    fn find_text(&self, word: u64) -> Option<&str>
+        ensures { MatchOption result ((text : List ℕ) → ¬ (IsTextOf S.tables (map_of self.now) word text)) (λ text. IsTextOf S.tables (map_of self.now) word text.now) }
+    {
+        self.is_sound();
+        match form_of(word)? {
+            Form::Inline(_) => None,
+            Form::Static(index) => static_text::<S>(index),
+            Form::Dynamic { .. } => self.ticket_text(word),
+        }
+    }
+
     /// Where the ticket stands.
     fn place_of(&self, ticket: u64) -> Option<usize>
         ensures { MatchOption result (¬ (IsHeldTicket (map_of self.now) ticket)) (λ at. IsPlace self.now ticket at) }
     {
-        let _ = self.entries.len();
+        let _ = self.entries.len(); // whose contract says that each text stands there once
         let (at, _) = self.tickets.get_full(&ticket)?;
         Some(at)
     }
@@ -240,12 +265,12 @@ impl<S: StaticAtomSet> Table<S> {
     }
 
     /// The bucket of a dynamic text with this hash, and the bucket's last serial.
-    fn bucket_of(&self, hash: u64) -> (u16, u64)
-        ensures buckets { (map_of self.now).buckets ≡ 4096 }
+    fn bucket_and_last(&self, hash: u64) -> (u16, u64)
+        ensures buckets { (map_of self.now).buckets ≡ most_buckets }
         ensures bucket { result.0 ≡ hash % (map_of self.now).buckets }
         ensures last { result.1 ≡ (map_of self.now).last result.0 }
     {
-        let bucket = (hash % 4096) as u16;
+        let bucket = bucket_of(hash);
         (bucket, self.lasts[bucket as usize])
     }
 
@@ -298,7 +323,7 @@ impl<S: StaticAtomSet> Table<S> {
         requires dynamic { fixed_word (form_of_text S.tables text.now) ≡ None }
         requires bucket { bucket ≡ bucket_in S.tables (map_of self.old) text.now }
         requires serial { serial ≡ (map_of self.old).last bucket + 1 }
-        requires range { serial < 2 ^ 50 }
+        requires range { serial < serial_bound }
         requires absent { (map_of self.old).held text.now ≡ None }
         ensures limits { self.new.limits ≡ self.old.limits }
         ensures word { IfOk result (λ word. word ≡ ticket_of serial bucket) }
@@ -308,7 +333,7 @@ impl<S: StaticAtomSet> Table<S> {
     {
         self.entries.reserve(1)?;
         self.tickets.reserve(1)?;
-        let _ = self.entries.len(); // below 2^63
+        let _ = self.entries.len(); // whose contract says that it is below 2^63
         let key = String::from_str(self.alloc, text)?;
         let ticket = ticket_word(serial, bucket);
         let Ok(_) = self.entries.insert(key, Held::new(ticket)) else {
@@ -337,6 +362,24 @@ impl<S: StaticAtomSet> Table<S> {
         self.bytes -= text.len() as u128;
     }
 
+    /// Interns a text.
+    fn intern_text(&mut self, text: &str) -> Result<u64, Fault>
+        ensures limits { self.new.limits ≡ self.old.limits }
+        ensures interns { Interns S.tables self.old.limits (map_of self.old) text.now result (map_of self.new) }
+        ensures fault { IfErr result IsInternFault }
+        ensures err { OnErr result (self.new ≡ self.old) }
+    {
+        self.is_sound(); // what is held is dynamic
+        if let Some(at) = self.find(text) {
+            return self.add_holder(at);
+        }
+        match form_of_text::<S>(text) {
+            TextForm::Inline(word) => Ok(word),
+            TextForm::Static(index) => Ok(static_word(index)),
+            TextForm::Dynamic(hash) => self.intern_new(text, hash),
+        }
+    }
+
     /// Interns a dynamic text with this hash, which isn't held.
     fn intern_new(&mut self, text: &str, hash: u64) -> Result<u64, Fault>
         requires dynamic { form_of_text S.tables text.now ≡ Dynamic hash }
@@ -346,7 +389,7 @@ impl<S: StaticAtomSet> Table<S> {
         ensures fault { IfErr result IsInternFault }
         ensures err { OnErr result (self.new ≡ self.old) }
     {
-        let (bucket, last) = self.bucket_of(hash);
+        let (bucket, last) = self.bucket_and_last(hash);
         if last >= self.limits.serials() {
             return Err(Fault::TicketsSpent);
         }

@@ -8,7 +8,8 @@ use crate::static_sets::{
     EmptyStaticAtomSet, PhfStrSet, StaticAtomSet, TextForm, form_of_text, static_text,
 };
 use crate::word::{
-    Form, Limits, form_of, pack_inline_word, static_word, ticket_word, unpack_inline,
+    Form, HOLDER_BOUND, InlineText, Limits, MOST_BUCKETS, SERIAL_BOUND, form_of, pack_inline_word,
+    static_word, ticket_word, unpack_inline,
 };
 use std::fmt::Write;
 use std::test::Fail;
@@ -35,7 +36,33 @@ fn inline_words(rt: HostRuntime) {
         );
     }
     assert_eq!(rt; pack_inline_word("abcdefgh"), None);
-    assert_eq!(rt; 0x6111u64.to_le_bytes(), [0x11, 0x61, 0, 0, 0, 0, 0, 0]);
+}
+
+#[test]
+fn inline_words_as_bytes(rt: HostRuntime) {
+    for (text, bytes) in [
+        ("a", [0x11, 0x61, 0, 0, 0, 0, 0, 0]),
+        ("é", [0x21, 0xc3, 0xa9, 0, 0, 0, 0, 0]),
+    ] {
+        let word = pack_inline_word(text).expect(&rt, "an inline word");
+        assert_eq!(rt; word.to_le_bytes(), bytes, "of {text:?}");
+    }
+}
+
+#[test]
+fn inline_texts(rt: HostRuntime) -> Result<(), Fail> {
+    for (text, printed) in [
+        ("", "InlineText(\"\")"),
+        ("foo", "InlineText(\"foo\")"),
+        ("\0", "InlineText(\"\\0\")"),
+    ] {
+        let inline = InlineText::new(text).ok_or("an inline text")?;
+        assert_eq!(rt; inline.as_str(), text);
+        assert_eq!(rt; Some(inline.word()), pack_inline_word(text));
+        assert_eq!(rt; format!(in rt.alloc(); "{inline:?}")?.as_str(), printed);
+    }
+    assert_eq!(rt; InlineText::new("abcdefgh"), None);
+    Ok(())
 }
 
 #[test]
@@ -59,15 +86,19 @@ fn words_of_nothing(rt: HostRuntime) {
 #[test]
 fn other_words(rt: HostRuntime) {
     let ticket = |serial, bucket| Some(Form::Dynamic { serial, bucket });
+    let last = MOST_BUCKETS as u16 - 1;
     assert_eq!(rt; form_of(2), Some(Form::Static(0)));
     assert_eq!(rt;
         form_of(0xffff_ffff_0000_0002),
         Some(Form::Static(u32::MAX))
     );
     assert_eq!(rt; form_of(0x4000), ticket(1, 0));
-    assert_eq!(rt; form_of(0x7ffc), ticket(1, 4095));
-    assert_eq!(rt; form_of(0xffff_ffff_ffff_fffc), ticket((1 << 50) - 1, 4095));
-    assert_eq!(rt; ticket_word((1 << 50) - 1, 4095), 0xffff_ffff_ffff_fffc);
+    assert_eq!(rt; form_of(0x7ffc), ticket(1, last));
+    assert_eq!(rt;
+        form_of(0xffff_ffff_ffff_fffc),
+        ticket(SERIAL_BOUND - 1, last)
+    );
+    assert_eq!(rt; ticket_word(SERIAL_BOUND - 1, last), 0xffff_ffff_ffff_fffc);
     assert_eq!(rt; ticket_word(1, 0), 0x4000);
     assert_eq!(rt; static_word(0), 2);
     assert_eq!(rt; static_word(3), 0x3_0000_0002);
@@ -75,13 +106,15 @@ fn other_words(rt: HostRuntime) {
 
 #[test]
 fn limits(rt: HostRuntime) {
-    for (holders, serials) in [(0, 1), (1, 0), (1 << 63, 1), (1, 1 << 50)] {
+    assert_eq!(rt; (HOLDER_BOUND, SERIAL_BOUND), (1 << 63, 1 << 50));
+    assert_eq!(rt; MOST_BUCKETS, 4096);
+    for (holders, serials) in [(0, 1), (1, 0), (HOLDER_BOUND, 1), (1, SERIAL_BOUND)] {
         assert_eq!(rt; Limits::new(holders, serials), None);
     }
     let least = Limits::new(1, 1).expect(&rt, "limits of one");
     assert_eq!(rt; (least.holders(), least.serials()), (1, 1));
     assert_eq!(rt;
-        Limits::new((1 << 63) - 1, (1 << 50) - 1),
+        Limits::new(HOLDER_BOUND - 1, SERIAL_BOUND - 1),
         Some(Limits::greatest())
     );
 }

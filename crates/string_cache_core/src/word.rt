@@ -1,18 +1,32 @@
 //! The word of an atom: an inline text, an index into static tables, or a ticket.
 #![tactic(auto)]
 
-ghost use Rattle.std.specs.Prelude.{◌≡◌, ℕ, ◌-◌, ◌^◌, ◌<◌, ◌≤◌, ◌↔◌, length, IsSome, IfSome};
+ghost use Rattle.std.specs.Prelude.{◌≡◌, ℕ, ◌-◌, ◌%◌, ◌<◌, ◌≤◌, ◌↔◌, length, IsSome, IfSome};
 ghost use Rattle.string_cache_core.specs.Bounds.{AreBounds};
 ghost use Rattle.string_cache_core.specs.Form.{IsFormOf};
+ghost use Rattle.string_cache_core.specs.Layout.{holder_bound, most_buckets, serial_bound};
 ghost use Rattle.string_cache_core.specs.Word.{IsInlineText, IsInlineWord, inline_word, ticket_of, static_word, IsTicket};
 
+use std::fmt::{self, Debug, Formatter, Write};
 use std::marker::Model;
 use std::str;
 
+/// The most buckets that tickets tell apart.
+pub const MOST_BUCKETS: usize = 4096;
+/// Serials are below: a ticket has 64 bits.
+pub const SERIAL_BOUND: u64 = 1 << 50;
+/// Numbers of holders are below.
+pub const HOLDER_BOUND: u64 = 1 << 63;
+
+const BUCKET_SHIFT: u32 = 2; // above the tag
+
+const SERIAL_SHIFT: u32 = 14; // above the bucket
+
 /// A text of at most 7 bytes, as an inline word holds it.
-#[derive(Clone, Copy, Debug, PartialEq, Eq)]
+#[derive(Clone, Copy, PartialEq, Eq)]
 pub struct InlineText {
-    bytes: [u8; 7],
+    align: [u64; 0], // as a word, so that it is copied as one
+    bytes: [u8; 7], // zeros behind the text
     len: u8,
 }
 
@@ -31,6 +45,33 @@ impl Model for InlineText {
 }
 
 impl InlineText {
+    /// A text of at most 7 bytes. `None` above.
+    pub fn new(text: &str) -> Option<InlineText>
+        ensures short { IsSome result ↔ (length text.now ≤ 7) }
+        ensures text { IfSome result (λ inline. inline ≡ text.now) }
+    {
+        let text = text.as_bytes();
+        let len = text.len();
+        if len > 7 {
+            return None;
+        }
+        let mut bytes = [0u8; 7];
+        bytes[..len].copy_from_slice(text);
+        Some(InlineText {
+            align: [],
+            bytes,
+            len: len as u8,
+        })
+    }
+
+    /// Its inline word.
+    pub fn word(&self) -> u64
+        ensures { result ≡ inline_word self.now }
+    {
+        let [b0, b1, b2, b3, b4, b5, b6] = self.bytes;
+        u64::from_le_bytes([1 + 16 * self.len, b0, b1, b2, b3, b4, b5, b6])
+    }
+
     /// The text.
     pub fn as_str(&self) -> &str
         ensures text { result.now ≡ self.now }
@@ -38,6 +79,13 @@ impl InlineText {
     {
         // SAFETY: by the type's invariant these bytes are UTF-8, which the proof shows.
         unsafe { str::from_utf8_unchecked(&self.bytes[..self.len as usize]) }
+    }
+}
+
+/// `InlineText`, and the text in quotes.
+impl Debug for InlineText {
+    fn fmt<W: Write>(&self, f: &mut Formatter<W>) -> fmt::Result {
+        f.debug_tuple("InlineText").field(&self.as_str()).finish()
     }
 }
 
@@ -50,9 +98,9 @@ pub enum Form {
     Static(u32),
     /// The ticket that a bucket gave with a serial.
     Dynamic {
-        /// From 1 to 2^50 - 1.
+        /// From 1 to `SERIAL_BOUND` - 1.
         serial: u64,
-        /// Below 4096.
+        /// Below `MOST_BUCKETS`.
         bucket: u16,
     },
 }
@@ -62,15 +110,8 @@ pub fn pack_inline_word(text: &str) -> Option<u64>
     ensures short { IsSome result ↔ (length text.now ≤ 7) }
     ensures word { IfSome result (λ word. word ≡ inline_word text.now) }
 {
-    let bytes = text.as_bytes();
-    let len = bytes.len();
-    if len > 7 {
-        return None;
-    }
-    let mut padded = [0u8; 8];
-    padded[0] = 1 + 16 * len as u8;
-    padded[1..1 + len].copy_from_slice(bytes);
-    Some(u64::from_le_bytes(padded))
+    let inline = InlineText::new(text)?;
+    Some(inline.word())
 }
 
 /// The text of an inline word. `None` for any other word.
@@ -89,7 +130,11 @@ pub fn unpack_inline(word: u64) -> Option<InlineText>
         return None;
     }
     match str::from_utf8(text) {
-        Ok(_) => Some(InlineText { bytes, len }),
+        Ok(_) => Some(InlineText {
+            align: [],
+            bytes,
+            len,
+        }),
         Err(_) => None,
     }
 }
@@ -101,12 +146,20 @@ pub fn static_word(index: u32) -> u64
     u64::from(index) << 32 | 2
 }
 
+/// The bucket of a dynamic text with this hash: its low bits.
+pub fn bucket_of(hash: u64) -> u16
+    ensures bucket { result ≡ hash % most_buckets }
+    ensures range { result < most_buckets }
+{
+    (hash % MOST_BUCKETS as u64) as u16
+}
+
 /// The word of an entry, of the serial that its bucket gave it and the bucket.
 pub fn ticket_word(serial: u64, bucket: u16) -> u64
     requires { IsTicket serial bucket }
     ensures { result ≡ ticket_of serial bucket }
 {
-    serial << 14 | u64::from(bucket) << 2
+    serial << SERIAL_SHIFT | u64::from(bucket) << BUCKET_SHIFT
 }
 
 /// What a word tells of itself. `None` where it is the word of nothing.
@@ -118,13 +171,13 @@ pub fn form_of(word: u64) -> Option<Form>
     if let Some(text) = unpack_inline(word) {
         return Some(Form::Inline(text));
     }
-    let serial = word >> 14;
+    let serial = word >> SERIAL_SHIFT;
     if word & 0xffff_ffff == 2 {
         Some(Form::Static((word >> 32) as u32))
     } else if word & 3 == 0 && serial > 0 {
         Some(Form::Dynamic {
             serial,
-            bucket: (word >> 2 & 0xfff) as u16,
+            bucket: ((word >> BUCKET_SHIFT) % MOST_BUCKETS as u64) as u16,
         })
     } else {
         None
@@ -151,12 +204,12 @@ impl Model for Limits {
 }
 
 impl Limits {
-    /// Limits of 1 to 2^63 - 1 holders and 1 to 2^50 - 1 serials. `None` outside these ranges.
+    /// Limits of 1 to `HOLDER_BOUND` - 1 holders and 1 to `SERIAL_BOUND` - 1 serials. `None` outside these ranges.
     pub fn new(holders: u64, serials: u64) -> Option<Limits>
         ensures range { IsSome result ↔ AreBounds holders serials }
         ensures limits { IfSome result (λ l. l ≡ record { holders = holders; serials = serials }) }
     {
-        if holders == 0 || holders >= 1 << 63 || serials == 0 || serials >= 1 << 50 {
+        if holders == 0 || holders >= HOLDER_BOUND || serials == 0 || serials >= SERIAL_BOUND {
             return None;
         }
         Some(Limits { holders, serials })
@@ -164,18 +217,18 @@ impl Limits {
 
     /// Both limits at their greatest.
     pub fn greatest() -> Limits
-        ensures { result ≡ record { holders = 2 ^ 63 - 1; serials = 2 ^ 50 - 1 } }
+        ensures { result ≡ record { holders = holder_bound - 1; serials = serial_bound - 1 } }
     {
         Limits {
-            holders: (1 << 63) - 1,
-            serials: (1 << 50) - 1,
+            holders: HOLDER_BOUND - 1,
+            serials: SERIAL_BOUND - 1,
         }
     }
 
     /// The most holders of an entry.
     pub fn holders(&self) -> u64
         ensures value { result ≡ self.now.holders }
-        ensures range { (1 ≤ result) × (result < 2 ^ 63) }
+        ensures range { (1 ≤ result) × (result < holder_bound) }
     {
         self.holders
     }
@@ -183,7 +236,7 @@ impl Limits {
     /// The greatest serial of a bucket.
     pub fn serials(&self) -> u64
         ensures value { result ≡ self.now.serials }
-        ensures range { (1 ≤ result) × (result < 2 ^ 50) }
+        ensures range { (1 ≤ result) × (result < serial_bound) }
     {
         self.serials
     }

@@ -28,7 +28,7 @@ fn has_plain_front(bytes: &[u8]) -> bool
 }
 
 /// The number that a text spells: decimal, without sign or leading zero, and below 2^64.
-fn number_of(text: &str) -> Option<u64>
+pub fn number_of(text: &str) -> Option<u64>
     ensures { MatchOption result ((n : ℕ) → n < 2 ^ 64 → text.now ≢ decimal n)
         (λ n. text.now ≡ decimal n) }
 {

@@ -3,11 +3,22 @@
 
 ghost use Rattle.std.specs.Prelude.{◌≡◌, ◌++◌, ◌<◌, ◌≤◌, ◌^◌, length, string_bytes, OnOk};
 ghost use Rattle.std.specs.List.{flat_map};
-ghost use Rattle.atoms.specs.Replay.{reply_line, held_line, held_lines_from};
+ghost use Rattle.atoms.specs.Replay.{serial_in, reply_line, held_line, held_lines_from};
 
 use std::alloc::AllocError;
 use string_cache::EmptyStaticAtomSet;
 use string_cache::steps::{StepReply, World};
+use string_cache::word::{Form, form_of};
+
+/// The serial of a ticket, and 0 of any other word.
+fn serial_of(word: u64) -> u64
+    ensures { result ≡ serial_in word }
+{
+    match form_of(word) {
+        Some(Form::Dynamic { serial, .. }) => serial,
+        _ => 0,
+    }
+}
 
 /// Appends the line of a reply.
 fn append_reply(out: &mut String, reply: StepReply) -> Result<(), AllocError>
@@ -20,7 +31,7 @@ fn append_reply(out: &mut String, reply: StepReply) -> Result<(), AllocError>
         StepReply::Dying => out.push_str("dying\n"),
         StepReply::Full => out.push_str("full\n"),
         StepReply::Linked { entry, ticket } => {
-            let serial = ticket >> 14;
+            let serial = serial_of(ticket);
             writeln!(out, "linked e{entry} serial {serial}")
         }
         StepReply::Spent => out.push_str("spent\n"),

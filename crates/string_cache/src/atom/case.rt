@@ -115,11 +115,11 @@ impl<'s, Static: StaticAtomSet> Atom<'s, Static> {
         let len = text.len();
         if len > BUFFER {
             let changed = case.of_text(set.allocator(), text)?;
-            return Self::from_string_in(set, rt, changed);
+            return Self::from_string_in(rt, set, changed);
         }
         let mut buffer = [0u8; BUFFER];
         case.write(text, &mut buffer[..len]);
         // SAFETY: what was written there is UTF-8, as `write` says.
-        Self::from_str_in(set, rt, unsafe { str::from_utf8_unchecked(&buffer[..len]) })
+        Self::from_str_in(rt, set, unsafe { str::from_utf8_unchecked(&buffer[..len]) })
     }
 }

@@ -30,20 +30,20 @@ fn hash_numbers(rt: HostRuntime) -> Result<(), Fail> {
         ("sentence", 0x1122_3344_5566_7788),
         ("interned", 0x556a_6dba_06a4_7210),
     ] {
-        let atom = Atom::from_str_in(&set, &rt, text)?;
+        let atom = Atom::from_str_in(&rt, &set, text)?;
         assert!(rt; atom.get_hash() == number, "of {text:?}");
     }
     let set: Set<Twice> = Set::new(rt.alloc())?;
     // It stands at its place 0, with the first of the two hashes.
-    let atom = Atom::from_str_in(&set, &rt, "sentence")?;
+    let atom = Atom::from_str_in(&rt, &set, "sentence")?;
     assert!(rt; atom.unsafe_data() == 2 && atom.get_hash() == 1);
     Ok(())
 }
 
 /// The order of the atoms of two texts, of which "sentence" is static.
-fn order<R: Wait>(set: &Set<One>, rt: &R, left: &str, right: &str) -> Result<Ordering, Fault> {
-    let left = Atom::from_str_in(set, rt, left)?;
-    Ok(left.cmp(&Atom::from_str_in(set, rt, right)?))
+fn order<R: Wait>(rt: &R, set: &Set<One>, left: &str, right: &str) -> Result<Ordering, Fault> {
+    let left = Atom::from_str_in(rt, set, left)?;
+    Ok(left.cmp(&Atom::from_str_in(rt, set, right)?))
 }
 
 #[test]
@@ -58,7 +58,7 @@ fn orders(rt: HostRuntime) -> Result<(), Fail> {
         ("interned", "inter", Ordering::Greater),
         ("interned", "interned", Ordering::Equal),
     ] {
-        let found = order(&set, &rt, left, right)?;
+        let found = order(&rt, &set, left, right)?;
         assert!(rt; found == wanted, "of {left:?} and {right:?}");
     }
     Ok(())
@@ -66,14 +66,14 @@ fn orders(rt: HostRuntime) -> Result<(), Fail> {
 
 /// Whether atoms of two texts are equal: as they are, and without case.
 fn equalities<R: Wait>(
-    set: &Set<EmptyStaticAtomSet>,
     rt: &R,
+    set: &Set<EmptyStaticAtomSet>,
     left: &str,
     right: &str,
 ) -> Result<(bool, bool), Fault> {
     let (left, right) = (
-        Atom::from_str_in(set, rt, left)?,
-        Atom::from_str_in(set, rt, right)?,
+        Atom::from_str_in(rt, set, left)?,
+        Atom::from_str_in(rt, set, right)?,
     );
     Ok((left == right, left.eq_ignore_ascii_case(&right)))
 }
@@ -88,10 +88,10 @@ fn without_case(rt: HostRuntime) -> Result<(), Fail> {
         ("[", "{", false, false),
         ("foo", "foo", true, true),
     ] {
-        let found = equalities(&set, &rt, left, right)?;
+        let found = equalities(&rt, &set, left, right)?;
         assert!(rt; found == (equal, without_case), "of {left:?} and {right:?}");
     }
-    let atom = Atom::from_str_in(&set, &rt, "Foo")?;
+    let atom = Atom::from_str_in(&rt, &set, "Foo")?;
     assert!(rt; atom.eq_str("Foo") && !atom.eq_str("foo"));
     assert!(rt; atom.eq_str_ignore_ascii_case("fOO") && !atom.eq_str_ignore_ascii_case("fo"));
     Ok(())
@@ -101,7 +101,7 @@ fn without_case(rt: HostRuntime) -> Result<(), Fail> {
 fn clones(rt: HostRuntime) -> Result<(), Fail> {
     let set: Set<One> = Set::new(rt.alloc())?;
     for text in ["foo", "sentence", "interned"] {
-        let atom = Atom::from_str_in(&set, &rt, text)?;
+        let atom = Atom::from_str_in(&rt, &set, text)?;
         for clone in [atom.clone_atom(&rt)?, Atom::from_atom(&rt, &atom)?] {
             assert!(rt; clone.unsafe_data() == atom.unsafe_data());
             assert!(rt; clone.as_str() == text);
@@ -113,13 +113,13 @@ fn clones(rt: HostRuntime) -> Result<(), Fail> {
 #[test]
 fn owned_texts(rt: HostRuntime) -> Result<(), Fail> {
     let set: Set<EmptyStaticAtomSet> = Set::new(rt.alloc())?;
-    let atom = Atom::from_str_in(&set, &rt, "interned")?;
+    let atom = Atom::from_str_in(&rt, &set, "interned")?;
     for other in [
-        Atom::from_string_in(&set, &rt, String::from_str(rt.alloc(), "interned")?)?,
-        Atom::from_cow_in(&set, &rt, CowStr::Borrowed("interned"))?,
+        Atom::from_string_in(&rt, &set, String::from_str(rt.alloc(), "interned")?)?,
+        Atom::from_cow_in(&rt, &set, CowStr::Borrowed("interned"))?,
         Atom::from_cow_in(
-            &set,
             &rt,
+            &set,
             CowStr::Owned(String::from_str(rt.alloc(), "interned")?),
         )?,
     ] {
@@ -139,13 +139,13 @@ fn cases(rt: HostRuntime) -> Result<(), Fail> {
         ("@[`{09", "@[`{09", "@[`{09"),
         ("azAZ", "AZAZ", "azaz"),
     ] {
-        let atom = Atom::from_str_in(&set, &rt, text)?;
+        let atom = Atom::from_str_in(&rt, &set, text)?;
         assert!(rt; atom.to_ascii_uppercase_in(&rt, &set)?.as_str() == upper);
         assert!(rt; atom.to_ascii_lowercase_in(&rt, &set)?.as_str() == lower);
     }
     for letters in [64, 65] {
         let text = "a".repeat(rt.alloc(), letters)?;
-        let atom = Atom::from_str_in(&set, &rt, text.as_str())?;
+        let atom = Atom::from_str_in(&rt, &set, text.as_str())?;
         let upper = atom.to_ascii_uppercase_in(&rt, &set)?;
         assert!(rt; upper.eq_str("A".repeat(rt.alloc(), letters)?.as_str()));
     }
@@ -155,7 +155,7 @@ fn cases(rt: HostRuntime) -> Result<(), Fail> {
 #[test]
 fn cases_of_a_static_text(rt: HostRuntime) -> Result<(), Fail> {
     let set: Set<One> = Set::new(rt.alloc())?;
-    let upper = Atom::from_str_in(&set, &rt, "sentence")?.to_ascii_uppercase_in(&rt, &set)?;
+    let upper = Atom::from_str_in(&rt, &set, "sentence")?.to_ascii_uppercase_in(&rt, &set)?;
     assert!(rt; upper.as_str() == "SENTENCE" && upper.is_dynamic());
     let lower = upper.to_ascii_lowercase_in(&rt, &set)?;
     assert!(rt; lower.is_static() && lower.unsafe_data() == 2);
@@ -168,14 +168,14 @@ fn keys_of_maps(rt: HostRuntime) -> Result<(), Fail> {
     let mut counts: HashMap<Atom<'_, One>, u64> = HashMap::new(rt.alloc());
     let mut sorted: BTreeMap<Atom<'_, One>, u64> = BTreeMap::new(rt.alloc());
     for word in "interned sentence a interned b a interned".split_whitespace() {
-        let atom = Atom::from_str_in(&set, &rt, word)?;
+        let atom = Atom::from_str_in(&rt, &set, word)?;
         let count = counts.entry(atom.clone_atom(&rt)?)?.or_insert(0);
         *count = count.saturating_add(1);
         let count = sorted.entry(atom)?.or_insert(0);
         *count = count.saturating_add(1);
     }
     for (word, count) in [("interned", 3), ("sentence", 1), ("a", 2), ("b", 1)] {
-        let atom = Atom::from_str_in(&set, &rt, word)?;
+        let atom = Atom::from_str_in(&rt, &set, word)?;
         assert!(rt; counts.get(&atom) == Some(&count), "of {word:?}");
     }
     assert!(rt; counts.len() == 4);
@@ -193,22 +193,22 @@ fn keys_of_maps(rt: HostRuntime) -> Result<(), Fail> {
 fn calls_without_memory(rt: HostRuntime) -> Result<(), Fail> {
     let alloc = rt.alloc();
     let set: Set<One> = at_last(|| Set::new(alloc))?;
-    let upper = at_last(|| Atom::from_str_in(&set, &rt, "SENTENCE"))?;
+    let upper = at_last(|| Atom::from_str_in(&rt, &set, "SENTENCE"))?;
     assert!(rt; upper.to_ascii_lowercase_in(&rt, &set)?.unsafe_data() == 2);
     assert!(rt; upper.to_ascii_uppercase_in(&rt, &set)?.is_dynamic());
-    assert!(rt; Atom::from_str_in(&set, &rt, "sentence")?.is_static());
-    assert!(rt; Atom::from_str_in(&set, &rt, "abcdefg")?.is_inline());
+    assert!(rt; Atom::from_str_in(&rt, &set, "sentence")?.is_static());
+    assert!(rt; Atom::from_str_in(&rt, &set, "abcdefg")?.is_inline());
     Ok(())
 }
 
 /// The atom of 65 letters, in upper case.
 fn upper_of_letters<'s, R: Wait>(
-    set: &'s Set<EmptyStaticAtomSet>,
     rt: &R,
     alloc: Global,
+    set: &'s Set<EmptyStaticAtomSet>,
 ) -> Result<DefaultAtom<'s>, Fault> {
     let letters = "a".repeat(alloc, 65)?;
-    Atom::from_string_in(set, rt, letters)?.to_ascii_uppercase_in(rt, set)
+    Atom::from_string_in(rt, set, letters)?.to_ascii_uppercase_in(rt, set)
 }
 
 /// Passes also where any one request for memory is refused: a call that is made again gives what it gives the first time.
@@ -218,15 +218,15 @@ fn refused_calls_made_again(rt: HostRuntime) -> Result<(), Fail> {
     let set: Set<EmptyStaticAtomSet> = at_last(|| Set::new(alloc))?;
     let owned = at_last(|| {
         let text = String::from_str(alloc, "interned")?;
-        Atom::from_string_in(&set, &rt, text)
+        Atom::from_string_in(&rt, &set, text)
     })?;
     assert!(rt; owned.unsafe_data() == ticket_word(1, 0x210));
     let cow = at_last(|| {
         let text = CowStr::Owned(String::from_str(alloc, "tokenised")?);
-        Atom::from_cow_in(&set, &rt, text)
+        Atom::from_cow_in(&rt, &set, text)
     })?;
     assert!(rt; cow.unsafe_data() == ticket_word(1, 0xe77));
-    let upper = at_last(|| upper_of_letters(&set, &rt, alloc))?;
+    let upper = at_last(|| upper_of_letters(&rt, alloc, &set))?;
     assert!(rt; upper.as_bytes().len() == 65 && upper.as_bytes().iter().all(|&byte| byte == b'A'));
     assert!(rt;
         matches!(
@@ -234,5 +234,23 @@ fn refused_calls_made_again(rt: HostRuntime) -> Result<(), Fail> {
             Some(Form::Dynamic { serial: 1, .. })
         )
     );
+    Ok(())
+}
+
+/// A text of 200,000 bytes, interned, put into another case, and there and back as JSON.
+#[test]
+fn long_text(rt: HostRuntime) -> Result<(), Fail> {
+    let alloc = rt.alloc();
+    let set: Set<EmptyStaticAtomSet> = Set::new(alloc)?;
+    let text = "a".repeat(alloc, 200_000)?;
+    let atom = Atom::from_str_in(&rt, &set, text.as_str())?;
+    let again = Atom::from_json_in(&rt, &set, &atom.to_json(alloc)?)?;
+    let upper = atom.to_ascii_uppercase_in(&rt, &set)?;
+    let owned = Atom::from_string_in(&rt, &set, text)?;
+    assert!(rt; atom.as_bytes().len() == 200_000 && upper.as_bytes().len() == 200_000);
+    assert!(rt;
+        again.unsafe_data() == atom.unsafe_data() && owned.unsafe_data() == atom.unsafe_data()
+    );
+    assert!(rt; upper != atom && upper.eq_ignore_ascii_case(&atom));
     Ok(())
 }

@@ -1,14 +1,14 @@
 // A bucket: what one lock holds.
 ghost use Rattle.std.specs.Prelude.{◌≡◌, ◌<◌, [], length, IfOk, IfErr, Some, None};
 ghost use Rattle.std.specs.List.{AllByRecursion};
-ghost use Rattle.string_cache_core.specs.Tables.{form_of_text};
-ghost use Rattle.string_cache_core.specs.declared.static_sets.TextForm.TheVariants.{Dynamic};
+ghost use Rattle.string_cache_core.specs.Layout.{most_buckets};
+ghost use Rattle.string_cache_core.specs.Tables.{entry_hash};
 ghost use Rattle.string_cache_core.specs.Faults.{IsInternFault};
 ghost use Rattle.string_cache.specs.Chain.{IsRight};
 ghost use Rattle.string_cache.specs.Counted.{GivesShares, IsPass};
 ghost use Rattle.string_cache.specs.Link.{IsLink, IsIntern};
 ghost use Rattle.string_cache.specs.PassLeft.{IsPassLeft};
-ghost use Rattle.string_cache.specs.Walked.{passed_by};
+ghost use Rattle.node_chain.specs.Walked.{passed_by};
 
 use super::counts::{CountReply, Counts, OwnCounts, Pass};
 use super::entries::Entries;
@@ -18,14 +18,11 @@ use std::marker::{Model, PhantomData};
 use std::sync::Wait;
 use string_cache_core::Fault;
 use string_cache_core::static_sets::StaticAtomSet;
-use string_cache_core::word::{Limits, ticket_word};
-
-/// How many buckets a set has.
-pub(crate) const BUCKETS: u64 = 4096;
+use string_cache_core::word::{Limits, bucket_of, ticket_word};
 
 /// What one lock of a set holds: entries, newest first, and the serial that it gave last.
 ///
-/// Each entry's text is dynamic, its hash is that of the text, its ticket is that of its serial in the bucket of the
+/// Each entry's hash is that of its text, its ticket is that of its serial in the bucket of the
 /// hash, and no serial is given twice. Which lock a bucket stands under isn't known here.
 #[derive(Drop)]
 pub struct Bucket<Static: StaticAtomSet> {
@@ -38,13 +35,13 @@ pub struct Bucket<Static: StaticAtomSet> {
 impl<Static: StaticAtomSet> Model for Bucket<Static> {
     ghost use Rattle.std.specs.Prelude.{◌≡◌, []};
     ghost use Rattle.string_cache.specs.Chain.{Chain, IsKept};
-    ghost use Rattle.string_cache.specs.declared.dynamic_set.bucket.TheConstants.{BUCKETS};
+    ghost use Rattle.string_cache_core.specs.Layout.{most_buckets};
 
     ghost Value = { Chain };
 
     ghost view = { λ b. record { entries = b.entries.left; last = b.last } };
 
-    ghost invariant = { λ b. (b.entries.passed ≡ []) × IsKept Static.tables BUCKETS (record { entries = b.entries.left; last = b.last }) };
+    ghost invariant = { λ b. (b.entries.passed ≡ []) × IsKept Static.tables most_buckets (record { entries = b.entries.left; last = b.last }) };
 }
 
 impl<Static: StaticAtomSet> Bucket<Static> {
@@ -69,7 +66,7 @@ impl<Static: StaticAtomSet> Bucket<Static> {
 
     /// One pass over all entries, which looks for the text: asks `counts` about each in order, and unlinks those that it
     /// answers as dying. Entries of the text are asked by `add` until one was added or is full, and all others by `dying`.
-    /// `hash` is that of the text, as `form_of_text` tells it.
+    /// `hash` is that of the text: its `entry_hash` under the key of the tables.
     ///
     /// It takes no memory. What stays linked stays in order.
     pub fn pass<R: Wait, C: Counts>(
@@ -79,7 +76,7 @@ impl<Static: StaticAtomSet> Bucket<Static> {
         hash: u64,
         counts: &mut C,
     ) -> Pass<C::Share>
-        requires { form_of_text Static.tables text.now ≡ Dynamic hash }
+        requires { hash ≡ entry_hash Static.tables text.now }
         ensures pass { IsPass C.adds C.dies (Some text.now) counts.old self.old.entries result counts.new self.new.entries }
         ensures last { self.new.last ≡ self.old.last }
     {
@@ -97,30 +94,35 @@ impl<Static: StaticAtomSet> Bucket<Static> {
         self.entries.rewind();
     }
 
-    /// Links one new entry as the first, with the next serial, and gives its only share. `hash` is that of the text, as
-    /// `form_of_text` tells it. The entry keeps the limit of holders.
+    /// Links one new entry as the first, with the next serial, and gives its only share. `hash` is that of the text,
+    /// as for `pass`. The entry keeps the limit of holders.
     ///
     /// `TicketsSpent` comes exactly where the last serial isn't below the limit, and otherwise `Memory` alone. A refusal
     /// leaves the bucket as it was.
     pub fn link(&mut self, text: &str, hash: u64, limits: &Limits) -> Result<Share, Fault>
-        requires { form_of_text Static.tables text.now ≡ Dynamic hash }
-        ensures link { IsLink BUCKETS limits.now.serials text.now hash self.old result self.new }
-        ensures right { IfOk result (λ s. IsRight Static.tables BUCKETS s) }
+        requires { hash ≡ entry_hash Static.tables text.now }
+        ensures link { IsLink most_buckets limits.now.serials text.now hash self.old result self.new }
+        ensures right { IfOk result (λ s. IsRight Static.tables most_buckets s) }
     {
         let greatest = limits.serials();
         if self.last >= greatest {
             return Err(Fault::TicketsSpent);
         }
         let serial = self.last + 1;
-        let ticket = ticket_word(serial, (hash % BUCKETS) as u16);
+        let ticket = ticket_word(serial, bucket_of(hash));
         let (entry, share) = Entry::new(self.alloc, ticket, text, hash, limits.holders())?;
-        self.entries.add_head(entry)?;
+        if let Err(refused) = self.entries.add_head(entry) {
+            // The share goes first, so that the entry ends without any.
+            drop(share);
+            drop(refused);
+            return Err(Fault::Memory);
+        }
         self.last = serial;
         Ok(share)
     }
 
-    /// A pass for the text, which goes on to `link` where it is absent. `hash` is that of the text, as `form_of_text` tells
-    /// it.
+    /// A pass for the text, which goes on to `link` where it is absent. `hash` is that of the text, as for
+    /// `pass`.
     ///
     /// It gives the share that the pass found, and `FullCount` where the pass found the entry full. Other refusals are those
     /// of `link`. Where the counts give shares of the entries that they are asked about, the share is of the text.
@@ -133,11 +135,11 @@ impl<Static: StaticAtomSet> Bucket<Static> {
         limits: &Limits,
         counts: &mut C,
     ) -> Result<Share, Fault>
-        requires { form_of_text Static.tables text.now ≡ Dynamic hash }
-        ensures intern { IsIntern C.adds C.dies BUCKETS limits.now.serials text.now hash counts.old self.old result counts.new self.new }
-        ensures share { GivesShares C.adds → IfOk result (λ s. (s.text ≡ text.now) × IsRight Static.tables BUCKETS s) }
+        requires { hash ≡ entry_hash Static.tables text.now }
+        ensures intern { IsIntern C.adds C.dies most_buckets limits.now.serials text.now hash counts.old self.old result counts.new self.new }
+        ensures share { GivesShares C.adds → IfOk result (λ s. (s.text ≡ text.now) × IsRight Static.tables most_buckets s) }
     {
-        let _ = &self.entries;
+        let _ = &self.entries; // so that the proof sees what the bucket keeps
         match self.pass(rt, text, hash, counts) {
             Pass::Found(share) => Ok(share),
             Pass::Full => Err(Fault::FullCount),
@@ -153,9 +155,9 @@ impl<Static: StaticAtomSet> Bucket<Static> {
         hash: u64,
         limits: &Limits,
     ) -> Result<Share, Fault>
-        requires { form_of_text Static.tables text.now ≡ Dynamic hash }
+        requires { hash ≡ entry_hash Static.tables text.now }
         ensures text { IfOk result (λ s. s.text ≡ text.now) }
-        ensures right { IfOk result (λ s. IsRight Static.tables BUCKETS s) }
+        ensures right { IfOk result (λ s. IsRight Static.tables most_buckets s) }
         ensures refused { IfErr result IsInternFault }
     {
         self.intern(rt, text, hash, limits, &mut OwnCounts)

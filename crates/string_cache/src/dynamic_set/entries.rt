@@ -1,26 +1,24 @@
 // The entries of a bucket, with a place in them. Only this file knows how they are kept.
-ghost use Rattle.std.specs.Prelude.{◌≡◌, ◌<◌, ◌∷◌, ◌++◌, [], length, IfOk, OnErr};
-ghost use Rattle.string_cache.specs.Walked.{IsNext, at_start, passed_by, taken_out};
+ghost use Rattle.std.specs.Prelude.{◌≡◌, ◌<◌, ◌∷◌, ◌++◌, [], length, IfOk, IfErr};
+ghost use Rattle.node_chain.specs.Walked.{IsNext, at_start, passed_by, taken_out};
 
 use super::share::Entry;
-use std::alloc::{AllocError, Global};
+use node_chain::NodeChain;
+use std::alloc::{AllocFailed, Global};
 use std::marker::Model;
 
 #[derive(Drop)]
 pub(super) struct Entries {
-    items: Vec<Entry>,
-    at: usize,
+    chain: NodeChain<Entry>,
 }
 
 impl Model for Entries {
-    ghost use Rattle.std.specs.Prelude.{take, drop, ◌≤◌, vec_len};
-    ghost use Rattle.string_cache.specs.Walked.{Walked};
+    ghost use Rattle.string_cache.specs.Chain.{Linked};
+    ghost use Rattle.node_chain.specs.Walked.{Walked};
 
-    ghost Value = { Walked };
+    ghost Value = { Walked Linked };
 
-    ghost view = { λ e. record { passed = take e.at e.items.items; left = drop e.at e.items.items } };
-
-    ghost invariant = { λ e. e.at ≤ vec_len e.items };
+    ghost view = { λ e. record { passed = e.chain.passed; left = e.chain.left } };
 }
 
 impl Entries {
@@ -28,8 +26,7 @@ impl Entries {
         ensures { result ≡ at_start [] }
     {
         Entries {
-            items: Vec::new(alloc),
-            at: 0,
+            chain: NodeChain::new(alloc),
         }
     }
 
@@ -37,18 +34,14 @@ impl Entries {
     pub(super) fn len(&self) -> usize
         ensures { result ≡ length self.now.left }
     {
-        self.items.len() - self.at
+        self.chain.remaining()
     }
 
     /// The next entry.
     pub(super) fn look(&self) -> Option<&Entry>
         ensures { IsNext self.now.left result }
     {
-        if self.at < self.items.len() {
-            Some(&self.items[self.at])
-        } else {
-            None
-        }
+        self.chain.look()
     }
 
     /// Passes the next entry by.
@@ -56,7 +49,7 @@ impl Entries {
         requires { 0 < length self.old.left }
         ensures { self.new ≡ passed_by self.old self.old.left }
     {
-        self.at += 1;
+        self.chain.keep();
     }
 
     /// Takes the next entry out, and frees it.
@@ -64,25 +57,22 @@ impl Entries {
         requires { 0 < length self.old.left }
         ensures { self.new ≡ taken_out self.old self.old.left }
     {
-        drop(self.items.remove(self.at));
+        drop(self.chain.take_out());
     }
 
     /// Goes back to the first entry.
     pub(super) fn rewind(&mut self)
         ensures { self.new ≡ at_start (self.old.passed ++ self.old.left) }
     {
-        self.at = 0;
+        self.chain.rewind();
     }
 
-    /// Adds an entry as the first one. A refusal changes nothing.
-    pub(super) fn add_head(&mut self, entry: Entry) -> Result<(), AllocError>
+    /// Adds an entry as the first one. A refusal changes nothing, and gives the entry back.
+    pub(super) fn add_head(&mut self, entry: Entry) -> Result<(), AllocFailed<Entry>>
         requires { self.old.passed ≡ [] }
         ensures added { IfOk result (λ _. self.new ≡ at_start (entry ∷ self.old.left)) }
-        ensures refused { OnErr result (self.new ≡ self.old) }
+        ensures refused { IfErr result (λ e. (e.value ≡ entry) × (self.new ≡ self.old)) }
     {
-        match self.items.insert(self.at, entry) {
-            Ok(()) => Ok(()),
-            Err(_) => Err(AllocError),
-        }
+        self.chain.add_head(entry)
     }
 }

@@ -19,13 +19,13 @@ pub struct Held<'s, Static: StaticAtomSet> {
 
 impl<'s, Static: StaticAtomSet> Model for Held<'s, Static> {
     ghost use Rattle.string_cache.specs.Chain.{IsRight, Linked};
-    ghost use Rattle.string_cache.specs.declared.dynamic_set.bucket.TheConstants.{BUCKETS};
+    ghost use Rattle.string_cache_core.specs.Layout.{most_buckets};
 
     ghost Value = { Linked };
 
     ghost view = { λ h. h.share };
 
-    ghost invariant = { λ h. IsRight Static.tables BUCKETS h.share };
+    ghost invariant = { λ h. IsRight Static.tables most_buckets h.share };
 }
 
 impl<'s, Static: StaticAtomSet> Drop for Held<'s, Static> {
@@ -37,10 +37,10 @@ impl<'s, Static: StaticAtomSet> Drop for Held<'s, Static> {
 
 impl<'s, Static: StaticAtomSet> Held<'s, Static> {
     ghost use Rattle.string_cache.specs.Chain.{IsRight};
-    ghost use Rattle.string_cache.specs.declared.dynamic_set.bucket.TheConstants.{BUCKETS};
+    ghost use Rattle.string_cache_core.specs.Layout.{most_buckets};
 
     pub(super) fn new(share: Share, set: &'s Set<Static>) -> Held<'s, Static>
-        requires { IsRight Static.tables BUCKETS share }
+        requires { IsRight Static.tables most_buckets share }
         ensures { result ≡ share }
     {
         Held { share, set }

@@ -1,12 +1,17 @@
-// Passes with counts that are made up, holders up to their limit, locks that are held, and threads at work on one set.
+// One bucket: passes with counts that are made up, its shares, and its serials.
+mod holders;
+mod links;
+mod locks;
+mod threads;
+
 use super::counts::OwnCounts;
-use super::{Bucket, CountReply, Counts, Entry, Pass, Set, Share};
-use crate::static_sets::{EmptyStaticAtomSet, TextForm, form_of_text};
+use super::{Bucket, CountReply, Counts, Entry, Pass, Share};
+use crate::Fault;
+use crate::samples::hash_of;
+use crate::static_sets::EmptyStaticAtomSet;
 use crate::word::{Limits, ticket_word};
-use crate::{Atom, DefaultAtom, Fault};
 use std::sync::Wait;
 use std::test::Fail;
-use std::thread;
 
 /// Looks at the ticket alone, and gives it as its share. Entries that aren't named die to `add` and stay to `dying`.
 #[derive(Drop)]
@@ -81,23 +86,17 @@ fn link(
     bucket: &mut Bucket<EmptyStaticAtomSet>,
     text: &str,
     limits: &Limits,
-) -> Option<Result<Share, Fault>> {
-    match form_of_text::<EmptyStaticAtomSet>(text) {
-        TextForm::Dynamic(hash) => Some(bucket.link(text, hash, limits)),
-        TextForm::Inline(_) | TextForm::Static(_) => None,
-    }
+) -> Result<Share, Fault> {
+    bucket.link(text, hash_of::<EmptyStaticAtomSet>(text), limits)
 }
 
 fn pass<R: Wait, C: Counts>(
-    bucket: &mut Bucket<EmptyStaticAtomSet>,
     rt: &R,
+    bucket: &mut Bucket<EmptyStaticAtomSet>,
     text: &str,
     counts: &mut C,
-) -> Option<Pass<C::Share>> {
-    match form_of_text::<EmptyStaticAtomSet>(text) {
-        TextForm::Dynamic(hash) => Some(bucket.pass(rt, text, hash, counts)),
-        TextForm::Inline(_) | TextForm::Static(_) => None,
-    }
+) -> Pass<C::Share> {
+    bucket.pass(rt, text, hash_of::<EmptyStaticAtomSet>(text), counts)
 }
 
 /// The ticket that was found; 1 where the entry is full, and 0 where there is none.
@@ -124,14 +123,14 @@ fn passes(rt: HostRuntime) -> Result<(), Fail> {
     ] {
         let limits = Limits::greatest();
         let mut bucket = Bucket::new(rt.alloc());
-        let one = link(&mut bucket, "tokenised", &limits).expect(&rt, "a dynamic text")?;
-        let two = link(&mut bucket, "tokenised", &limits).expect(&rt, "a dynamic text")?;
-        let three = link(&mut bucket, "tokenised", &limits).expect(&rt, "a dynamic text")?;
+        let one = link(&mut bucket, "tokenised", &limits)?;
+        let two = link(&mut bucket, "tokenised", &limits)?;
+        let three = link(&mut bucket, "tokenised", &limits)?;
         assert!(rt; (one.ticket(), two.ticket(), three.ticket()) == (first, second, third));
         assert!(rt; tickets(&mut bucket) == [third, second, first]);
 
         let mut fake = Fake { added, full, gone };
-        let answer = pass(&mut bucket, &rt, "tokenised", &mut fake).expect(&rt, "a dynamic text");
+        let answer = pass(&rt, &mut bucket, "tokenised", &mut fake);
         assert!(rt; found(answer) == finds);
         assert!(rt; tickets(&mut bucket) == left);
         assert!(rt; one.text() == "tokenised" && two.text() == three.text());
@@ -139,128 +138,56 @@ fn passes(rt: HostRuntime) -> Result<(), Fail> {
     Ok(())
 }
 
-fn interned<R: Wait>(
-    bucket: &mut Bucket<EmptyStaticAtomSet>,
+fn intern<R: Wait>(
     rt: &R,
+    bucket: &mut Bucket<EmptyStaticAtomSet>,
+    text: &str,
     limits: &Limits,
-) -> Option<Result<Share, Fault>> {
-    match form_of_text::<EmptyStaticAtomSet>("tokenised") {
-        TextForm::Dynamic(hash) => Some(bucket.intern(
-            rt,
-            "tokenised",
-            hash,
-            limits,
-            &mut OwnCounts,
-        )),
-        TextForm::Inline(_) | TextForm::Static(_) => None,
-    }
+) -> Result<Share, Fault> {
+    let hash = hash_of::<EmptyStaticAtomSet>(text);
+    bucket.intern(rt, text, hash, limits, &mut OwnCounts)
 }
 
 #[test]
 fn shares_of_a_bucket(rt: HostRuntime) -> Result<(), Fail> {
     let limits = Limits::new(2, 2).expect(&rt, "limits");
     let mut bucket = Bucket::new(rt.alloc());
-    let one = interned(&mut bucket, &rt, &limits).expect(&rt, "a dynamic text")?;
-    let two = interned(&mut bucket, &rt, &limits).expect(&rt, "a dynamic text")?;
+    let one = intern(&rt, &mut bucket, "tokenised", &limits)?;
+    let two = intern(&rt, &mut bucket, "tokenised", &limits)?;
     assert!(rt; one.ticket() == two.ticket());
-    let three = interned(&mut bucket, &rt, &limits).expect(&rt, "a dynamic text");
+    let three = intern(&rt, &mut bucket, "tokenised", &limits);
     assert!(rt; matches!(three, Err(Fault::FullCount)));
     drop(one);
     drop(two);
     // The entry is dying, and goes with the pass that links the next.
-    let next = interned(&mut bucket, &rt, &limits).expect(&rt, "a dynamic text")?;
+    let next = intern(&rt, &mut bucket, "tokenised", &limits)?;
     assert!(rt; next.ticket() == ticket_word(2, 0xe77));
     assert!(rt; tickets(&mut bucket) == [next.ticket(), 0, 0]);
     Ok(())
 }
 
 #[test]
-fn two_holders(rt: HostRuntime) -> Result<(), Fail> {
-    let limits = Limits::new(2, 9).expect(&rt, "limits");
-    let set: Set<EmptyStaticAtomSet> = Set::with_limits(rt.alloc(), limits)?;
-    let word = ticket_word(1, 0x210);
-    let one = Atom::from_str_in(&set, &rt, "interned")?;
-    let two = Atom::from_str_in(&set, &rt, "interned")?;
-    assert!(rt; one.unsafe_data() == word && two.unsafe_data() == word);
-    assert!(rt; set.linked(&rt) == 1);
-    assert!(rt;
-        matches!(
-            Atom::from_str_in(&set, &rt, "interned"),
-            Err(Fault::FullCount)
-        )
-    );
-    assert!(rt; matches!(one.clone_atom(&rt), Err(Fault::FullCount)));
-    assert!(rt; matches!(Atom::from_atom(&rt, &one), Err(Fault::FullCount)));
-    drop(two);
-    let three = one.clone_atom(&rt)?;
-    assert!(rt; three.unsafe_data() == word);
-    drop(three);
-    let four = Atom::from_atom(&rt, &one)?;
-    assert!(rt; four.unsafe_data() == word);
-    drop(one);
-    assert!(rt; set.linked(&rt) == 1 && four.as_str() == "interned");
-    drop(four);
-    assert!(rt; set.linked(&rt) == 0);
-    assert!(rt; Atom::from_str_in(&set, &rt, "interned")?.unsafe_data() == word + 16384);
-    Ok(())
-}
-
-#[test]
-fn one_serial(rt: HostRuntime) -> Result<(), Fail> {
-    let limits = Limits::new(9, 1).expect(&rt, "limits");
-    let set: Set<EmptyStaticAtomSet> = Set::with_limits(rt.alloc(), limits)?;
-    assert!(rt; Atom::from_str_in(&set, &rt, "interned")?.unsafe_data() == ticket_word(1, 0x210));
-    assert!(rt;
-        matches!(
-            Atom::from_str_in(&set, &rt, "interned"),
-            Err(Fault::TicketsSpent)
-        )
-    );
-    assert!(rt; Atom::from_str_in(&set, &rt, "abc")?.unsafe_data() == 0x6362_6131);
-    Ok(())
-}
-
-/// The other buckets' locks are free meanwhile, and the drop returns.
-#[test]
-fn last_drop_under_a_held_lock(rt: HostRuntime) -> Result<(), Fail> {
-    let set: Set<EmptyStaticAtomSet> = Set::new(rt.alloc())?;
-    let atom = Atom::from_str_in(&set, &rt, "interned")?;
-    let held = set.buckets[0x210].lock(&rt);
-    for (at, bucket) in set.buckets.iter().enumerate() {
-        assert!(rt; bucket.try_lock().is_some() == (at != 0x210));
+fn spent_tickets(rt: HostRuntime) -> Result<(), Fail> {
+    let limits = Limits::new(1, 2).expect(&rt, "limits");
+    let mut bucket = Bucket::new(rt.alloc());
+    for serial in [1, 2] {
+        let share = link(&mut bucket, "tokenised", &limits)?;
+        assert!(rt; share.ticket() == ticket_word(serial, 0xe77));
+        assert!(rt; share.text() == "tokenised");
     }
-    drop(atom);
-    drop(held);
-    assert!(rt; set.linked(&rt) == 1);
-    set.sweep(&rt);
-    assert!(rt; set.linked(&rt) == 0);
+    let refused = link(&mut bucket, "tokenised", &limits);
+    assert!(rt; matches!(refused, Err(Fault::TicketsSpent)));
     Ok(())
 }
 
-/// Interns, clones and drops each of the texts, again and again. Whether each atom had its text.
-fn turn_over<R: Wait>(set: &Set<EmptyStaticAtomSet>, rt: &R) -> Result<bool, Fault> {
-    let mut is_same = true;
-    for _ in 0..100 {
-        for text in "interned tokenised sentence repeated".split_whitespace() {
-            let atom = DefaultAtom::from_str_in(set, rt, text)?;
-            let clone = atom.clone_atom(rt)?;
-            is_same = is_same && clone == atom && clone.as_str() == text;
-        }
-    }
-    Ok(is_same)
-}
-
+/// A bucket asks for a text's hash alone: g and f1 of this one, which is inline, are 0x7f1a22d084b2f283 by OpenSSL's SipHash.
 #[test]
-fn threads_at_work(rt: HostRuntime) -> Result<(), Fail> {
-    let set: Set<EmptyStaticAtomSet> = Set::new(rt.alloc())?;
-    let (shared, handle) = (&set, &rt);
-    let (left, right) = thread::join(
-        &rt,
-        || turn_over(shared, handle),
-        || turn_over(shared, handle),
-    );
-    assert!(rt; left? && right?);
-    set.sweep(&rt);
-    assert!(rt; set.linked(&rt) == 0);
+fn short_text_of_a_bucket(rt: HostRuntime) -> Result<(), Fail> {
+    let limits = Limits::greatest();
+    let mut bucket = Bucket::new(rt.alloc());
+    let share = intern(&rt, &mut bucket, "foo", &limits)?;
+    assert!(rt; share.ticket() == ticket_word(1, 0x283));
+    let again = intern(&rt, &mut bucket, "foo", &limits)?;
+    assert!(rt; again.ticket() == share.ticket() && again.text() == "foo");
     Ok(())
 }

@@ -35,6 +35,7 @@ impl Model for Entry {
 }
 
 impl Entry {
+    ghost use Rattle.string_cache_core.specs.Layout.{holder_bound};
     ghost use Rattle.string_cache_core.specs.World.{is_linked, is_unlinked_by};
     ghost use Rattle.string_cache_core.specs.Steps.{is_linked_in};
 
@@ -61,7 +62,7 @@ impl Entry {
     }
 
     pub fn add_holder(&mut self)
-        requires { self.old.count < 2 ^ 63 }
+        requires { self.old.count < holder_bound }
         ensures { self.new ≡ record self.old { count = self.old.count + 1 } }
     {
         self.count += 1;

@@ -1,9 +1,10 @@
 // The numbers of a bucket's entries, so that a step needn't look at those of other buckets.
 #![tactic(auto)]
 
-ghost use Rattle.std.specs.Prelude.{◌≡◌, ◌<◌, ◌==◌, ◌++◌, ◌∷◌, [], length, MatchOption, OnOk, OnErr};
+ghost use Rattle.std.specs.Prelude.{◌≡◌, ◌<◌, ◌==◌, ◌++◌, ◌∷◌, [], length, MatchOption, OnOk};
 ghost use Rattle.std.specs.List.{list_all, position, remove};
 ghost use Rattle.std.specs.Option.{option_map};
+ghost use Rattle.string_cache_core.specs.Faults.{RefusesUnchanged};
 ghost use Rattle.string_cache_core.specs.Steps.{has, without_one};
 ghost use Rattle.string_cache_core.specs.Listed.{entry_in, is_seen, is_dying};
 
@@ -82,7 +83,7 @@ impl Listed {
 
     pub fn add(&mut self, number: u64) -> Result<(), Fault>
         ensures ok { OnOk result (self.new ≡ self.old ++ number ∷ []) }
-        ensures err { OnErr result ((self.new ≡ self.old) × (result ≡ Err Fault.Memory)) }
+        ensures err { RefusesUnchanged self.old result self.new }
     {
         self.numbers.reserve(1)?;
         self.numbers.push_reserved(number);

@@ -1,9 +1,11 @@
 // What a party does that holds a bucket.
 #![tactic(auto)]
 
-ghost use Rattle.std.specs.Prelude.{◌≡◌, ◌==◌, OnOk, OnErr, Some, IsSome, is_some};
+ghost use Rattle.std.specs.Prelude.{◌≡◌, ◌==◌, ◌++◌, ◌∷◌, [], IfOk, OnOk, OnErr, Some, IsSome, is_some};
 ghost use Rattle.std.specs.String.{string_bytes};
+ghost use Rattle.string_cache_core.specs.Faults.{RefusesUnchanged};
 
+use super::listed::Listed;
 use crate::faults::Fault;
 use std::marker::Model;
 
@@ -20,13 +22,14 @@ impl Model for Pass {
     ghost use Rattle.std.specs.Prelude.{◌<◌};
     ghost use Rattle.std.specs.Option.{option_map};
     ghost use Rattle.std.specs.String.{string_bytes};
+    ghost use Rattle.string_cache_core.specs.Layout.{most_buckets};
     ghost use Rattle.string_cache_core.specs.World as world;
 
     ghost Value = { world.Pass };
 
     ghost view = { λ a. record { party = a.party; bucket = a.bucket; wanted = option_map (λ t. string_bytes t) a.wanted; dying = a.dying.items; looked = a.looked.items } };
 
-    ghost invariant = { λ a. a.bucket < 4096 };
+    ghost invariant = { λ a. a.bucket < most_buckets };
 }
 
 impl Pass {
@@ -55,7 +58,7 @@ impl Pass {
 
     pub fn find_dying(&mut self, number: u64) -> Result<(), Fault>
         ensures ok { OnOk result (self.new ≡ finds_dying self.old number) }
-        ensures err { OnErr result ((self.new ≡ self.old) × (result ≡ Err Fault.Memory)) }
+        ensures err { RefusesUnchanged self.old result self.new }
     {
         self.dying.reserve(1)?;
         self.dying.push_reserved(number);
@@ -64,7 +67,7 @@ impl Pass {
 
     pub fn look_at(&mut self, number: u64) -> Result<(), Fault>
         ensures ok { OnOk result (self.new ≡ looks_at self.old number) }
-        ensures err { OnErr result ((self.new ≡ self.old) × (result ≡ Err Fault.Memory)) }
+        ensures err { RefusesUnchanged self.old result self.new }
     {
         self.looked.reserve(1)?;
         self.looked.push_reserved(number);
@@ -77,12 +80,17 @@ impl Pass {
         self.wanted = None;
     }
 
-    // Decides, and gives the text.
-    pub fn take_wanted(&mut self) -> String
+    // A new entry of that number is listed and looked at, and the pass decides: its text. All growth comes before the first
+    // change.
+    pub fn link(&mut self, number: u64, listed: &mut Listed) -> Result<String, Fault>
         requires { IsSome self.old.wanted }
-        ensures text { self.old.wanted ≡ Some (string_bytes result) }
-        ensures decided { self.new ≡ decides self.old }
+        ensures text { IfOk result (λ text. self.old.wanted ≡ Some (string_bytes text)) }
+        ensures ok { OnOk result ((self.new ≡ decides (looks_at self.old number)) × (listed.new ≡ listed.old ++ number ∷ [])) }
+        ensures err { OnErr result ((self.new ≡ self.old) × (listed.new ≡ listed.old) × (result ≡ Err Fault.Memory)) }
     {
-        self.wanted.take().unwrap()
+        self.looked.reserve(1)?;
+        listed.add(number)?;
+        self.looked.push_reserved(number);
+        Ok(self.wanted.take().unwrap())
     }
 }

@@ -2,7 +2,7 @@
 use super::{Step, StepReply, World};
 use crate::faults::Fault;
 use crate::static_sets::{EmptyStaticAtomSet, TextForm, form_of_text};
-use crate::word::Limits;
+use crate::word::{Limits, MOST_BUCKETS, SERIAL_BOUND, bucket_of};
 use StepReply::{
     Added, Cloned, Dying, Freed, Full, Given, Kept, Left, Linked, Memory, No, Spent, Taken,
     Unlinked,
@@ -42,7 +42,7 @@ fn step_of(alloc: Global, step: Do) -> Result<Step, AllocError> {
 // The ticket of a bucket's serial, the bucket being that of the text.
 fn ticket_of(text: &str, serial: u64) -> u64 {
     match form_of_text::<EmptyStaticAtomSet>(text) {
-        TextForm::Dynamic(hash) => (serial % (1 << 50)) << 14 | (hash % 4096) << 2,
+        TextForm::Dynamic(hash) => (serial % SERIAL_BOUND) << 14 | u64::from(bucket_of(hash)) << 2,
         _ => 0,
     }
 }
@@ -229,10 +229,53 @@ fn an_undecided_pass_stays(rt: HostRuntime) -> Result<(), Fail> {
 #[test]
 fn sweeps_of_the_last_buckets(rt: HostRuntime) -> Result<(), Fail> {
     let rows = [
-        (1, Do::Sweep(4095), Taken),
+        (1, Do::Sweep(MOST_BUCKETS as u32 - 1), Taken),
         (1, Do::Leave, Left),
-        (1, Do::Sweep(4096), No),
+        (1, Do::Sweep(MOST_BUCKETS as u32), No),
         (1, Do::Give(1), No),
     ];
     check(&rt, rt.alloc(), Limits::greatest(), &rows, &[])
+}
+
+#[test]
+fn steps_that_are_not_enabled_answer_no(rt: HostRuntime) -> Result<(), Fail> {
+    let ticket = ticket_of("interned", 1);
+    let rows = [
+        (1, Do::Clone(1), No),
+        (1, Do::Unlink(1), No),
+        (1, Do::Intern("interned"), Taken),
+        (1, Do::Link(true), Linked { entry: 1, ticket }),
+        (2, Do::Unlink(1), No),
+        (1, Do::Unlink(2), No),
+        (1, Do::Leave, Left),
+        (1, Do::Unlink(1), No),
+        (2, Do::Clone(0), No),
+        (2, Do::Clone(2), No),
+        (1, Do::Give(1), Given { left: 0 }),
+        (2, Do::Clone(1), No),
+    ];
+    check(&rt, rt.alloc(), Limits::greatest(), &rows, &[0])
+}
+
+#[test]
+fn twenty_thousand_steps_in_one_run(rt: HostRuntime) -> Result<(), Fail> {
+    let alloc = rt.alloc();
+    let mut script = Vec::new(alloc);
+    for step in [Do::Intern("interned"), Do::Link(true), Do::Leave] {
+        script.push((1, step_of(alloc, step)?))?;
+    }
+    for _turn in 0..10_000u32 {
+        script.push((2, Step::Clone(1)))?;
+        script.push((1, Step::Give(1)))?;
+    }
+    let mut world = new_world(alloc, Limits::greatest())?;
+    let mut given = Vec::new(alloc);
+    world.run(script.as_slice(), &mut given)?;
+    let is_clone = |reply: &&StepReply| **reply == Cloned { holders: 2 };
+    let is_give = |reply: &&StepReply| **reply == Given { left: 1 };
+    assert_eq!(rt; given.len(), 20_003);
+    assert_eq!(rt; given.iter().filter(is_clone).count(), 10_000);
+    assert_eq!(rt; given.iter().filter(is_give).count(), 10_000);
+    assert_eq!(rt; world.count(1), Some(1));
+    Ok(())
 }

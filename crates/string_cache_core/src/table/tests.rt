@@ -1,13 +1,14 @@
 //! Words, tickets and refusals of a table, with values from outside.
 
 ghost use Rattle.std.specs.Prelude.{◌<◌};
+ghost use Rattle.string_cache_core.specs.Layout.{most_buckets};
 
 use super::{Call, Table, TableReply};
 use crate::Fault;
 use crate::phf::hash;
 use crate::samples::One;
 use crate::static_sets::{EmptyStaticAtomSet, StaticAtomSet};
-use crate::word::{Form, Limits, form_of, ticket_word};
+use crate::word::{Form, Limits, MOST_BUCKETS, bucket_of, form_of, ticket_word};
 use std::alloc::Global;
 use std::process::Abort;
 use std::test::Fail;
@@ -58,8 +59,11 @@ fn is_first(word: u64) -> bool {
     matches!(form_of(word), Some(Form::Dynamic { serial: 1, .. }))
 }
 
+/// The unit of a ticket: two that a bucket gives one after the other differ by it.
+const TICKET_UNIT: u64 = 16384;
+
 fn next_ticket(word: u64) -> Option<u64> {
-    word.checked_add(16384)
+    word.checked_add(TICKET_UNIT)
 }
 
 #[test]
@@ -202,6 +206,7 @@ fn a_text_has_no_more_holders_than_its_limit(rt: HostRuntime) -> Result<(), Fail
     let word = intern(&mut table, "interned")?;
     assert_eq!(rt; intern(&mut table, "interned")?, word);
     assert_eq!(rt; intern(&mut table, "interned"), Err(Fault::FullCount));
+    assert!(rt; keeps(&table, 1, 8));
     assert_eq!(rt; clone_word(&rt, &mut table, word), Err(Fault::FullCount));
     give(&rt, &mut table, word);
     assert_eq!(rt; clone_word(&rt, &mut table, word)?, word);
@@ -209,21 +214,73 @@ fn a_text_has_no_more_holders_than_its_limit(rt: HostRuntime) -> Result<(), Fail
     Ok(())
 }
 
-/// The bucket of a text without static tables.
-fn bucket_of(text: &str) -> usize
-    ensures { result < 4096 }
-{
-    (hash(text, 0).entry_hash() % 4096) as usize
+/// Interning twice, giving twice and interning again, in two runs.
+#[test]
+fn a_run_leaves_spent_tickets_spent(rt: HostRuntime) -> Result<(), Fail> {
+    let alloc = rt.alloc();
+    let mut table = Table::<EmptyStaticAtomSet>::new(alloc)?;
+    let word = 0x4840; // the first of bucket 0x210, the low bits of the text's hash 0x556a_6dba_06a4_7210
+    let mut calls = Vec::new(alloc);
+    calls.push(intern_call(alloc, "interned")?)?;
+    calls.push(intern_call(alloc, "interned")?)?;
+    calls.push(Call::Give(word))?;
+    calls.push(Call::Give(word))?;
+    let replies = run(&mut table, &calls)?;
+    let given = TableReply::Given;
+    let interned = TableReply::Word(word);
+    assert!(rt; replies.as_slice() == [interned, interned, given, given].as_slice());
+    assert!(rt; keeps(&table, 0, 0));
+    let next = run_one(alloc, &mut table, intern_call(alloc, "interned")?)?;
+    assert_eq!(rt; next, TableReply::Word(word + TICKET_UNIT));
+    Ok(())
 }
 
-/// Two of the texts `word0000` to `word4096` with one bucket.
+#[test]
+fn many_calls_are_one_run(rt: HostRuntime) -> Result<(), Fail> {
+    let alloc = rt.alloc();
+    let mut table = Table::<EmptyStaticAtomSet>::new(alloc)?;
+    let word = intern(&mut table, "interned")?;
+    let mut calls = Vec::new(alloc);
+    for _ in 0..10_000 {
+        calls.push(Call::Clone(word))?;
+    }
+    let replies = run(&mut table, &calls)?;
+    assert_eq!(rt; replies.len(), 10_000);
+    assert!(rt; replies.iter().all(|reply| *reply == TableReply::Word(word)));
+    Ok(())
+}
+
+#[test]
+fn a_large_text_is_interned(rt: HostRuntime) -> Result<(), Fail> {
+    let mut text = String::new(rt.alloc());
+    for _ in 0..25_000 {
+        text.push_str("interned")?;
+    }
+    let mut table = Table::<EmptyStaticAtomSet>::new(rt.alloc())?;
+    let word = intern(&mut table, &text)?;
+    assert!(rt; is_first(word));
+    assert!(rt; has_text(&table, word, &text));
+    assert!(rt; keeps(&table, 1, 200_000));
+    give(&rt, &mut table, word);
+    assert!(rt; keeps(&table, 0, 0));
+    Ok(())
+}
+
+/// The bucket of a text without static tables.
+fn bucket_of_text(text: &str) -> u16
+    ensures { result < most_buckets }
+{
+    bucket_of(hash(text, 0).entry_hash())
+}
+
+/// Two texts with one bucket: there is one text more than buckets.
 fn bucket_mates(alloc: Global) -> Result<(String, String), Fail> {
-    let mut first = vec![in alloc; None; 4096]?;
-    for number in 0..4097u16 {
-        let text = format!(in alloc; "word{number:04}")?;
-        let bucket = bucket_of(&text);
+    let mut first = vec![in alloc; None; MOST_BUCKETS]?;
+    for number in 0..=MOST_BUCKETS {
+        let text = format!(in alloc; "word{number:05}")?;
+        let bucket = bucket_of_text(&text) as usize;
         if let Some(other) = first[bucket] {
-            return Ok((format!(in alloc; "word{other:04}")?, text));
+            return Ok((format!(in alloc; "word{other:05}")?, text));
         }
         first[bucket] = Some(number);
     }
@@ -255,7 +312,7 @@ fn refused_memory(rt: HostRuntime) {
             Table::new(rt.alloc()).expect(&rt, "a table")
         }
     };
-    let bucket = bucket_of("interned") as u16;
+    let bucket = bucket_of_text("interned");
     let first = ticket_word(1, bucket);
     let word = match intern(&mut table, "interned") {
         Ok(word) => word,
@@ -314,8 +371,8 @@ fn a_refused_run_is_made_again(rt: HostRuntime) -> Result<(), Fail> {
         Ok(replies) => replies,
         Err(_) => replies_at_last(&rt, alloc, &calls)?,
     };
-    let interned = TableReply::Word(ticket_word(1, bucket_of("interned") as u16));
-    let tokenised = TableReply::Word(ticket_word(1, bucket_of("tokenised") as u16));
+    let interned = TableReply::Word(ticket_word(1, bucket_of_text("interned")));
+    let tokenised = TableReply::Word(ticket_word(1, bucket_of_text("tokenised")));
     assert!(rt; replies.as_slice() == [interned, tokenised, interned].as_slice());
     Ok(())
 }

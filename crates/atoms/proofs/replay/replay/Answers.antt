@@ -13,5 +13,5 @@ returns-clause-beginning g c =
     (replay_begun empty_tables _ _ _ _ c.in_ok-bytes.bytes.items c.in-Ok.text.now (string_bytes c.in_ok-output.output) c.in_ok-bytes.ensures.bytes c.in_ok-bytes.ensures.end (search rules) c.in_ok-output.ensures.ok)
     (rw c.as_bytes.ensures.value at c.write_whole.ensures.err)
 
-pub returns-clause-write : goal.returns-clause-write
-returns-clause-write g c = λ e. (search rules, replay_ran empty_tables _ _ c.in_ok-bytes.bytes.items c.in-Ok.text.now (string_bytes c.in_ok-output.output) c.in_ok-bytes.ensures.bytes c.in_ok-bytes.ensures.end (search rules) c.in_ok-output.ensures.ok)
+pub returns-clause-ran : goal.returns-clause-ran
+returns-clause-ran g c = λ e. replay_ran empty_tables _ _ c.in_ok-bytes.bytes.items c.in-Ok.text.now (string_bytes c.in_ok-output.output) c.in_ok-bytes.ensures.bytes c.in_ok-bytes.ensures.end (search rules) c.in_ok-output.ensures.ok

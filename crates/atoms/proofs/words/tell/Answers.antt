@@ -4,8 +4,9 @@ use Rattle.atoms.proofs.words.tell.Goals as goal
 
 pub returns-in_default : goal.returns-in_default
 returns-in_default g c = record {
-  ended = tt;
-  lines = tt;
+  ended = search rules;
+  utf8 = search rules;
+  lines = search rules;
   beginning = if_some_any _ (λ bytes. beginning_nothing _ _ _ (keeps_same _));
   unwritten = λ _. keeps_same _;
   fault = search rules;

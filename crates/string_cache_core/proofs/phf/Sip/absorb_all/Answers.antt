@@ -25,7 +25,6 @@ returns c =
     let end : c.loop-word.word-index ≡ length words = omega arith in
     let whole : take c.loop-word.word-index words ≡ chunks = ap (λ n. take n words) end ∙ take-length words ∙ c.as_chunks.ensures.front in
     let state : c.loop-word.self ≡ fold (absorb c.args.count) c.args.self.now (map bytes_value chunks) = c.loop-word.invariant ∙ ap (λ ws. fold (absorb c.args.count) c.args.self.now (map bytes_value ws)) whole in
-    let last : c.from_le_bytes-2.result ≡ bytes_value (drop (length bytes / 8 * 8) bytes) + length bytes % 256 * 2 ^ 56 =
-    c.from_le_bytes-2.ensures ∙ last_word c.copy_from_slice.new.self rest (length rest) (length bytes % 256) c.copy_from_slice.ensures.after refl (omega arith)
-    ∙ ap (λ xs. bytes_value xs + length bytes % 256 * 2 ^ 56) c.as_chunks.ensures.back in
+    let last : c.last_word.result ≡ bytes_value (drop (length bytes / 8 * 8) bytes) + length bytes % 256 * 2 ^ 56 =
+    c.last_word.ensures ∙ ap (λ xs. bytes_value xs + length bytes % 256 * 2 ^ 56) c.as_chunks.ensures.back in
     c.absorb-2.ensures ∙ (λ j. absorb c.args.count (state j) (last j)) ∙ sym (fold-append_one (absorb c.args.count) c.args.self.now (map bytes_value chunks) _)

@@ -10,7 +10,7 @@ use Rattle.indexmap.specs.IndexSet.{insert_key}
 use Rattle.string_cache_core.specs.Map.{Holding, with_held, with_last}
 use Rattle.string_cache_core.specs.Tables.{entry_hash}
 use Rattle.string_cache_core.specs.Word.{ticket_of}
-use Rattle.string_cache_core.specs.Kept.{Kept, Pair, pairs_of, map_of, IsKept}
+use Rattle.string_cache_core.specs.Kept.{Kept, Pair, pairs_of, map_of, IsKeptTable}
 use Rattle.string_cache_core.proofs.KeptBytes.{bytes-fit, text-fits}
 use Rattle.string_cache_core.proofs.KeptPairs.{map-with-last, kept-moved}
 use Rattle.string_cache_core.proofs.KeptAdding.{pairs-pushed, kept-added, added-map}
@@ -46,7 +46,7 @@ invariant_of-self-2 g c =
     let small = text-fits c.in_ok-key.key c.args.text.now c.in_ok-key.ensures.ok in
     let inserted = c.in-Ok-insert.ensures.keys ∙ ap (λ ks. insert_key nat_eq ks c.ticket_word-ticket.result) c.in_ok-reserve-2.ensures.keys
     ∙ ap (insert_key nat_eq c.self.inside.tickets.keys) c.ticket_word-ticket.ensures in
-    subst (λ pairs. IsKept t (slice_set c.self.inside.lasts.items c.args.bucket c.args.serial) pairs c.insert-2.new.self.keys (c.self.inside.bytes + length c.args.text.now)) (sym pushed)
+    subst (λ pairs. IsKeptTable t (slice_set c.self.inside.lasts.items c.args.bucket c.args.serial) pairs c.insert-2.new.self.keys (c.self.inside.bytes + length c.args.text.now)) (sym pushed)
     (kept-added t c.self.inside.lasts.items (pairs_of c.self.inside.entries.entries) c.self.inside.tickets.keys c.insert-2.new.self.keys c.self.inside.bytes c.args.text.now c.args.bucket c.args.serial
     c.requires.dynamic
     (c.requires.bucket ∙ ap (λ (kept : Kept). entry_hash t c.args.text.now % length kept.lasts) (sym c.self.view_is))

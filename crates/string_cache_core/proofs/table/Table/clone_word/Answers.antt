@@ -1,6 +1,7 @@
-use Rattle.std.proofs.Common.{refl, inl}
+use Rattle.std.proofs.Common.{refl, inl, Ok}
 use Rattle.std.proofs.lemmas.Option.{slice_get_within}
 use Rattle.string_cache_core.specs.Kept.{map_of}
+use Rattle.string_cache_core.proofs.CallsKeep.{cloned-word, cloned-held, cloned-listed, clones-grow, grows-keeps, grows-same}
 use Rattle.string_cache_core.proofs.HeldWords.{fixed-unless-ticket}
 use Rattle.string_cache_core.proofs.Replies.{as_held, cloned-ticket}
 use Rattle.string_cache_core.proofs.table.Table.clone_word.Goals as goal
@@ -18,3 +19,27 @@ returns-in-Some-clause-clones g c =
 pub returns-in-None-clause-clones : goal.returns-in-None-clause-clones
 returns-in-None-clause-clones g c =
     inl (fixed-unless-ticket g.S.StaticAtomSet.tables (map_of c.args.self.now) c.args.word c.requires c.in-None.ensures, refl, refl)
+
+pub returns-in-Some-clause-word : goal.returns-in-Some-clause-word
+returns-in-Some-clause-word g c =
+    cloned-word g.S.StaticAtomSet.tables c.args.self.now.limits (map_of c.args.self.now) (map_of c.add_holder.new.self) c.args.word c.add_holder.result (returns-in-Some-clause-clones g c)
+
+pub returns-in-Some-clause-held : goal.returns-in-Some-clause-held
+returns-in-Some-clause-held g c =
+    cloned-held g.S.StaticAtomSet.tables c.args.self.now.limits (map_of c.args.self.now) (map_of c.add_holder.new.self) c.args.word c.add_holder.result c.requires (returns-in-Some-clause-clones g c)
+
+pub returns-in-Some-clause-listed : goal.returns-in-Some-clause-listed
+returns-in-Some-clause-listed g c =
+    cloned-listed g.S.StaticAtomSet.tables c.args.self.now.limits (map_of c.args.self.now) (map_of c.add_holder.new.self) c.args.word c.add_holder.result (returns-in-Some-clause-clones g c) c.is_sound.ensures
+
+pub returns-in-Some-clause-keeps : goal.returns-in-Some-clause-keeps
+returns-in-Some-clause-keeps g c = λ other.
+    grows-keeps g.S.StaticAtomSet.tables (map_of c.args.self.now) (map_of c.add_holder.new.self) other
+    (clones-grow g.S.StaticAtomSet.tables c.args.self.now.limits (map_of c.args.self.now) (map_of c.add_holder.new.self) c.args.word c.add_holder.result other (returns-in-Some-clause-clones g c))
+
+pub returns-in-None-clause-listed : goal.returns-in-None-clause-listed
+returns-in-None-clause-listed g c =
+    cloned-listed g.S.StaticAtomSet.tables c.args.self.now.limits (map_of c.args.self.now) (map_of c.args.self.now) c.args.word (Ok c.args.word) (returns-in-None-clause-clones g c) c.is_sound.ensures
+
+pub returns-in-None-clause-keeps : goal.returns-in-None-clause-keeps
+returns-in-None-clause-keeps g c = λ other. grows-keeps g.S.StaticAtomSet.tables (map_of c.args.self.now) (map_of c.args.self.now) other (grows-same (map_of c.args.self.now) (map_of c.args.self.now) other refl)

@@ -1,16 +1,66 @@
-use Rattle.std.proofs.Common.{sym, subst}
-use Rattle.string_cache_core.specs.Kept.{map_of}
-use Rattle.string_cache_core.specs.Table.{InternsBy}
-use Rattle.string_cache_core.proofs.Replies.{interned-held}
+use Rattle.std.proofs.Common.{Result, Ok, Err, ℕ, List, ◌∷◌, length, ◌≡◌, ◌<◌, ◌≤◌}
+use Rattle.std.specs.Prelude.{IfOk}
+use Rattle.std.specs.Str.{IsUtf8}
+use Rattle.string_cache_core.specs.Bounds.{Bounds}
+use Rattle.string_cache_core.specs.declared.faults.Fault.{Fault}
+use Rattle.string_cache_core.specs.Kept.{map_of, IsSoundMap}
+use Rattle.string_cache_core.specs.Map.{InternMap}
+use Rattle.string_cache_core.specs.Table.{Interns, AreHeld, HasWord, IsHeld, IsTextOf}
+use Rattle.string_cache_core.specs.Tables.{Tables}
+use Rattle.string_cache_core.specs.Word.{inline_word}
+use Rattle.string_cache_core.proofs.CallsKeep.{interned-owned, owned-held, owned-long, owned-short, interned-listed, interns-grow, interns-fresh, grows-keeps, held-given}
+use Rattle.string_cache_core.proofs.WordsApart.{one-text-each}
 use Rattle.string_cache_core.proofs.table.Table.intern.Goals as goal
 
-pub returns-in-Some-clause-interns : goal.returns-in-Some-clause-interns
-returns-in-Some-clause-interns g c =
-    let t = g.S.StaticAtomSet.tables in
-    let limits = c.args.self.now.limits in
-    let m = map_of c.args.self.now in
-    let text = c.args.text.now in
-    let had = c.in-Some.ensures.0 in
-    let found = c.in-Some.ensures.1 in
-    subst (λ word. InternsBy t limits m text word c.add_holder.result (map_of c.add_holder.new.self)) (sym (c.is_sound.ensures.given text had found.held).dynamic)
-    (interned-held t limits m (map_of c.add_holder.new.self) text had c.add_holder.result found.held (c.add_holder.ensures.adds text had found.there))
+module _ (t : Tables) (limits : Bounds) (m new : InternMap) (text : List ℕ) (utf8 : IsUtf8 text) where
+  owned : (result : Result ℕ Fault) → Interns t limits m text result new → IfOk result (λ word. HasWord t new text word)
+  owned (Ok word) h = interned-owned t limits m new text word utf8 h
+  owned (Err fault) h = tt
+
+  short : (result : Result ℕ Fault) → Interns t limits m text result new → IfOk result (λ word. length text ≤ 7 → word ≡ inline_word text)
+  short (Ok word) h = owned-short t new text word (owned (Ok word) h)
+  short (Err fault) h = tt
+
+  lends : (result : Result ℕ Fault) → Interns t limits m text result new → IfOk result (λ word. 7 < length text → IsTextOf t new word text)
+  lends (Ok word) h = owned-long t new text word utf8 (owned (Ok word) h)
+  lends (Err fault) h = tt
+
+  held : (result : Result ℕ Fault) → Interns t limits m text result new → IfOk result (λ word. IsHeld t new word)
+  held (Ok word) h = owned-held t new text word utf8 (owned (Ok word) h)
+  held (Err fault) h = tt
+
+  listed : (result : Result ℕ Fault) → Interns t limits m text result new → IsSoundMap t m → IsSoundMap t new → (words : List ℕ) → AreHeld t m words → IfOk result (λ word. AreHeld t new (word ∷ words))
+  listed (Ok word) h before after words all = interned-listed t limits m new text word utf8 h before after words all
+  listed (Err fault) h before after words all = tt
+
+pub returns-clause-word : goal.returns-clause-word
+returns-clause-word g c = owned g.S.StaticAtomSet.tables c.args.self.now.limits (map_of c.args.self.now) (map_of c.intern_text-outcome.new.self) c.args.text.now c.utf8.text c.intern_text-outcome.result c.intern_text-outcome.ensures.interns
+
+pub returns-clause-short : goal.returns-clause-short
+returns-clause-short g c = short g.S.StaticAtomSet.tables c.args.self.now.limits (map_of c.args.self.now) (map_of c.intern_text-outcome.new.self) c.args.text.now c.utf8.text c.intern_text-outcome.result c.intern_text-outcome.ensures.interns
+
+pub returns-clause-lends : goal.returns-clause-lends
+returns-clause-lends g c = lends g.S.StaticAtomSet.tables c.args.self.now.limits (map_of c.args.self.now) (map_of c.intern_text-outcome.new.self) c.args.text.now c.utf8.text c.intern_text-outcome.result c.intern_text-outcome.ensures.interns
+
+pub returns-clause-held : goal.returns-clause-held
+returns-clause-held g c = held g.S.StaticAtomSet.tables c.args.self.now.limits (map_of c.args.self.now) (map_of c.intern_text-outcome.new.self) c.args.text.now c.utf8.text c.intern_text-outcome.result c.intern_text-outcome.ensures.interns
+
+pub returns-clause-listed : goal.returns-clause-listed
+returns-clause-listed g c =
+    listed g.S.StaticAtomSet.tables c.args.self.now.limits (map_of c.args.self.now) (map_of c.intern_text-outcome.new.self) c.args.text.now c.utf8.text c.intern_text-outcome.result c.intern_text-outcome.ensures.interns
+    c.is_sound.ensures c.is_sound-2.ensures
+
+pub returns-clause-keeps : goal.returns-clause-keeps
+returns-clause-keeps g c = λ other.
+    grows-keeps g.S.StaticAtomSet.tables (map_of c.args.self.now) (map_of c.intern_text-outcome.new.self) other
+    (interns-grow g.S.StaticAtomSet.tables c.args.self.now.limits (map_of c.args.self.now) (map_of c.intern_text-outcome.new.self) c.args.text.now c.intern_text-outcome.result other c.intern_text-outcome.ensures.interns)
+
+pub returns-clause-apart : goal.returns-clause-apart
+returns-clause-apart g c = one-text-each g.S.StaticAtomSet.tables (map_of c.intern_text-outcome.new.self) c.is_sound-2.ensures
+
+pub returns-clause-once : goal.returns-clause-once
+returns-clause-once g c = record {
+  given = held-given g.S.StaticAtomSet.tables (map_of c.intern_text-outcome.new.self) c.is_sound-2.ensures;
+  fresh = λ ticket. interns-fresh g.S.StaticAtomSet.tables c.args.self.now.limits (map_of c.args.self.now) (map_of c.intern_text-outcome.new.self) c.args.text.now c.intern_text-outcome.result ticket
+      c.is_sound-2.ensures c.intern_text-outcome.ensures.interns;
+}

@@ -9,22 +9,22 @@ pub returns-then-last-serials-clause-replies : goal.returns-then-last-serials-cl
 returns-then-last-serials-clause-replies g c =
     let m = map_of c.args.self.now in
     let test = c.if-last-serials.true in
-    let last = c.bucket_of-bucket.ensures.last in
+    let last = c.bucket_and_last-bucket.ensures.last in
     let read = c.serials.ensures.value in
     let limit = ap (λ (kept : Kept). kept.limits.serials) c.self.view_is in
-    let own : c.bucket_of-bucket.result.0 ≡ bucket_in g.S.StaticAtomSet.tables m c.args.text.now =
-    c.bucket_of-bucket.ensures.bucket ∙ ap (λ (h : ℕ). h % m.buckets) (dynamic-hash g.S.StaticAtomSet.tables c.args.text.now c.args.hash c.requires.dynamic) in
-    interned-spent g.S.StaticAtomSet.tables c.args.self.now.limits m c.args.text.now c.bucket_of-bucket.result.0 own c.requires.absent (omega (arith, test, last, limit, read))
+    let own : c.bucket_and_last-bucket.result.0 ≡ bucket_in g.S.StaticAtomSet.tables m c.args.text.now =
+    c.bucket_and_last-bucket.ensures.bucket ∙ ap (λ (h : ℕ). h % m.buckets) (dynamic-hash g.S.StaticAtomSet.tables c.args.text.now c.args.hash c.requires.dynamic) in
+    interned-spent g.S.StaticAtomSet.tables c.args.self.now.limits m c.args.text.now c.bucket_and_last-bucket.result.0 own c.requires.absent (omega (arith, test, last, limit, read))
 
 pub returns-clause-replies : goal.returns-clause-replies
 returns-clause-replies g c =
     let m = map_of c.args.self.now in
     let test = c.if-last-serials.false in
-    let last = c.bucket_of-bucket.ensures.last in
+    let last = c.bucket_and_last-bucket.ensures.last in
     let read = c.serials.ensures.value in
     let limit = ap (λ (kept : Kept). kept.limits.serials) c.self.view_is in
-    let bucket = c.bucket_of-bucket.result.0 in
+    let bucket = c.bucket_and_last-bucket.result.0 in
     let own : bucket ≡ bucket_in g.S.StaticAtomSet.tables m c.args.text.now =
-    c.bucket_of-bucket.ensures.bucket ∙ ap (λ (h : ℕ). h % m.buckets) (dynamic-hash g.S.StaticAtomSet.tables c.args.text.now c.args.hash c.requires.dynamic) in
-    added g.S.StaticAtomSet.tables c.args.self.now c.add.new.self c.args.text.now bucket c.bucket_of-bucket.result.1 c.add.result own c.requires.absent last (omega (arith, test, limit, read))
+    c.bucket_and_last-bucket.ensures.bucket ∙ ap (λ (h : ℕ). h % m.buckets) (dynamic-hash g.S.StaticAtomSet.tables c.args.text.now c.args.hash c.requires.dynamic) in
+    added g.S.StaticAtomSet.tables c.args.self.now c.add.new.self c.args.text.now bucket c.bucket_and_last-bucket.result.1 c.add.result own c.requires.absent last (omega (arith, test, limit, read))
     c.add.ensures.word c.add.ensures.ok c.add.ensures.err c.add.ensures.fault

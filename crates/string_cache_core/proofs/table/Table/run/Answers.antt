@@ -4,7 +4,8 @@ use Rattle.string_cache_core.specs.declared.table.call.Call.{Call}
 use Rattle.string_cache_core.specs.declared.table.call.TableReply.{TableReply}
 use Rattle.string_cache_core.specs.Bounds.{Bounds}
 use Rattle.string_cache_core.specs.Kept.{map_of}
-use Rattle.string_cache_core.specs.Calls.{Answers, Replays}
+use Rattle.string_cache_core.specs.Calls.{Answers, AnswersAll}
+use Rattle.string_cache_core.proofs.CallsKeep.{answers-fresh, fresh-more, held-given}
 use Rattle.string_cache_core.proofs.Runs.{replays-push, replays-grow}
 use Rattle.string_cache_core.proofs.WordsApart.{one-text-each}
 use Rattle.string_cache_core.proofs.table.Table.run.Goals as goal
@@ -23,14 +24,20 @@ loop-call-preserved g c =
       c.call-reply.ensures.limits ∙ i.0,
       omega (arith, len, n),
       omega (arith, capacity, room),
-      subst (λ (rs : List TableReply). Replays t c.args.self.now.limits (map_of c.args.self.now) (take (c.loop-call.call-index + 1) c.args.calls.now) rs (map_of c.call-reply.new.self)) (sym c.push_reserved.ensures.items)
-          (subst (λ (cs : List Call). Replays t c.args.self.now.limits (map_of c.args.self.now) cs (c.loop-call.replies.items ++ c.call-reply.result ∷ []) (map_of c.call-reply.new.self)) (sym step)
+      subst (λ (rs : List TableReply). AnswersAll t c.args.self.now.limits (map_of c.args.self.now) (take (c.loop-call.call-index + 1) c.args.calls.now) rs (map_of c.call-reply.new.self)) (sym c.push_reserved.ensures.items)
+          (subst (λ (cs : List Call). AnswersAll t c.args.self.now.limits (map_of c.args.self.now) cs (c.loop-call.replies.items ++ c.call-reply.result ∷ []) (map_of c.call-reply.new.self)) (sym step)
           (replays-push t c.args.self.now.limits (map_of c.args.self.now) (map_of c.loop-call.self) (map_of c.call-reply.new.self) (take c.loop-call.call-index c.args.calls.now) c.loop-call.replies.items c.call-item.result c.call-reply.result
           i.3 (subst (λ (limits : Bounds). Answers t limits (map_of c.loop-call.self) c.call-item.result c.call-reply.result (map_of c.call-reply.new.self)) i.0 c.call-reply.ensures.answers))),
+      fresh-more (map_of c.args.self.now) (map_of c.loop-call.self) (map_of c.call-reply.new.self)
+          (λ bucket. replays-grow t c.args.self.now.limits (map_of c.args.self.now) (map_of c.loop-call.self) (take c.loop-call.call-index c.args.calls.now) c.loop-call.replies.items bucket i.3)
+          i.4 (answers-fresh t c.loop-call.self.limits (map_of c.loop-call.self) (map_of c.call-reply.new.self) c.call-item.result c.call-reply.result c.is_sound.ensures c.call-reply.ensures.answers),
     )
 
 pub returns-clause-grow : goal.returns-clause-grow
 returns-clause-grow g c = λ bucket. replays-grow g.S.StaticAtomSet.tables c.args.self.now.limits (map_of c.args.self.now) (map_of c.loop-call.self) (take c.loop-call.call-index c.args.calls.now) c.loop-call.replies.items bucket c.loop-call.invariant.3
 
 pub returns-clause-apart : goal.returns-clause-apart
-returns-clause-apart g c = one-text-each g.S.StaticAtomSet.tables (map_of c.loop-call.self) c.is_sound.ensures
+returns-clause-apart g c = one-text-each g.S.StaticAtomSet.tables (map_of c.loop-call.self) c.is_sound-2.ensures
+
+pub returns-clause-once : goal.returns-clause-once
+returns-clause-once g c = record { given = held-given g.S.StaticAtomSet.tables (map_of c.loop-call.self) c.is_sound-2.ensures; fresh = c.loop-call.invariant.4 }

@@ -1,30 +1,12 @@
-use Rattle.std.proofs.Common.{sym, subst, List, ℕ, Some, Option}
-use Rattle.std.specs.Prelude.{MatchOption}
-use Rattle.std.specs.Borrow.{Bor}
-use Rattle.string_cache_core.specs.declared.word.Form.{Form}
-use Rattle.string_cache_core.specs.Form.{IsFormOf}
 use Rattle.string_cache_core.specs.Kept.{map_of}
-use Rattle.string_cache_core.specs.Table.{IsTextOf}
-use Rattle.string_cache_core.proofs.HeldWords.{no-text-unless-word, no-text-if-inline, text-if-static, text-if-ticket}
+use Rattle.string_cache_core.proofs.HeldWords.{lent-found, lent-same, lent-owned}
 use Rattle.string_cache_core.proofs.table.Table.text.Goals as goal
 
-pub returns-in_err-form_of : goal.returns-in_err-form_of
-returns-in_err-form_of g c =
-    let m = map_of c.args.self.now in
-    let none = no-text-unless-word g.S.StaticAtomSet.tables m c.args.word c.is_sound.ensures c.ranges.word.fits c.in_err-form_of.ensures.1 c.in_err-form_of.ensures.2 in
-    subst (λ (r : Option (Bor (List ℕ))). MatchOption r ((text : List ℕ) → ¬ (IsTextOf g.S.StaticAtomSet.tables m c.args.word text)) (λ text. IsTextOf g.S.StaticAtomSet.tables m c.args.word text.now)) (sym c.from_residual.ensures) none
+pub returns-clause-found : goal.returns-clause-found
+returns-clause-found g c = lent-found g.S.StaticAtomSet.tables (map_of c.args.self.now) c.args.word c.find_text.result c.find_text.ensures
 
-pub returns-in-Inline : goal.returns-in-Inline
-returns-in-Inline g c =
-    let form = subst (λ (f : Form). IsFormOf c.args.word (Some f)) c.in-Inline.is c.in_ok-form_of.ensures in
-    no-text-if-inline g.S.StaticAtomSet.tables (map_of c.args.self.now) c.args.word c.is_sound.ensures (c.in-Inline.field-0, form.0, form.1)
+pub returns-clause-same : goal.returns-clause-same
+returns-clause-same g c = lent-same g.S.StaticAtomSet.tables (map_of c.args.self.now) c.args.word c.is_sound.ensures c.find_text.result c.find_text.ensures
 
-pub returns-in-Static : goal.returns-in-Static
-returns-in-Static g c =
-    let form = subst (λ (f : Form). IsFormOf c.args.word (Some f)) c.in-Static.is c.in_ok-form_of.ensures in
-    text-if-static g.S.StaticAtomSet.tables (map_of c.args.self.now) c.args.word c.in-Static.index c.is_sound.ensures form c.static_text.result c.static_text.ensures.is_static c.static_text.ensures.text
-
-pub returns-in-Dynamic : goal.returns-in-Dynamic
-returns-in-Dynamic g c =
-    let form = subst (λ (f : Form). IsFormOf c.args.word (Some f)) c.in-Dynamic.is c.in_ok-form_of.ensures in
-    text-if-ticket g.S.StaticAtomSet.tables (map_of c.args.self.now) c.args.word c.in-Dynamic.serial c.in-Dynamic.bucket form.1 c.ticket_text.result c.ticket_text.ensures
+pub returns-clause-word : goal.returns-clause-word
+returns-clause-word g c = lent-owned g.S.StaticAtomSet.tables (map_of c.args.self.now) c.args.word c.is_sound.ensures c.find_text.result c.find_text.ensures

@@ -1,13 +1,13 @@
-use Rattle.std.proofs.Common.{subst, ◌≡◌, ◌∙◌, ℕ, ◌+◌, ◌<◌, ap, refl, sym, arith, List, [], ◌∷◌, ◌++◌, length, Option, Some}
+use Rattle.std.proofs.Common.{◌≡◌, ◌∙◌, ℕ, ◌+◌, ◌<◌, ap, refl, sym, arith, List, [], ◌∷◌, ◌++◌, length, Option, Some}
 use Rattle.std.specs.Prelude.{slice_get, slice_set}
 use Rattle.std.specs.String.{string_bytes}
+use Rattle.string_cache_core.specs.Layout.{most_buckets}
 use Rattle.string_cache_core.specs.declared.steps.entry.Place.TheVariants as place
 use Rattle.string_cache_core.specs.Word.{ticket_of}
 use Rattle.string_cache_core.specs.World.{Entry, Pass, World}
 use Rattle.string_cache_core.specs.Steps.{looks_at, decides}
 use Rattle.string_cache_core.proofs.StepLists.{get_or_at}
-use Rattle.string_cache_core.specs.Listed.{IsKept}
-use Rattle.string_cache_core.proofs.StepListed.{kept_more, kept_link}
+use Rattle.string_cache_core.proofs.StepListed.{kept_link}
 use Rattle.string_cache_core.proofs.StepBag.{pushed_world}
 use Rattle.string_cache_core.proofs.steps.state.State.link_entry.Goals as goal
 
@@ -21,36 +21,29 @@ returns-clause-ok c = λ pass text there wanted.
     let bucket : c.pass.inside.bucket ≡ pass.bucket = ap (λ (p : Pass). p.bucket) (c.pass.view_is ∙ item) in
     let same : c.reserve.new.self.items ≡ now.entries = c.reserve.ensures.items ∙ ap (λ (v : World). v.entries) c.self.view_is in
     let number : c.len.result ≡ length now.entries = c.len.ensures ∙ c.reserve.new.self.ok.0 ∙ ap length same in
-    let looked : c.look_at.new.self ≡ looks_at pass n = c.in_ok-look_at.ensures.ok ∙ ap (λ (p : Pass). looks_at p (c.len.result + 1)) item ∙ ap (λ (m : ℕ). looks_at pass (m + 1)) number in
-    let took : c.take_wanted-text.new.self ≡ decides (looks_at pass n) = c.take_wanted-text.ensures.decided ∙ ap decides looked in
-    let given : ◌≡◌ {A = Option (List ℕ)} (Some (string_bytes c.take_wanted-text.result)) (Some text) = sym c.take_wanted-text.ensures.text ∙ ap (λ (p : Pass). p.wanted) looked ∙ wanted in
-    let text_is : string_bytes c.take_wanted-text.result ≡ text = cc in
+    let linked : c.link.new.self ≡ decides (looks_at pass n) = c.in_ok-text.ensures.ok.0 ∙ ap (λ (p : Pass). decides (looks_at p (c.len.result + 1))) item ∙ ap (λ (m : ℕ). decides (looks_at pass (m + 1))) number in
+    let given : ◌≡◌ {A = Option (List ℕ)} (Some (string_bytes c.in_ok-text.text)) (Some text) = sym c.in_ok-text.ensures.text ∙ ap (λ (p : Pass). p.wanted) item ∙ wanted in
+    let text_is : string_bytes c.in_ok-text.text ≡ text = cc in
     let ticket : c.ticket_word-ticket.result ≡ ticket_of serial pass.bucket = c.ticket_word-ticket.ensures ∙ ap (λ (b : ℕ). ticket_of serial b) bucket in
     let y : Entry = record { text = text; bucket = pass.bucket; ticket = ticket_of serial pass.bucket; count = 1; place = place.Linked } in
-    let entry : ◌≡◌ {A = Entry} (record { text = string_bytes c.take_wanted-text.result; bucket = c.pass.inside.bucket; ticket = c.ticket_word-ticket.result; count = 1; place = place.Linked }) y =
+    let entry : ◌≡◌ {A = Entry} (record { text = string_bytes c.in_ok-text.text; bucket = c.pass.inside.bucket; ticket = c.ticket_word-ticket.result; count = 1; place = place.Linked }) y =
     λ i. record { text = text_is i; bucket = bucket i; ticket = ticket i; count = 1; place = place.Linked } in
     let entries : c.push_reserved.new.self.items ≡ now.entries ++ y ∷ [] = c.push_reserved.ensures.items ∙ (λ i. same i ++ entry i ∷ []) in
     let lasts : slice_set c.self.inside.lasts.items c.pass.inside.bucket serial ≡ slice_set now.lasts pass.bucket serial =
     ap (λ (b : ℕ). slice_set c.self.inside.lasts.items b serial) bucket ∙ ap (λ (v : World). slice_set v.lasts pass.bucket serial) c.self.view_is in
-    let passes : slice_set c.self.inside.passes.items at c.take_wanted-text.new.self ≡ slice_set now.passes at (decides (looks_at pass n)) =
-    ap (λ (p : Pass). slice_set c.self.inside.passes.items at p) took ∙ ap (λ (v : World). slice_set v.passes at (decides (looks_at pass n))) c.self.view_is in
-    let many : length now.lasts ≡ 4096 = ap (λ (v : World). length v.lasts) (sym c.self.view_is) ∙ c.self.invariant.buckets in
+    let passes : slice_set c.self.inside.passes.items at c.link.new.self ≡ slice_set now.passes at (decides (looks_at pass n)) =
+    ap (λ (p : Pass). slice_set c.self.inside.passes.items at p) linked ∙ ap (λ (v : World). slice_set v.passes at (decides (looks_at pass n))) c.self.view_is in
+    let many : length now.lasts ≡ most_buckets = ap (λ (v : World). length v.lasts) (sym c.self.view_is) ∙ c.self.invariant.buckets in
     let inside : pass.bucket < length now.lasts = (let b = c.pass.invariant in omega (arith, b, bucket, many)) in (
       ap (λ (m : ℕ). m + 1) number,
       ticket,
       pushed_world _ now c.self.view_is refl c.requires.sound y inside serial (c.requires.wanted pass there).1 refl refl _ _ lasts _ _ passes _ entries,
     )
 
-pub invariant_of-self-in_err-look_at : goal.invariant_of-self-in_err-look_at
-invariant_of-self-in_err-look_at c =
-    let more = kept_more c.self.inside.entries.items c.self.inside.lasts.items c.self.inside.linked.items c.self.invariant c.pass.inside.bucket c.index_mut.result.now c.add.new.self _ (c.len.result + 1)
-    c.pass.invariant c.index_mut.ensures.value c.in_ok-add.ensures.ok in
-    subst (λ (es : List Entry). IsKept es c.self.inside.lasts.items (slice_set c.self.inside.linked.items c.pass.inside.bucket c.add.new.self)) (sym c.reserve.ensures.items) more
-
 pub invariant_of-self-2 : goal.invariant_of-self-2
 invariant_of-self-2 c =
-    let y : Entry = record { text = string_bytes c.take_wanted-text.result; bucket = c.pass.inside.bucket; ticket = c.ticket_word-ticket.result; count = 1; place = place.Linked } in
-    kept_link c.self.inside.entries.items c.self.inside.lasts.items c.self.inside.linked.items c.self.invariant y c.index_mut.result.now c.add.new.self _ (c.len.result + 1) c.args.serial _
-    c.pass.invariant c.index_mut.ensures.value c.in_ok-add.ensures.ok
+    let y : Entry = record { text = string_bytes c.in_ok-text.text; bucket = c.pass.inside.bucket; ticket = c.ticket_word-ticket.result; count = 1; place = place.Linked } in
+    kept_link c.self.inside.entries.items c.self.inside.lasts.items c.self.inside.linked.items c.self.invariant y c.index_mut-listed.result.now c.link.new.listed _ (c.len.result + 1) c.args.serial _
+    c.pass.invariant c.index_mut-listed.ensures.value c.in_ok-text.ensures.ok.1
     (ap (λ (m : ℕ). m + 1) (c.len.ensures ∙ c.reserve.new.self.ok.0 ∙ ap length c.reserve.ensures.items))
     (c.push_reserved.ensures.items ∙ ap (λ (es : List Entry). es ++ y ∷ []) c.reserve.ensures.items)

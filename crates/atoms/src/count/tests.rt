@@ -1,0 +1,252 @@
+// That workers run at once, intern every place themselves and hold their atoms; and which fault is answered.
+#![tactic(auto)]
+
+ghost use Rattle.std.specs.Prelude.{◌≤◌};
+
+use crate::count::gates::{BothEnter, BothLeave, Watch};
+use crate::count::{Gate, Open, count};
+use crate::faults::AppFault;
+use crate::tests::EXAMPLE;
+use std::sync::Wait;
+use std::test::Fail;
+use std::thread::Threads;
+use std::{str, thread};
+use string_cache::dynamic_set::Set;
+use string_cache::word::Limits;
+use string_cache::{Atom, EmptyStaticAtomSet, Fault};
+
+const EXAMPLE_COUNTS: [(&str, u64); 15] = [
+    ("a", 1),
+    ("and", 3),
+    ("be", 1),
+    ("here", 1),
+    ("interned", 1),
+    ("is", 2),
+    ("of", 2),
+    ("repeated", 1),
+    ("sentence", 1),
+    ("some", 1),
+    ("text", 2),
+    ("that", 1),
+    ("tokenised", 1),
+    ("tokens", 1),
+    ("will", 1),
+];
+
+type Counts<'s> = Vec<(Atom<'s, EmptyStaticAtomSet>, u64)>;
+
+/// Whether these are the words and numbers of the counts.
+fn are(counts: &Counts, wanted: &[(&str, u64)]) -> bool {
+    if counts.len() != wanted.len() {
+        return false;
+    }
+    for i in 0..wanted.len() {
+        let (atom, n) = &counts[i];
+        let (word, number) = wanted[i];
+        if !atom.eq_str(word) || *n != number {
+            return false;
+        }
+    }
+    true
+}
+
+/// The counts of a text. Where memory was refused, the call is made once more.
+fn counts_of<'s, R: Threads + Wait + Sync, G: Gate>(
+    rt: &'s R,
+    set: &'s Set<EmptyStaticAtomSet>,
+    text: &'s str,
+    n: u32,
+    gate: &'s G,
+) -> Result<Counts<'s>, AppFault>
+    requires low { 1 ≤ n }
+    requires high { n ≤ 64 }
+{
+    match count(rt, set, text, n, gate) {
+        Err(AppFault::Intern(Fault::Memory)) | Err(AppFault::Worker) => count(
+            rt, set, text, n, gate,
+        ),
+        answer => answer,
+    }
+}
+
+#[test]
+fn counts_of_the_example(rt: HostRuntime) -> Result<(), Fail> {
+    let set = Set::<EmptyStaticAtomSet>::new(rt.alloc())?;
+    let text = str::from_utf8(EXAMPLE).expect(&rt, "a text");
+    for n in [1, 2, 3, 64] {
+        let counts = counts_of(&rt, &set, text, n, &Open).expect(&rt, "counts");
+        assert!(rt; are(&counts, &EXAMPLE_COUNTS), "by {n}");
+    }
+    assert!(rt; set.linked(&rt) == 0);
+    Ok(())
+}
+
+/// Two workers are in their pieces at once.
+#[test]
+fn workers_run_at_once(rt: HostRuntime) -> Result<(), Fail> {
+    let set = Set::<EmptyStaticAtomSet>::new(rt.alloc())?;
+    let text = str::from_utf8(EXAMPLE).expect(&rt, "a text");
+    let gate = BothEnter::new();
+    let counts = count(&rt, &set, text, 2, &gate).expect(&rt, "counts");
+    assert!(rt; are(&counts, &EXAMPLE_COUNTS));
+    assert!(rt; !gate.was_missed());
+    Ok(())
+}
+
+/// Of one word and two pieces, the first piece has none.
+#[test]
+fn empty_pieces(rt: HostRuntime) -> Result<(), Fail> {
+    let set = Set::<EmptyStaticAtomSet>::new(rt.alloc())?;
+    let gate = BothEnter::new();
+    let counts = count(&rt, &set, "a", 2, &gate).expect(&rt, "counts");
+    assert!(rt; are(&counts, &[("a", 1)]));
+    assert!(rt; !gate.was_missed());
+    let watch = Watch::new(&set);
+    let counts = count(&rt, &set, "", 64, &watch).expect(&rt, "counts");
+    assert!(rt; counts.is_empty());
+    assert!(rt; watch.passed() == (64, 64));
+    Ok(())
+}
+
+/// Two workers that hold the same text hold one entry, past `leave`.
+#[test]
+fn workers_share_entries(rt: HostRuntime) -> Result<(), Fail> {
+    let set = Set::<EmptyStaticAtomSet>::new(rt.alloc())?;
+    let gate = BothLeave::new(&set);
+    let counts = count(&rt, &set, "interned interned", 2, &gate).expect(&rt, "counts");
+    assert!(rt; are(&counts, &[("interned", 2)]));
+    assert!(rt; !gate.was_missed());
+    assert_eq!(rt; gate.linked(), 1);
+    Ok(())
+}
+
+/// A worker interns between `enter` and `leave`, and still holds its atoms in `leave`.
+#[test]
+fn workers_intern_between_the_calls(rt: HostRuntime) -> Result<(), Fail> {
+    let set = Set::<EmptyStaticAtomSet>::new(rt.alloc())?;
+    let watch = Watch::new(&set);
+    let counts = count(&rt, &set, "interned", 1, &watch).expect(&rt, "counts");
+    assert!(rt; are(&counts, &[("interned", 1)]));
+    assert!(rt; watch.linked() == (0, 1));
+    Ok(())
+}
+
+/// A refused worker still holds what it interned in `leave`.
+#[test]
+fn refused_workers_hold_their_atoms(rt: HostRuntime) -> Result<(), Fail> {
+    let limits = Limits::new(2, 9).expect(&rt, "limits");
+    let set = Set::<EmptyStaticAtomSet>::with_limits(rt.alloc(), limits)?;
+    let watch = Watch::new(&set);
+    let answer = count(&rt, &set, "interned interned interned", 1, &watch);
+    assert!(rt; matches!(answer, Err(AppFault::Intern(Fault::FullCount))));
+    assert!(rt; watch.linked() == (0, 1));
+    assert!(rt; set.linked(&rt) == 0);
+    Ok(())
+}
+
+/// Each place is a holder, also of a word that came before.
+#[test]
+fn every_place_is_interned(rt: HostRuntime) -> Result<(), Fail> {
+    let limits = Limits::new(2, 9).expect(&rt, "limits");
+    let set = Set::<EmptyStaticAtomSet>::with_limits(rt.alloc(), limits)?;
+    let counts = count(&rt, &set, "interned interned", 1, &Open).expect(&rt, "counts");
+    assert!(rt; are(&counts, &[("interned", 2)]));
+    drop(counts);
+    let answer = count(&rt, &set, "interned interned interned", 1, &Open);
+    assert!(rt; matches!(answer, Err(AppFault::Intern(Fault::FullCount))));
+    Ok(())
+}
+
+/// Of two workers that are refused, the fault of the first piece is answered, and no atom stays.
+#[test]
+fn lowest_fault_is_answered(rt: HostRuntime) -> Result<(), Fail> {
+    let limits = Limits::new(1, 1).expect(&rt, "limits");
+    let set = Set::<EmptyStaticAtomSet>::with_limits(rt.alloc(), limits)?;
+    let held = Atom::from_str_in(&rt, &set, "interned")?;
+    drop(Atom::from_str_in(&rt, &set, "tokenised")?);
+    let answer = count(&rt, &set, "interned tokenised", 2, &Open);
+    assert!(rt; matches!(answer, Err(AppFault::Intern(Fault::FullCount))));
+    let answer = count(&rt, &set, "tokenised interned", 2, &Open);
+    assert!(rt; matches!(answer, Err(AppFault::Intern(Fault::TicketsSpent))));
+    assert!(rt; set.linked(&rt) == 1);
+    assert!(rt; held.eq_str("interned"));
+    Ok(())
+}
+
+/// What other workers interned is gone after a refusal.
+#[test]
+fn refusals_let_go_of_all(rt: HostRuntime) -> Result<(), Fail> {
+    let limits = Limits::new(1, 9).expect(&rt, "limits");
+    let set = Set::<EmptyStaticAtomSet>::with_limits(rt.alloc(), limits)?;
+    let held = Atom::from_str_in(&rt, &set, "interned")?;
+    for text in ["interned tokenised repeated", "repeated tokenised interned"] {
+        let answer = count(&rt, &set, text, 3, &Open);
+        assert!(rt;
+            matches!(answer, Err(AppFault::Intern(Fault::FullCount))),
+            "of {text:?}"
+        );
+        assert!(rt; set.linked(&rt) == 1, "of {text:?}");
+    }
+    assert!(rt; held.eq_str("interned"));
+    Ok(())
+}
+
+/// Clones a borrowed atom, compares its text, and drops the clone.
+fn is_cloned<R: Wait>(rt: &R, atom: &Atom<EmptyStaticAtomSet>) -> bool {
+    match atom.clone_atom(rt) {
+        Ok(clone) => clone.eq_str("interned"),
+        Err(_) => false,
+    }
+}
+
+/// What two workers answer who borrow an atom that a third one interned.
+fn lent_to_two<'e, R: Threads + Wait + Sync>(
+    rt: &'e R,
+    atom: &'e Atom<'e, EmptyStaticAtomSet>,
+) -> Option<(bool, bool)> {
+    thread::scope(thread::scope_env::<'e>(), rt, |scope| {
+        let first = scope.spawn(move || is_cloned(rt, atom)).ok()?;
+        let second = scope.spawn(move || is_cloned(rt, atom)).ok()?;
+        Some((first.join(rt), second.join(rt)))
+    })
+}
+
+/// The atom of "interned" that a worker gives.
+fn interned_by_worker<'e, R: Threads + Wait + Sync>(
+    rt: &'e R,
+    set: &'e Set<EmptyStaticAtomSet>,
+) -> Option<Atom<'e, EmptyStaticAtomSet>> {
+    thread::scope(thread::scope_env::<'e>(), rt, |scope| {
+        let worker = scope
+            .spawn(move || Atom::from_str_in(rt, set, "interned"))
+            .ok()?;
+        worker.join(rt).ok()
+    })
+}
+
+#[test]
+fn atoms_cross_threads(rt: HostRuntime) -> Result<(), Fail> {
+    let set = Set::<EmptyStaticAtomSet>::new(rt.alloc())?;
+    let atom = interned_by_worker(&rt, &set).expect(&rt, "an atom");
+    assert!(rt; lent_to_two(&rt, &atom) == Some((true, true)));
+    assert!(rt; atom.eq_str("interned"));
+    drop(atom);
+    assert!(rt; set.linked(&rt) == 0);
+    Ok(())
+}
+
+/// Each request for memory refused in turn: the second call gets the counts, and nothing stays of the first.
+#[test]
+fn refused_memory_of_workers(rt: HostRuntime) -> Result<(), Fail> {
+    let set = Set::<EmptyStaticAtomSet>::new(rt.alloc())?;
+    let text = str::from_utf8(EXAMPLE).expect(&rt, "a text");
+    let answer = count(&rt, &set, text, 3, &Open);
+    if let Err(fault) = &answer {
+        assert!(rt; *fault == AppFault::Intern(Fault::Memory) || *fault == AppFault::Worker);
+        assert!(rt; set.linked(&rt) == 0);
+    }
+    drop(answer);
+    let counts = counts_of(&rt, &set, text, 3, &Open).expect(&rt, "counts");
+    assert!(rt; are(&counts, &EXAMPLE_COUNTS));
+    Ok(())
+}

@@ -1,0 +1,140 @@
+// The chain: counts over the nodes, and the memory of each.
+ghost use Rattle.std.specs.Prelude.{◌≡◌, ◌<◌, List, [], ◌∷◌, ◌++◌, length, IfOk, IfErr};
+ghost use Rattle.node_chain.specs.Walked.{IsNext, at_start, passed_by, taken_out};
+
+use crate::nodes::{Node, Nodes, RawBox};
+use std::alloc::{AllocFailed, Global};
+use std::marker::Model;
+use std::ptr::null_mut;
+
+/// A list of items with a place in it: those that were passed, and those that are left. Contracts see both.
+///
+/// Each item lies in a node of its own on the heap, which leads to the next. The drop frees all nodes and drops their items,
+/// first to last, in a loop.
+pub struct NodeChain<T> {
+    nodes: Nodes<T>,
+    len: usize,
+    passed: usize,
+    alloc: Global,
+}
+
+impl<T> Model for NodeChain<T> {
+    ghost use Rattle.std.specs.Prelude.{◌≡◌, ◌+◌, length, reverse};
+    ghost use Rattle.node_chain.specs.Walked.{Walked};
+
+    ghost Value = { Walked T };
+
+    ghost view = { λ c. record { passed = reverse c.nodes.passed; left = c.nodes.left } };
+
+    ghost invariant = { λ c. (c.len ≡ length c.nodes.passed + length c.nodes.left) × (c.passed ≡ length c.nodes.passed) };
+}
+
+impl<T> NodeChain<T> {
+    /// A chain without items. It takes no memory.
+    pub fn new(alloc: Global) -> NodeChain<T>
+        ensures { result ≡ at_start [] }
+    {
+        NodeChain {
+            nodes: Nodes::new(),
+            len: 0,
+            passed: 0,
+            alloc,
+        }
+    }
+
+    /// How many items are left.
+    pub fn remaining(&self) -> usize
+        ensures { result ≡ length self.now.left }
+    {
+        self.len - self.passed
+    }
+
+    /// The next item: the first that is left, or `None` where none is.
+    pub fn look(&self) -> Option<&T>
+        ensures { IsNext self.now.left result }
+    {
+        if self.passed < self.len {
+            Some(self.nodes.next_item())
+        } else {
+            None
+        }
+    }
+
+    /// Passes the next item by. `look` tells whether there is one.
+    pub fn keep(&mut self)
+        requires { 0 < length self.old.left }
+        ensures { self.new ≡ passed_by self.old self.old.left }
+    {
+        self.nodes.keep();
+        self.passed += 1;
+    }
+
+    /// Goes back to the first item, so that all are left.
+    pub fn rewind(&mut self)
+        ensures { self.new ≡ at_start (self.old.passed ++ self.old.left) }
+    {
+        self.nodes.rewind();
+        self.passed = 0;
+    }
+}
+
+impl<T: Drop> NodeChain<T> {
+    /// Adds an item before all others, where none was passed.
+    ///
+    /// A refusal is for want of memory. It gives the item back, and leaves the chain as it was.
+    pub fn add_head(&mut self, item: T) -> Result<(), AllocFailed<T>>
+        requires { self.old.passed ≡ [] }
+        ensures added { IfOk result (λ _. self.new ≡ at_start (item ∷ self.old.left)) }
+        ensures refused { IfErr result (λ e. (e.value ≡ item) × (self.new ≡ self.old)) }
+    {
+        let Some(len) = self.len.checked_add(1) else {
+            return Err(AllocFailed { value: item });
+        };
+        let node = Node {
+            next: null_mut(),
+            item,
+        };
+        match Box::new(self.alloc, node) {
+            Ok(node) => {
+                self.nodes.add_head(RawBox::from_box(node));
+                self.len = len;
+                Ok(())
+            }
+            Err(AllocFailed { value }) => {
+                let Node { next: _, item } = value;
+                Err(AllocFailed { value: item })
+            }
+        }
+    }
+
+    /// Takes the next item out and gives it, and frees its node. `look` tells whether there is one.
+    pub fn take_out(&mut self) -> T
+        requires { 0 < length self.old.left }
+        ensures taken { (rest : List T) × (self.old.left ≡ result ∷ rest) }
+        ensures rest { self.new ≡ taken_out self.old self.old.left }
+    {
+        let node = if self.passed == 0 {
+            self.nodes.take_head(self.alloc)
+        } else {
+            self.nodes.take_next(self.alloc)
+        };
+        self.len -= 1;
+        let Node { next: _, item } = Box::into_inner(node.into_box());
+        item
+    }
+}
+
+impl<T: Drop> Drop for NodeChain<T> {
+    fn drop(mut self) {
+        self.rewind();
+        while self.remaining() > 0 {
+            drop(self.take_out());
+        }
+        let Self {
+            nodes: _,
+            len: _,
+            passed: _,
+            alloc: _,
+        } = self;
+    }
+}

@@ -1,0 +1,150 @@
+// Nodes that lead to one another, with a place among them. Only this file follows pointers.
+ghost use Rattle.std.specs.Prelude.{◌≡◌, ◌<◌, List, [], ◌∷◌, ◌++◌, length, reverse};
+ghost use denote.RawPtr.{Ptr};
+ghost use Rattle.std_alloc.specs.Box.Ownership.{box_owns};
+ghost use Rattle.node_chain.specs.Nodes.{both_own, next_lent};
+
+use std::alloc::{Allocator, Global};
+use std::marker::Model;
+use std::ptr::null_mut;
+
+/// A node. The last one leads nowhere.
+#[derive(Drop)]
+pub(crate) struct Node<T> {
+    pub(crate) next: *mut Node<T>,
+    pub(crate) item: T,
+}
+
+/// A box as its pointer.
+pub(crate) struct RawBox<T, A: Allocator> {
+    at: *mut T,
+    alloc: A,
+    pub(crate) ghost value: { T },
+}
+
+impl<T, A: Allocator> Model for RawBox<T, A> {
+    ghost also_owns = { λ b. box_owns (A.dealloc_token b.alloc) T.row b.at b.value };
+}
+
+impl<T: Drop, A: Allocator> RawBox<T, A> {
+    pub(crate) fn from_box(boxed: Box<T, A>) -> RawBox<T, A>
+        ensures { result.value ≡ boxed.value }
+    {
+        let (at, alloc) = Box::into_raw_with_allocator(boxed);
+        RawBox { at, alloc }
+    }
+
+    pub(crate) fn into_box(self) -> Box<T, A>
+        ensures { result.value ≡ self.value }
+    {
+        let RawBox { at, alloc } = self;
+        unsafe { Box::from_raw(alloc, at) }
+    }
+}
+
+/// Nodes that were passed, and nodes that are left. `head` leads to the first of all, `previous` to the one that was passed
+/// last, and `next` to the first that is left; each leads nowhere where there is no such node.
+///
+/// `passed` are the items that were passed, the last one first, and `priors` the pointers to the node before each; `left`
+/// are the items that are left, and `nexts` where their nodes lead.
+///
+/// Its drop frees nothing.
+#[derive(Drop)]
+pub(crate) struct Nodes<T> {
+    head: *mut Node<T>,
+    previous: *mut Node<T>,
+    next: *mut Node<T>,
+    ghost priors: { List Ptr },
+    ghost passed: { List T },
+    ghost nexts: { List Ptr },
+    ghost left: { List T },
+}
+
+impl<T> Model for Nodes<T> {
+    ghost also_owns = { λ s. both_own T.row s.head s.previous s.next s.priors s.passed s.nexts s.left };
+
+    ghost also_shares = { λ s _ κ. next_lent T.row s.next s.nexts s.left κ };
+}
+
+unsafe impl<T: Send> Send for Nodes<T> {}
+
+unsafe impl<T: Sync> Sync for Nodes<T> {}
+
+impl<T> Nodes<T> {
+    /// No nodes.
+    pub(crate) fn new() -> Nodes<T>
+        ensures { (result.passed ≡ []) × (result.left ≡ []) }
+    {
+        Nodes {
+            head: null_mut(),
+            previous: null_mut(),
+            next: null_mut(),
+        }
+    }
+
+    /// Puts the node before all others, where none was passed.
+    pub(crate) fn add_head(&mut self, node: RawBox<Node<T>, Global>)
+        requires { self.old.passed ≡ [] }
+        ensures { (self.new.passed ≡ []) × (self.new.left ≡ node.value.item ∷ self.old.left) }
+    {
+        let RawBox { at, alloc: _ } = node;
+        unsafe {
+            (*at).next = self.next;
+        }
+        self.next = at;
+        self.head = at;
+    }
+
+    /// What the first node that is left holds.
+    pub(crate) fn next_item(&self) -> &T
+        requires { 0 < length self.now.left }
+        ensures { (rest : List T) × (self.now.left ≡ result.now ∷ rest) }
+    {
+        unsafe { &(*self.next).item }
+    }
+
+    /// Passes the first node that is left.
+    pub(crate) fn keep(&mut self)
+        requires { 0 < length self.old.left }
+        ensures { (x : T) × (self.old.left ≡ x ∷ self.new.left) × (self.new.passed ≡ x ∷ self.old.passed) }
+    {
+        let at = self.next;
+        self.previous = at;
+        unsafe {
+            self.next = (*at).next;
+        }
+    }
+
+    /// Goes back to the first node of all.
+    pub(crate) fn rewind(&mut self)
+        ensures { (self.new.passed ≡ []) × (self.new.left ≡ reverse self.old.passed ++ self.old.left) }
+    {
+        self.next = self.head;
+    }
+
+    /// Takes the first node of all out, where none was passed.
+    pub(crate) fn take_head(&mut self, alloc: Global) -> RawBox<Node<T>, Global>
+        requires { (self.old.passed ≡ []) × (0 < length self.old.left) }
+        ensures { (self.old.left ≡ result.value.item ∷ self.new.left) × (self.new.passed ≡ []) }
+    {
+        let at = self.next;
+        unsafe {
+            self.next = (*at).next;
+        }
+        self.head = self.next;
+        RawBox { at, alloc }
+    }
+
+    /// Takes the first node that is left out, where some were passed: the one before then leads to the one behind.
+    pub(crate) fn take_next(&mut self, alloc: Global) -> RawBox<Node<T>, Global>
+        requires { (0 < length self.old.passed) × (0 < length self.old.left) }
+        ensures { (self.old.left ≡ result.value.item ∷ self.new.left) × (self.new.passed ≡ self.old.passed) }
+    {
+        let at = self.next;
+        unsafe {
+            self.next = (*at).next;
+            (*self.previous).next = self.next;
+        }
+        RawBox { at, alloc }
+    }
+}

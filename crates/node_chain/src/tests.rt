@@ -1,0 +1,144 @@
+// What no clause says: that memory is found, what becomes of the items at the end, and how deep that goes. All pass also
+// where any one request for memory is refused, as under `rt try --test --fail-alloc N`.
+use crate::NodeChain;
+use std::alloc::Global;
+use std::process::Abort;
+use std::sync::atomic::{AtomicU64, Ordering};
+use std::test::Fail;
+
+/// Puts its digit behind those of the marks that ended before it.
+struct Mark<'a> {
+    ended: &'a AtomicU64,
+    digit: u64,
+}
+
+impl<'a> Drop for Mark<'a> {
+    fn drop(self) {
+        let Self { ended, digit } = self;
+        let before = ended.load(Ordering::SeqCst);
+        ended.store(followed(before, digit), Ordering::SeqCst);
+    }
+}
+
+/// The number with one digit more.
+fn followed(number: u64, digit: u64) -> u64 {
+    number.wrapping_mul(10).wrapping_add(digit)
+}
+
+/// The digits of all items, which are left in that order.
+fn digits(chain: &mut NodeChain<Mark>) -> u64 {
+    chain.rewind();
+    let mut number = 0u64;
+    for _ in 0..chain.remaining() {
+        let Some(mark) = chain.look() else {
+            break;
+        };
+        number = followed(number, mark.digit);
+        chain.keep();
+    }
+    chain.rewind();
+    number
+}
+
+/// Adds a mark as the first. Where that is refused, the mark comes back and nothing has changed; it is then added again.
+fn add<'a>(
+    rt: &impl Abort,
+    chain: &mut NodeChain<Mark<'a>>,
+    ended: &'a AtomicU64,
+    digit: u64,
+) -> Result<(), Fail> {
+    let (number, so_far) = (digits(chain), ended.load(Ordering::SeqCst));
+    chain.rewind();
+    if let Err(refused) = chain.add_head(Mark { ended, digit }) {
+        assert!(rt; refused.value.digit == digit);
+        assert!(rt; digits(chain) == number);
+        assert!(rt; ended.load(Ordering::SeqCst) == so_far);
+        chain.rewind();
+        chain.add_head(refused.value)?;
+    }
+    Ok(())
+}
+
+/// A chain whose digits are 54321.
+fn five<'a>(
+    rt: &impl Abort,
+    alloc: Global,
+    ended: &'a AtomicU64,
+) -> Result<NodeChain<Mark<'a>>, Fail> {
+    let mut chain = NodeChain::new(alloc);
+    assert!(rt; chain.look().is_none());
+    for digit in 1..6u64 {
+        add(rt, &mut chain, ended, digit)?;
+    }
+    assert!(rt; digits(&mut chain) == 54321);
+    Ok(chain)
+}
+
+#[test]
+fn items_are_taken_out_anywhere(rt: HostRuntime) -> Result<(), Fail> {
+    // The digits that are taken out, those that stay, and the order in which all end, once a sixth was added.
+    for (out, stay, ends) in [
+        (&[][..], 54321, 654321),
+        (&[5], 4321, 564321),
+        (&[3], 5421, 365421),
+        (&[1], 5432, 165432),
+        (&[5, 4], 321, 546321),
+        (&[4, 3], 521, 436521),
+        (&[2, 1], 543, 216543),
+        (&[5, 3, 1], 42, 531642),
+        (&[4, 2], 531, 426531),
+        (&[5, 4, 3, 2, 1], 0, 543216),
+    ] {
+        let ended = AtomicU64::new(0);
+        let mut chain = five(&rt, rt.alloc(), &ended)?;
+        for _ in 0..chain.remaining() {
+            let Some(mark) = chain.look() else {
+                break;
+            };
+            if out.contains(&mark.digit) {
+                drop(chain.take_out());
+            } else {
+                chain.keep();
+            }
+        }
+        assert!(rt; chain.look().is_none());
+        assert!(rt; chain.remaining() == 0);
+        assert!(rt; digits(&mut chain) == stay);
+        add(&rt, &mut chain, &ended, 6)?;
+        drop(chain);
+        assert!(rt; ended.load(Ordering::SeqCst) == ends);
+    }
+    Ok(())
+}
+
+#[test]
+fn items_that_were_passed_end_as_well(rt: HostRuntime) -> Result<(), Fail> {
+    let ended = AtomicU64::new(0);
+    let mut chain = five(&rt, rt.alloc(), &ended)?;
+    for _ in 0..2u64 {
+        if chain.look().is_some() {
+            chain.keep();
+        }
+    }
+    assert!(rt; matches!(chain.look(), Some(mark) if mark.digit == 3));
+    assert!(rt; chain.remaining() == 3);
+    drop(chain);
+    assert!(rt; ended.load(Ordering::SeqCst) == 54321);
+    Ok(())
+}
+
+/// An end that called itself for each next node would want more stack than there is.
+#[test]
+fn a_long_chain_ends(rt: HostRuntime) -> Result<(), Fail> {
+    let mut chain = NodeChain::new(rt.alloc());
+    for number in 0..200_000u64 {
+        chain.rewind();
+        if let Err(refused) = chain.add_head(number) {
+            chain.rewind();
+            chain.add_head(refused.value)?;
+        }
+    }
+    assert!(rt; chain.remaining() == 200_000);
+    drop(chain);
+    Ok(())
+}

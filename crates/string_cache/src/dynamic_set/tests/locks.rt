@@ -1,0 +1,188 @@
+// Buckets' locks that are held meanwhile, and what stays linked. By OpenSSL's SipHash the bucket of "afterwards" is 0, of
+// "geometric" 0xfff, and of "forgotten" and "magnitude" 0x72f.
+use crate::dynamic_set::Set;
+use crate::samples::One;
+use crate::static_sets::EmptyStaticAtomSet;
+use crate::word::ticket_word;
+use crate::{Atom, DefaultAtom, Fault};
+use serde_json::Value;
+use std::sync::Wait;
+use std::sync::atomic::{AtomicBool, Ordering};
+use std::test::Fail;
+use std::thread::{self, Threads};
+use std::time::{Clock, Duration};
+
+/// The other buckets' locks are free meanwhile, and the drop returns.
+#[test]
+fn last_drop_under_a_held_lock(rt: HostRuntime) -> Result<(), Fail> {
+    let set: Set<EmptyStaticAtomSet> = Set::new(rt.alloc())?;
+    let atom = Atom::from_str_in(&rt, &set, "interned")?;
+    let held = set.buckets[0x210].lock(&rt);
+    for (at, bucket) in set.buckets.iter().enumerate() {
+        assert!(rt; bucket.try_lock().is_some() == (at != 0x210));
+    }
+    drop(atom);
+    drop(held);
+    assert!(rt; set.linked(&rt) == 1);
+    set.sweep(&rt);
+    assert!(rt; set.linked(&rt) == 0);
+    Ok(())
+}
+
+#[test]
+fn text_of_a_dying_entry_gets_a_new_one(rt: HostRuntime) -> Result<(), Fail> {
+    let set: Set<EmptyStaticAtomSet> = Set::new(rt.alloc())?;
+    let atom = Atom::from_str_in(&rt, &set, "interned")?;
+    let held = set.buckets[0x210].lock(&rt);
+    drop(atom);
+    drop(held);
+    let next = Atom::from_str_in(&rt, &set, "interned")?;
+    assert!(rt; next.unsafe_data() == ticket_word(2, 0x210));
+    assert!(rt; set.linked(&rt) == 1);
+    Ok(())
+}
+
+/// Passes for the other text, interning both again, sweeps and drops that aren't the last leave an entry that has a share.
+#[test]
+fn held_texts_stay_linked(rt: HostRuntime) -> Result<(), Fail> {
+    let set: Set<EmptyStaticAtomSet> = Set::new(rt.alloc())?;
+    let forgotten = Atom::from_str_in(&rt, &set, "forgotten")?;
+    let magnitude = Atom::from_str_in(&rt, &set, "magnitude")?;
+    assert!(rt; forgotten.unsafe_data() == ticket_word(1, 0x72f));
+    assert!(rt; magnitude.unsafe_data() == ticket_word(2, 0x72f));
+    for _ in 0..2 {
+        assert!(rt;
+            Atom::from_str_in(&rt, &set, "forgotten")?.unsafe_data() == forgotten.unsafe_data()
+        );
+        assert!(rt;
+            Atom::from_str_in(&rt, &set, "magnitude")?.unsafe_data() == magnitude.unsafe_data()
+        );
+        set.sweep(&rt);
+        assert!(rt; set.linked(&rt) == 2);
+    }
+    drop(forgotten);
+    assert!(rt; set.linked(&rt) == 1 && magnitude.as_str() == "magnitude");
+    Ok(())
+}
+
+/// Entries die under held locks, so that their own drops leave them linked.
+#[test]
+fn sweep_reaches_each_bucket(rt: HostRuntime) -> Result<(), Fail> {
+    let set: Set<EmptyStaticAtomSet> = Set::new(rt.alloc())?;
+    let mut atoms = Vec::new(rt.alloc());
+    for text in ["afterwards", "forgotten", "magnitude", "geometric"] {
+        atoms.push(Atom::from_str_in(&rt, &set, text)?)?;
+    }
+    assert!(rt; set.linked(&rt) == 4);
+    let held = (
+        set.buckets[0].lock(&rt),
+        set.buckets[0x72f].lock(&rt),
+        set.buckets[0xfff].lock(&rt),
+    );
+    drop(atoms);
+    drop(held);
+    assert!(rt; set.linked(&rt) == 4);
+    set.sweep(&rt);
+    assert!(rt; set.linked(&rt) == 0);
+    Ok(())
+}
+
+#[test]
+fn drop_of_one_of_two_shares_takes_out_nothing(rt: HostRuntime) -> Result<(), Fail> {
+    let set: Set<EmptyStaticAtomSet> = Set::new(rt.alloc())?;
+    let dying = Atom::from_str_in(&rt, &set, "forgotten")?;
+    let first = Atom::from_str_in(&rt, &set, "magnitude")?;
+    let second = first.clone_atom(&rt)?;
+    let held = set.buckets[0x72f].lock(&rt);
+    drop(dying);
+    drop(held);
+    drop(second);
+    assert!(rt; set.linked(&rt) == 2);
+    drop(first);
+    assert!(rt; set.linked(&rt) == 0);
+    Ok(())
+}
+
+/// What the call gives, and whether it ended while this thread had the locks. They are let go after ten seconds.
+fn beside<R: Threads + Clock, L: Drop, T: Send, F: FnOnce() -> T + Send>(
+    rt: &R,
+    locks: L,
+    call: F,
+) -> (T, bool)
+    requires { F.pre call }
+{
+    let has_ended = AtomicBool::new(false);
+    let ended = &has_ended;
+    thread::join(
+        rt,
+        move || {
+            let given = call();
+            ended.store(true, Ordering::SeqCst);
+            given
+        },
+        move || {
+            for _ in 0..10_000 {
+                if ended.load(Ordering::SeqCst) {
+                    break;
+                }
+                thread::sleep(rt, Duration::from_millis(1));
+            }
+            let before = ended.load(Ordering::SeqCst);
+            drop(locks);
+            before
+        },
+    )
+}
+
+/// Interns, clones and drops an inline and a static text, and reads JSON values. Whether each was as it should be.
+fn work_without_locks<R: Wait>(rt: &R, set: &Set<One>, dynamic: &Atom<One>) -> Result<bool, Fault> {
+    let mut is_right = Atom::from_json_in(rt, set, &Value::Null).err() == Some(Fault::NotText);
+    for text in ["foo", "sentence"] {
+        let atom = Atom::from_str_in(rt, set, text)?;
+        let clone = atom.clone_atom(rt)?;
+        let lower = clone.to_ascii_lowercase_in(rt, set)?;
+        is_right = is_right && lower.eq_str(text) && !lower.is_dynamic();
+    }
+    drop(dynamic.clone_atom(rt)?);
+    Ok(is_right && dynamic.eq_str("interned"))
+}
+
+#[test]
+fn calls_that_take_no_lock(rt: HostRuntime) -> Result<(), Fail> {
+    let set: Set<One> = Set::new(rt.alloc())?;
+    let dynamic = Atom::from_str_in(&rt, &set, "interned")?;
+    let mut held = Vec::new(rt.alloc());
+    for bucket in &set.buckets {
+        held.push(bucket.lock(&rt))?;
+    }
+    let (handle, shared, atom) = (&rt, &set, &dynamic);
+    let (is_right, ended) = beside(&rt, held, || work_without_locks(handle, shared, atom));
+    assert!(rt; ended);
+    assert!(rt; is_right?);
+    Ok(())
+}
+
+/// Interns a text twice, and drops both atoms. Whether their words were the first ticket's.
+fn intern_twice<R: Wait>(rt: &R, set: &Set<EmptyStaticAtomSet>) -> Result<bool, Fault> {
+    let first = DefaultAtom::from_str_in(rt, set, "interned")?;
+    let second = DefaultAtom::from_str_in(rt, set, "interned")?;
+    let word = ticket_word(1, 0x210);
+    Ok(first.unsafe_data() == word && second.unsafe_data() == word)
+}
+
+#[test]
+fn interning_takes_the_lock_of_one_bucket(rt: HostRuntime) -> Result<(), Fail> {
+    let set: Set<EmptyStaticAtomSet> = Set::new(rt.alloc())?;
+    let mut held = Vec::new(rt.alloc());
+    for (at, bucket) in set.buckets.iter().enumerate() {
+        if at != 0x210 {
+            held.push(bucket.lock(&rt))?;
+        }
+    }
+    let (handle, shared) = (&rt, &set);
+    let (is_first, ended) = beside(&rt, held, || intern_twice(handle, shared));
+    assert!(rt; ended);
+    assert!(rt; is_first?);
+    assert!(rt; set.linked(&rt) == 0);
+    Ok(())
+}

@@ -1,0 +1,38 @@
+-- What callers of a table cite beside its contracts.
+use Rattle.std.proofs.Common.{◌≡◌, ◌∙◌, sym, subst, refl, ℕ, ◌≤◌, inl, inr, List, [], ◌∷◌, ◌++◌, length, nat_lt, false}
+use Rattle.std.specs.Str.{IsUtf8}
+use Rattle.std.proofs.lemmas.Bool.{le-ltb}
+use Rattle.string_cache_core.specs.declared.static_sets.TextForm.{TextForm}
+use Rattle.string_cache_core.specs.declared.static_sets.TextForm.TheVariants.{Inline}
+use Rattle.string_cache_core.specs.Map.{InternMap}
+use Rattle.string_cache_core.specs.Table.{AreHeld, HasWord, HasWordBy, IsHeld, IsTextOf}
+use Rattle.string_cache_core.specs.Tables.{Tables, fixed_word, form_of_text}
+use Rattle.string_cache_core.specs.Word.{IsInlineText, IsInlineWord, inline_word}
+use Rattle.string_cache_core.proofs.CallsKeep.{listed-held}
+use Rattle.string_cache_core.proofs.WordsApart.{has}
+
+-- no word is listed at first
+pub none-listed : (t : Tables) (m : InternMap) → AreHeld t m []
+none-listed t m = λ word. inl refl
+
+-- the first of the listed words is held
+pub first-held : (t : Tables) (m : InternMap) (word : ℕ) (words : List ℕ) → AreHeld t m (word ∷ words) → IsHeld t m word
+first-held t m word words all = listed-held t m m word [] words all
+
+-- so is any of them
+pub middle-held : (t : Tables) (m : InternMap) (before : List ℕ) (word : ℕ) (after : List ℕ) → AreHeld t m (before ++ word ∷ after) → IsHeld t m word
+middle-held t m before word after all = listed-held t m m word before after all
+
+-- the text that unpacking gives has the word, in any table
+pub inline-owned : (t : Tables) (m : InternMap) (text : List ℕ) (word : ℕ) → IsInlineText text → inline_word text ≡ word → HasWord t m text word
+inline-owned t m text word inline is =
+    let test : nat_lt 7 (length text) ≡ false = le-ltb 7 (length text) inline.1 in
+    let form : form_of_text t text ≡ Inline (inline_word text) = rw test refl in
+    subst (λ (f : TextForm). HasWordBy m text (fixed_word f) word) (sym form) (sym is)
+
+-- any word of a text but an inline one lends it
+pub owned-lent : (t : Tables) (m : InternMap) (text : List ℕ) (word : ℕ) → IsUtf8 text → HasWord t m text word → ¬ (IsInlineWord word) → IsTextOf t m word text
+owned-lent t m text word utf8 owned other = elim (has t m text word utf8 owned) [
+  | inl i ↦ absurd (other (text, i.0, sym i.1))
+  | inr lent ↦ lent
+]

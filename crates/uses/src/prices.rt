@@ -1,0 +1,29 @@
+// A map whose keys are atoms.
+ghost use Rattle.std.specs.Prelude.{◌≡◌, ◌≢◌, ℕ, List, OnOk, Some};
+ghost use Rattle.uses.specs.Prices.{price_in};
+
+use std::collections::HashMap;
+use string_cache::{DefaultAtom, Fault};
+
+/// Prices by name.
+pub type Prices<'s> = HashMap<DefaultAtom<'s>, u32>;
+
+/// Puts a price on a name.
+pub fn set_price<'s>(
+    prices: &mut Prices<'s>,
+    name: DefaultAtom<'s>,
+    price: u32,
+) -> Result<(), Fault>
+    ensures price { OnOk result (price_in prices.new.entries name.entry.text ≡ Some price) }
+    ensures others { OnOk result ((other : List ℕ) → other ≢ name.entry.text → price_in prices.new.entries other ≡ price_in prices.old.entries other) }
+{
+    prices.insert(name, price)?;
+    Ok(())
+}
+
+/// The price of a name, which any atom of its text finds.
+pub fn price_of(prices: &Prices, name: &DefaultAtom) -> Option<u32>
+    ensures { result ≡ price_in prices.now.entries name.now.text }
+{
+    prices.get(name).copied()
+}

@@ -1,0 +1,66 @@
+// The names of a program, for one thread.
+ghost use Rattle.std.specs.Prelude.{◌≡◌, ◌↔◌, IfOk, IfSome, IsSome, IsTrue};
+ghost use Rattle.string_cache_core.specs.Kept.{map_of};
+ghost use Rattle.string_cache_core.specs.Table.{HasWord, IsHeld};
+ghost use Rattle.uses.specs.Symbols.{text_in};
+
+use std::alloc::Global;
+use string_cache::table::Table;
+use string_cache::word::{InlineText, unpack_inline};
+use string_cache::{EmptyStaticAtomSet, Fault, StaticAtomSet};
+
+/// Whether two identifiers have one word: exactly if they are one text.
+pub fn same_word(alloc: Global, left: &str, right: &str) -> Result<bool, Fault>
+    ensures { IfOk result (λ same. IsTrue same ↔ (left.now ≡ right.now)) }
+{
+    let mut table = Table::<EmptyStaticAtomSet>::new(alloc)?;
+    let first = table.intern(left)?;
+    let second = table.intern(right)?;
+    Ok(first == second)
+}
+
+/// The text of a word: its own, or one that a table lends.
+#[derive(Clone, Copy)]
+pub enum WordText<'t> {
+    Inline(InlineText),
+    Lent(&'t str),
+}
+
+impl<'t> WordText<'t> {
+    /// The text.
+    pub fn as_str(&self) -> &str
+        ensures { result.now ≡ text_in self.now }
+    {
+        match self {
+            WordText::Inline(text) => text.as_str(),
+            WordText::Lent(text) => text,
+        }
+    }
+}
+
+/// The text of any word that a table holds.
+pub fn text_of<Static: StaticAtomSet>(table: &Table<Static>, word: u64) -> Option<WordText<'_>>
+    ensures found { IsHeld Static.tables (map_of table.now) word → IsSome result }
+    ensures text { IfSome result (λ text. HasWord Static.tables (map_of table.now) (text_in text) word) }
+{
+    match unpack_inline(word) {
+        Some(text) => Some(WordText::Inline(text)),
+        None => Some(WordText::Lent(table.text(word)?)),
+    }
+}
+
+/// Interns a name, reads it back and gives it up again.
+pub fn reads_back<Static: StaticAtomSet>(
+    table: &mut Table<Static>,
+    name: &str,
+) -> Result<bool, Fault>
+    ensures { IfOk result (λ same. IsTrue same) }
+{
+    let word = table.intern(name)?;
+    let is_same = match text_of(table, word) {
+        Some(text) => text.as_str() == name,
+        None => false,
+    };
+    table.give(word);
+    Ok(is_same)
+}

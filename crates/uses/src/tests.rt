@@ -1,0 +1,140 @@
+use super::*;
+use crate::prices::Prices;
+use std::test::Fail;
+use string_cache::table::Table;
+use string_cache::word::{Form, form_of};
+use string_cache::{Atom, EmptyStaticAtomSet};
+
+#[test]
+fn readme_atoms(rt: HostRuntime) -> Result<(), Fail> {
+    assert!(rt; atoms_at_work(&rt, rt.alloc())?);
+    Ok(())
+}
+
+#[test]
+fn texts_are_matched(rt: HostRuntime) -> Result<(), Fail> {
+    let set = Set::new(rt.alloc())?;
+    for (text, wanted) in [("foo", 1), ("bar", 2), ("baz", 3), ("", 0)] {
+        let found = compute_something(&DefaultAtom::from_str_in(&rt, &set, text)?);
+        assert_eq!(rt; found, wanted, "of {text:?}");
+    }
+    Ok(())
+}
+
+#[test]
+fn headers_have_small_letters(rt: HostRuntime) -> Result<(), Fail> {
+    let set = Set::new(rt.alloc())?;
+    let name = header_name(&rt, &set, "Content-Type")?;
+    assert_eq!(rt; name.as_str(), "content-type");
+    assert_eq!(rt; name, header_name(&rt, &set, "CONTENT-TYPE")?);
+    Ok(())
+}
+
+#[test]
+fn atoms_go_through_json(rt: HostRuntime) -> Result<(), Fail> {
+    let set = Set::new(rt.alloc())?;
+    let atom = DefaultAtom::from_str_in(&rt, &set, "interned")?;
+    assert_eq!(rt; through_json(&rt, rt.alloc(), &set, &atom)?, atom);
+    let json = save(rt.alloc(), &atom)?;
+    assert_eq!(rt; json.as_str(), "\"interned\"");
+    let loaded = load(&rt, rt.alloc(), &set, json.as_str()).expect(&rt, "a JSON text");
+    assert_eq!(rt; loaded, atom);
+    for json in ["7", "interned"] {
+        assert!(rt; load(&rt, rt.alloc(), &set, json).is_err(), "of {json}");
+    }
+    Ok(())
+}
+
+/// A price list with one name.
+fn one_price<'s, R: Wait>(
+    rt: &R,
+    alloc: Global,
+    set: &'s Set<EmptyStaticAtomSet>,
+) -> Result<Prices<'s>, Fault> {
+    let mut prices = HashMap::new(alloc);
+    let pear = DefaultAtom::from_str_in(rt, set, "pear tree")?;
+    set_price(&mut prices, pear, 40)?;
+    Ok(prices)
+}
+
+#[test]
+fn prices_are_found_by_text(rt: HostRuntime) -> Result<(), Fail> {
+    let set = Set::new(rt.alloc())?;
+    let prices = one_price(&rt, rt.alloc(), &set)?;
+    let again = DefaultAtom::from_str_in(&rt, &set, "pear tree")?;
+    let plum = DefaultAtom::from_str_in(&rt, &set, "plum tree")?;
+    assert_eq!(rt; price_of(&prices, &again), Some(40));
+    assert_eq!(rt; price_of(&prices, &plum), None);
+    Ok(())
+}
+
+#[test]
+fn threads_agree(rt: HostRuntime) -> Result<(), Fail> {
+    assert!(rt; agree(&rt, rt.alloc(), "tokenised", "tokenised")?);
+    assert!(rt; !agree(&rt, rt.alloc(), "tokenised", "tokenized")?);
+
+    let set = Set::new(rt.alloc())?;
+    assert!(rt; agree_in_scope(&rt, &set, "tokenised", "tokenised")?);
+    assert!(rt; !agree_in_scope(&rt, &set, "tokenised", "tokenized")?);
+    assert_eq!(rt; set.linked(&rt), 0); // their atoms are gone
+    Ok(())
+}
+
+#[test]
+fn tags_are_static(rt: HostRuntime) -> Result<(), Fail> {
+    assert!(rt; TAGS.check() && finds_all::<Tags>());
+    let set = Set::new(rt.alloc())?;
+    for (name, is_static) in [("textarea", true), ("table", false), ("sentence", false)] {
+        let tag = Atom::<Tags>::from_str_in(&rt, &set, name)?;
+        assert_eq!(rt; tag.is_static(), is_static, "of {name}");
+        assert_eq!(rt; is_field(&tag), name == "textarea", "of {name}");
+    }
+    Ok(())
+}
+
+#[test]
+fn names_have_one_word_each(rt: HostRuntime) -> Result<(), Fail> {
+    for (left, right) in [
+        ("interned", "interned"),
+        ("interned", "internal"),
+        ("a", "b"),
+    ] {
+        assert_eq!(rt; same_word(rt.alloc(), left, right)?, left == right);
+    }
+    Ok(())
+}
+
+#[test]
+fn words_of_all_forms_have_texts(rt: HostRuntime) -> Result<(), Fail> {
+    let mut table = Table::<Tags>::new(rt.alloc())?;
+    for name in ["", "table", "textarea", "sentence"] {
+        assert!(rt; reads_back(&mut table, name)?, "of {name:?}");
+    }
+    assert_eq!(rt; table.entries(), 0);
+    assert!(rt; text_of(&table, 3).is_none());
+    Ok(())
+}
+
+#[test]
+fn an_atom_has_24_bytes(rt: HostRuntime) {
+    assert_eq!(rt; size_of::<DefaultAtom>(), 24);
+    assert_eq!(rt; size_of::<Tag>(), 24);
+}
+
+/// Of the words of the original's example, exactly four are dynamic.
+#[test]
+fn forms_of_the_example(rt: HostRuntime) -> Result<(), Fail> {
+    let text =
+        "here is a sentence of text that will be tokenised and\ninterned and some repeated tokens is of text and";
+    let mut table = Table::<EmptyStaticAtomSet>::new(rt.alloc())?;
+    for word in text.split_whitespace() {
+        let form = form_of(table.intern(word)?);
+        let is_dynamic = matches!(form, Some(Form::Dynamic { .. }));
+        let wanted = ["sentence", "tokenised", "interned", "repeated"];
+        assert_eq!(rt; is_dynamic, wanted.contains(&word), "of {word:?}");
+        if !is_dynamic {
+            assert!(rt; matches!(form, Some(Form::Inline(_))), "of {word:?}");
+        }
+    }
+    Ok(())
+}

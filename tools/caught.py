@@ -1,0 +1,170 @@
+#!/usr/bin/env python3
+"""Tries the wrong bodies that no contract sees: each has to fail its test.
+
+A file crates/NAME/caught/*.edit has a first line 'test: FUNCTION', which names the test, and then, as a must-fail edit, lines
+'file: src/..', 'old: TEXT' and 'new: TEXT'. Each edit is applied to a copy of the repository, whose tests run without proofs
+(rt try --test). Before that, each named test has to pass over the crate as it is.
+
+usage: tools/caught.py [--jobs N] [WORD..]     with words: only the edits whose paths contain one of them
+"""
+
+import argparse
+import os
+import queue
+import re
+import shutil
+import subprocess
+import sys
+import tempfile
+import threading
+from dataclasses import dataclass, field
+from pathlib import Path
+
+SECONDS = "60"  # for one test, as the gate gives it
+TEST = re.compile(r"test (\S+) \.\.\. (\w+)")
+
+
+class BadEdit(Exception):
+    """The edit can't be read, or can't be applied."""
+
+
+@dataclass
+class Edit:
+    """A wrong body: the test that has to fail, and what is replaced by what, file by file."""
+
+    path: Path
+    test: str = ""
+    changes: list = field(default_factory=list)
+
+    @property
+    def crate(self):
+        return self.path.parent.parent
+
+    def __str__(self):
+        return f"caught {self.crate.name}/{self.path.name}"
+
+
+def read_edit(path):
+    edit, file, old = Edit(path), None, None
+    for line in path.read_text(encoding="utf-8").splitlines():
+        word, _, text = line.partition(": ")
+        if word == "test":
+            edit.test = text.strip()
+        elif word == "file":
+            file = text.strip()
+        elif word == "old":
+            old = text
+        elif word in ("new", "new:"):
+            if not file or old is None:
+                raise BadEdit("a 'new:' line stands before any 'file:' or 'old:' line")
+            edit.changes.append((file, old, text))
+            old = None
+    if not edit.test or not edit.changes:
+        raise BadEdit("it has no line 'test: FUNCTION', or no pair 'old:' and 'new:'")
+    return edit
+
+
+def edited(edit, root):
+    """The changed texts, by their files in the copy at root."""
+    texts = {}
+    for name, old, new in edit.changes:
+        file = root / "crates" / edit.crate.name / name
+        if file not in texts:
+            if not name.startswith("src/") or not file.is_file():
+                raise BadEdit(f"there is no file {name}")
+            texts[file] = file.read_text(encoding="utf-8")
+        found = texts[file].count(old)
+        if found != 1:
+            raise BadEdit(f"an 'old:' text stands {found} times in {name}, and not once")
+        texts[file] = texts[file].replace(old, new)
+    return texts
+
+
+def outcomes(crate):
+    """Runs the crate's tests without proofs: what became of each, by its name, and all that was said."""
+    command = ["rt", "try", "--test", "--seconds", SECONDS]
+    ran = subprocess.run(command, cwd=crate, stdin=subprocess.DEVNULL, stdout=subprocess.PIPE, stderr=subprocess.STDOUT)
+    said = ran.stdout.decode(errors="replace")
+    return {path.rsplit("::", 1)[-1]: outcome for path, outcome in TEST.findall(said)}, said
+
+
+def judge(edit, root):
+    """Whether the edit's test fails with it, and what to say."""
+    try:
+        texts = edited(edit, root)
+    except BadEdit as why:
+        return False, f"BAD EDIT: {why}"
+    kept = {file: file.read_bytes() for file in texts}
+    try:
+        for file, text in texts.items():
+            file.write_text(text, encoding="utf-8")
+        found, said = outcomes(root / "crates" / edit.crate.name)
+    finally:
+        for file, text in kept.items():
+            file.write_bytes(text)
+    outcome = found.get(edit.test)
+    if outcome == "FAILED":
+        return True, f"{edit.test} fails, as it must"
+    if outcome is None:
+        return False, "BAD EDIT: no such test ran; it said: " + said.strip()[:600]
+    return False, f"NOT CAUGHT: {edit.test} ends with {outcome}"
+
+
+def judge_crate(crate, tests, root):
+    """Whether all the named tests pass over the crate as it is, and what to say."""
+    found, said = outcomes(root / "crates" / crate)
+    bad = sorted(test for test in tests if found.get(test) != "ok")
+    if bad:
+        return False, f"these tests don't pass over the crate as it is: {', '.join(bad)}; it said: {said.strip()[:600]}"
+    return True, f"{len(tests)} tests that catch wrong bodies pass over the crate as it is"
+
+
+def works_in(tasks, results, top):
+    """Takes tasks until none is left, in a copy of the repository of this worker's own."""
+    with tempfile.TemporaryDirectory(prefix="caught-") as room:
+        root = Path(room) / "copy"
+        shutil.copytree(top, root, ignore=shutil.ignore_patterns("out", ".git"))
+        while True:
+            try:
+                label, task = tasks.get_nowait()
+            except queue.Empty:
+                return
+            passed, text = task(root)
+            print(f"{label}: {text}", flush=True)
+            results.append(passed)
+
+
+def main():
+    parser = argparse.ArgumentParser(description=__doc__, formatter_class=argparse.RawDescriptionHelpFormatter)
+    parser.add_argument("--jobs", type=int, default=os.cpu_count() or 1)
+    parser.add_argument("words", nargs="*")
+    given = parser.parse_args()
+    top = Path(__file__).resolve().parent.parent
+    tasks, results, tests = queue.Queue(), [], {}
+    edits = []
+    for path in sorted(top.glob("crates/*/caught/*.edit")):
+        if given.words and not any(word in str(path) for word in given.words):
+            continue
+        try:
+            edit = read_edit(path)
+        except BadEdit as why:
+            print(f"caught {path.parent.parent.name}/{path.name}: BAD EDIT: {why}")
+            results.append(False)
+            continue
+        edits.append(edit)
+        tests.setdefault(edit.crate.name, set()).add(edit.test)
+    for crate, named in sorted(tests.items()):
+        tasks.put((f"caught {crate}", lambda root, crate=crate, named=named: judge_crate(crate, named, root)))
+    for edit in edits:
+        tasks.put((str(edit), lambda root, edit=edit: judge(edit, root)))
+    workers = [threading.Thread(target=works_in, args=(tasks, results, top)) for _ in range(max(1, given.jobs))]
+    for worker in workers:
+        worker.start()
+    for worker in workers:
+        worker.join()
+    print(f"{results.count(True)} passed, {results.count(False)} failed")
+    return 0 if all(results) else 1
+
+
+if __name__ == "__main__":
+    sys.exit(main())
