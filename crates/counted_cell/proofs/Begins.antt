@@ -1,0 +1,55 @@
+-- A cell begins with its count at 1, and its value comes back at the end. Assumes `Logic`.
+use Rattle.std.proofs.Common.{◌≡◌, ℕ, ◌+◌, ◌<◌, ◌≤◌, ◌^◌, Bool, true, false, [], ◌∷◌, refl, subst, arith, lit<}
+use seplogic.Ra.Ura.{Ura}
+use base.Fraction.{full_share}
+use base.FractionLaws.{Counts, Counts-all}
+use base.Logic.{SProp, ent, sep, wand, ex, id⊢, via, all_e, apply∗}
+use base.Fml.{Lft, Share, Incl, Incl-trans, Fml, ftrue, fsep, fex, fwand, flft, fdead, fbor, flent, finv}
+use contract.BorrowLft.{meet_⊑_left, meet_⊑_right}
+use types.Logic.{Logic, sem}
+use types.Kit.{‵, raw, ◌⊛◌, some, later, ◌$◌, ◌∵◌, !, qed, by, move, keep, drop, split, split3, join, group, fsplit, fsplit3, fjoin, fjoin3, fpick, fpack, pick, show, use1, use2, use3, rewrite, updating, await, now, assume, done}
+use types.Tokens.{lft_new, bor_new, lent_back}
+use types.RcWeak.{part, rest, cut, takes}
+use denote.RattleType.{RattleType, RowLaws}
+use denote.RawPtr.{Ptr, block_ptr, lies_at}
+use denote.SharingLaws.{contraction}
+use denote.Steps.{nothing}
+use denote.Struct.Lending.{Lends}
+use Rattle.std.specs.Sync.RawAtomic.{word}
+use Rattle.counted_cell.specs.Counting.{Id, offset, shares_out, counted, standing, phase, Inv, shown, reads, right_to}
+use Rattle.counted_cell.proofs.CellRefLent.{shown_laws}
+
+module _ {M : Type 1} {𝓤 : Ura M} (𝓛 : Logic 𝓤) (R : RattleType) (L : RowLaws R) (b o : ℕ) (x : R.Denot) where
+  open 𝓛 use {H, A}
+
+  abbrev At : Fml
+  At = lies_at R full_share (block_ptr b (o + offset R)) x
+
+  -- the owner's right, a share's, and the lender's right to have the value back
+  abbrev pub Begun : Id → Fml
+  Begun t = fsep (right_to R b o x t 1) (fsep (right_to R b o x t 2) (flent (t.0 ∷ []) At))
+
+  pub begins : (l μ : Lft) (q : Share) (m : ℕ) → 1 ≤ m → ((t : Id) → Lends 𝓛 At (shown R b o x t) l) → Incl μ l
+      → ent 𝓤 (sep 𝓤 (sem 𝓛 (word b (o + 0) 1)) (sep 𝓤 (sem 𝓛 At) (A.lft μ q))) (H.⇛ (sep 𝓤 (sem 𝓛 (fex (ℕ × ℕ) (λ k. Begun (k.0, k.1, m)))) (A.lft μ q)))
+  begins l μ q m room lends inc = qed 𝓛 (‵ (word b (o + 0) 1) ∷ ‵ At ∷ ‵ (flft μ q) ∷ []) ∵ updating ! $ lft_new ! tt (λ c.
+      use1 𝓛 (‵ (rest 64 c 1) ⊛ ‵ (part 64 c)) (cut 64 𝓛 c 0 full_share (lit< tt) (Counts-all 64)) $ split ! $ lft_new ! tt (λ a. let t : Id = (a, c, m) in let J : Fml = Inv t b (o + 0) in let sh = shown R b o x t in
+      -- [a's token; c's rest; c's part; the word; the value; the token]
+      move ! (4 ∷ []) $ bor_new ! tt (a ∷ []) $ move ! (0 ∷ 2 ∷ 6 ∷ []) $
+      -- [the borrow; a's token; the token; the lender's right; c's rest; c's part; the word]
+      move ! (1 ∷ 2 ∷ []) $ join ! $ move ! (1 ∷ 0 ∷ []) $
+      use2 𝓛 (later (‵ (sh (a ∷ [])) ⊛ ‵ (flft (a ∷ []) full_share) ⊛ ‵ (flft μ q)))
+      (lends t (a ∷ []) ((a ∷ [], full_share) ∷ (μ, q) ∷ []) (Incl-trans (meet_⊑_right (a ∷ []) μ) inc) (meet_⊑_left (a ∷ []) μ)) $ await ! tt $ split3 ! $
+      -- [what is shown; a's token; the token; the lender's right; c's rest; c's part; the word]
+      move ! (1 ∷ []) $ use1 𝓛 (‵ (rest 64 a 1) ⊛ ‵ (part 64 a)) (cut 64 𝓛 a 0 full_share (lit< tt) (Counts-all 64)) $ split ! $
+      use1 𝓛 (‵ (rest 64 a (1 + 1)) ⊛ ‵ (part 64 a)) (takes 64 𝓛 a 1 (lit< tt)) $ split ! $
+      -- [a's rest; a part; a part; what is shown; the token; the lender's right; c's rest; c's part; the word]
+      move ! (6 ∷ []) $ fpack ! Bool (shares_out t 1) true $ move ! (1 ∷ 0 ∷ []) $ fjoin ! $ nothing ! $ fpack ! (1 ≤ m) (λ _. ftrue) room $ fjoin ! $ move ! (7 ∷ 0 ∷ []) $ fjoin ! $ fpack ! ℕ (standing t b (o + 0)) 1 $ fpack ! Bool (phase t b (o + 0)) true $
+      use1 𝓛 (later (‵ (finv J))) (𝓛.invs.inv_new J) $ await ! tt $ use1 𝓛 (‵ (finv J) ⊛ ‵ (finv J)) (𝓛.invs.inv_dup J) $ split ! $
+      -- [the invariant, twice; a part; a part; what is shown; the token; the lender's right; c's part]
+      move ! (4 ∷ []) $ use1 𝓛 (‵ (sh (a ∷ [])) ⊛ ‵ (sh (a ∷ []))) (contraction 𝓛 sh (shown_laws R L b o x t) (a ∷ [])) $ split ! $
+      -- [what is shown, twice; the invariant, twice; a part; a part; the token; the lender's right; c's part]
+      move ! (4 ∷ 2 ∷ 0 ∷ []) $ fjoin3 ! $ move ! (3 ∷ 2 ∷ 1 ∷ []) $ fjoin3 ! $ move ! (0 ∷ 4 ∷ []) $ fjoin ! $ move ! (1 ∷ 0 ∷ 3 ∷ []) $ fjoin3 ! $ fpack ! (ℕ × ℕ) (λ k. Begun (k.0, k.1, m)) (a, c) $ now ! $ done !))
+
+  -- what the owner's end gained, with the lender's right
+  pub ends : (t : Id) → ent 𝓤 (sep 𝓤 (sem 𝓛 (right_to R b o x t 3)) (sem 𝓛 (flent (t.0 ∷ []) At))) (H.⇛ (sep 𝓤 (sem 𝓛 (word b (o + 0) 0)) (sem 𝓛 At)))
+  ends t = qed 𝓛 (‵ (right_to R b o x t 3) ∷ ‵ (flent (t.0 ∷ []) At) ∷ []) ∵ updating ! $ fsplit ! $ move ! (1 ∷ 2 ∷ []) $ lent_back ! tt $ now ! $ move ! (1 ∷ 0 ∷ []) $ done !

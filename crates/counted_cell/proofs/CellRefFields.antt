@@ -1,0 +1,64 @@
+-- The data field of a `CellRef`, and what is read off what it owns. Assumes `Logic`.
+use Rattle.std.proofs.Common.{◌≡◌, ℕ, zero, suc, ◌+◌, ◌<◌, T, Bool, true, false, List, [], ◌∷◌, ◌++◌, refl, ap, ◌∙◌, arith}
+use seplogic.Ra.Ura.{Ura}
+use mir.Syntax.{ty_ptr, ty_struct, tcons, tnil}
+use mir.Val.{Val, vstruct, vcons, vnil, of_list, has_ty, WT}
+use base.Logic.{SProp, ent, emp, never_e, guard, guard_i, id⊢}
+use base.Fml.{Lft, fex}
+use contract.Monad.{fact, fact_i}
+use types.Logic.{Logic, sem}
+use types.Kit.{‵, ◌$◌, ◌∵◌, !, qed, check, done}
+use denote.RattleType.{RattleType}
+use denote.Laws.{Is}
+use denote.Opens.{Opens}
+use denote.Copied.{Struct-Copied}
+use denote.RawPtr.{Ptr, InBlock, block_ptr, null_ptr, ptr_val, block_of, count_of}
+use denote.Shadow.{makes_shadow}
+use denote.Struct.Laws.{RawPtr-copy}
+use denote.Struct.Struct.{Struct}
+use denote.Struct.Owning.{shape}
+use Rattle.counted_cell.specs.contracts.cell_ref.CellRef as cell_ref
+use Rattle.counted_cell.specs.contracts.cell_ref.Reading as reading
+use Rattle.counted_cell.specs.Counting.{Id, reads, right_to, seen_by, ref_owns, ref_shares}
+
+abbrev pub word_of : Ptr → Val
+word_of p = vstruct (vcons (ptr_val p) vnil)
+
+pub typed : (p : Ptr) → InBlock p → T (has_ty (ty_struct [] (tcons ty_ptr tnil)) (word_of p)) × WT (word_of p)
+typed (block_ptr b o) i = (tt, (tt, tt))
+typed null_ptr i = absurd i
+
+module _ (R : RattleType) where
+  abbrev pub Data : RattleType
+  Data = Struct (shape (cell_ref.the_type R))
+
+  pub told : (p : Ptr) (vs : List Val) → Is Data (p, tt) vs → vs ≡ word_of p ∷ []
+  told p vs is = is.1.0 ∙ ap (λ (ws : List Val). vstruct (of_list (ws ++ [])) ∷ []) is.1.1.0
+
+  pub made : {M : Type 1} {𝓤 : Ura M} (𝓛 : Logic 𝓤) (p : Ptr) → ent 𝓤 (emp 𝓤) (sem 𝓛 (Data.own_val (p, tt) (word_of p ∷ [])))
+  made 𝓛 p = makes_shadow 𝓛 (Data.own_val (p, tt) (word_of p ∷ [])) (λ vss. (tt, (tt, tt))) ((ptr_val p ∷ [], tt), (refl, (refl, tt)))
+
+  pub opened : {M : Type 1} {𝓤 : Ura M} (𝓛 : Logic 𝓤) → Opens 𝓛 Data
+  opened {M} {𝓤 = 𝓤} 𝓛 = (Struct-Copied 𝓛 (shape (cell_ref.the_type R)) (refl, tt) (RawPtr-copy.copied M 𝓤 𝓛, tt)).opens
+
+module _ {M : Type 1} {𝓤 : Ura M} (𝓛 : Logic 𝓤) (R : RattleType) (x : R.Denot) (t : Id) where
+  pub seen_in : (p : Ptr) (right : ℕ) → 0 < right → right < 3 → (κ : Lft) → ent 𝓤 (sem 𝓛 (ref_shares R p x t right κ)) (guard 𝓤 (InBlock p) (sem 𝓛 (seen_by R (block_of p) (count_of p) x t κ)))
+  seen_in null_ptr right low high κ = never_e 𝓤 _
+  seen_in (block_ptr b o) zero low high κ = absurd (omega arith)
+  seen_in (block_ptr b o) (suc zero) low high κ = guard_i 𝓤 (Unit {0}) (sem 𝓛 (seen_by R b o x t κ)) tt
+  seen_in (block_ptr b o) (suc (suc zero)) low high κ = guard_i 𝓤 (Unit {0}) (sem 𝓛 (seen_by R b o x t κ)) tt
+  seen_in (block_ptr b o) (suc (suc (suc k))) low high κ = absurd (omega arith)
+
+  pub owned_in : (p : Ptr) (right : ℕ) → ent 𝓤 (sem 𝓛 (ref_owns R p x t right)) (guard 𝓤 (InBlock p) (sem 𝓛 (right_to R (block_of p) (count_of p) x t right)))
+  owned_in null_ptr right = never_e 𝓤 _
+  owned_in (block_ptr b o) right = guard_i 𝓤 (Unit {0}) (sem 𝓛 (right_to R b o x t right)) tt
+
+-- the data field of a `Reading`
+abbrev pub reading_word : Val
+reading_word = vstruct (vcons (vstruct vnil) vnil)
+
+abbrev pub Marks : RattleType
+Marks = Struct (shape reading.the_type)
+
+pub marked : {M : Type 1} {𝓤 : Ura M} (𝓛 : Logic 𝓤) → ent 𝓤 (emp 𝓤) (sem 𝓛 (Marks.own_val (tt, tt) (reading_word ∷ [])))
+marked 𝓛 = makes_shadow 𝓛 (Marks.own_val (tt, tt) (reading_word ∷ [])) (λ vss. (tt, ((λ uss. (tt, tt)), tt))) ((vstruct vnil ∷ [], tt), (refl, ((tt, (refl, tt)), tt)))

@@ -1,0 +1,87 @@
+-- What a `&` to a hold has, and how it is lent. Assumes `Logic`.
+use Rattle.std.proofs.Common.{◌≡◌, ℕ, zero, suc, ◌+◌, [], ◌∷◌, ◌++◌}
+use seplogic.Ra.Ura.{Ura}
+use base.FractionLaws.{Counts}
+use base.Logic.{ent, sep, upd_i, id⊢, apply∗, wand}
+use base.Fml.{Lft, Incl, Share, Fml, ftrue, ffalse, fsep, fseps, fex, fwand, fupd, fdead, fbor, flft, finv}
+use contract.BorrowLft.{meet_⊑_left}
+use ghost.Rules.{span, thinned}
+use types.Logic.{Logic, sem, lfts}
+use types.Kit.{‵, raw, ◌⊛◌, some as exists, later, ◌$◌, ◌∵◌, !, qed, by, move, keep, use1, use2, split, fsplit, fsplit3, fjoin, fjoin3, fpick, fpack, pick, assume, suffices, await, updating, now, done}
+use types.Tokens.{bor_open, obor_alter, bor_fracture, one_token}
+use types.RcWeak.{part, part_in}
+use denote.RattleType.{RattleType, RowLaws}
+use denote.RawPtr.{Ptr, block_ptr, null_ptr}
+use denote.Sharing.{ShrLaws, said, one, always, held, beside}
+use denote.SharingLaws.{contraction, beside_shr_laws, one_shr_laws, always_shr_laws, held_shr_laws, nothing_shr_laws, said_shr_laws}
+use denote.Moves.{moves_from}
+use denote.Steps.{nothing}
+use denote.Struct.Lending.{Lends, Lends-false, Lends-nothing, Lends-first, lent_at, lent_at_shr_laws}
+use Rattle.counted_cell.specs.Counting.{Id, offset, Inv, shown, reads, right_to, seen_by, seen_with, ref_owns, ref_shares}
+
+module _ (R : RattleType) (L : RowLaws R) (b o : ℕ) (x : R.Denot) (t : Id) where
+  abbrev a : Lft
+  a = t.0 ∷ []
+
+  abbrev sh : Lft → Fml
+  sh = shown R b o x t
+
+  pub shown_laws : ShrLaws sh
+  shown_laws = lent_at_shr_laws R L (block_ptr b (o + offset R)) x
+
+  abbrev J : Fml
+  J = Inv t b (o + 0)
+
+  pub seen_laws : ShrLaws (seen_by R b o x t)
+  seen_laws = beside_shr_laws (one (λ q. flft a q)) (beside (always J) (held a sh)) (one_shr_laws (λ q. flft a q)) (beside_shr_laws (always J) (held a sh) (always_shr_laws J) (held_shr_laws a sh shown_laws))
+
+  module _ {M : Type 1} {𝓤 : Ura M} (𝓛 : Logic 𝓤) where
+    open 𝓛 use {H, A}
+
+    module _ (κ : Lft) where
+      abbrev Owns : Fml
+      Owns = reads R b o x t
+
+      abbrev Lent : Fml
+      Lent = seen_by R b o x t κ
+
+      again : (e : Share) → Counts 64 e 1 → ent 𝓤 (sep 𝓤 (sem 𝓛 (finv J)) (sem 𝓛 (sh a))) (sem 𝓛 (fwand (fsep (fdead κ) (fseps (flft a e ∷ []))) (fupd Owns)))
+      unfolding fseps
+      again e c = qed 𝓛 (‵ (finv J) ∷ ‵ (sh a) ∷ []) ∵ assume ! (‵ (fsep (fdead κ) (fsep (flft a e) ftrue))) $ suffices ! (sem 𝓛 Owns) (upd_i 𝓤 (sem 𝓛 Owns)) $
+          fsplit3 ! $ move ! (1 ∷ []) $ use1 𝓛 (‵ (part 64 t.0)) (part_in 64 𝓛 t.0 e c) $ keep ! (0 ∷ 3 ∷ 4 ∷ []) $ fjoin3 ! $ done !
+
+      by_token : (q : Share) → ent 𝓤 (sep 𝓤 (A.bor κ Owns) (A.lft κ q)) (H.⇛ (sep 𝓤 (sem 𝓛 Lent) (A.lft κ q)))
+      unfolding fseps
+      by_token q = qed 𝓛 (‵ (fbor κ Owns) ∷ ‵ (flft κ q) ∷ []) ∵ updating ! $ bor_open ! tt $ move ! (1 ∷ []) $ fsplit3 ! $ fpick ! (λ e. fpick ! (λ c. move ! (1 ∷ []) $
+          use1 𝓛 (‵ (finv J) ⊛ ‵ (finv J)) (𝓛.invs.inv_dup J) $ split ! $ move ! (3 ∷ []) $
+          use1 𝓛 (‵ (sh a) ⊛ ‵ (sh a)) (contraction 𝓛 sh shown_laws a) $ split ! $ move ! (2 ∷ 0 ∷ []) $
+          use2 𝓛 (‵ (fwand (fsep (fdead κ) (fseps (flft a e ∷ []))) (fupd Owns))) (again e c) $ nothing ! $ move ! (4 ∷ 0 ∷ []) $ fjoin ! $ move ! (4 ∷ 0 ∷ 1 ∷ []) $ obor_alter ! tt (flft a e ∷ []) $
+          use1 𝓛 (‵ (fbor κ (flft a e)) ⊛ ‵ ftrue) (id⊢ 𝓤 _) $ split ! $ bor_fracture ! tt (λ r. flft a r) e $ move ! (0 ∷ 4 ∷ 3 ∷ []) $ fjoin3 ! $
+          now ! $ keep ! (0 ∷ 2 ∷ []) $ done !))
+
+    pub Lends-reads : (l : Lft) → Lends 𝓛 (reads R b o x t) (seen_by R b o x t) l
+    Lends-reads l κ ts inc sp = qed 𝓛 (‵ (fbor κ (Owns κ)) ∷ raw (lfts 𝓛 ts) ∷ []) ∵ updating ! $ move ! (1 ∷ []) $
+        use1 𝓛 (exists (λ (q : Share). ‵ (flft (span ts) q) ⊛ raw (wand 𝓤 (A.lft (span ts) q) (lfts 𝓛 ts)))) (one_token 𝓛 ts) $ pick ! (λ q. split ! $
+        use1 𝓛 (‵ (flft κ (thinned κ q)) ⊛ raw (wand 𝓤 (A.lft κ (thinned κ q)) (A.lft (span ts) q))) (𝓛.lfts.lft-incl (span ts) κ q sp) $ split ! $ move ! (3 ∷ 0 ∷ []) $
+        use2 𝓛 (later (‵ (Lent κ) ⊛ ‵ (flft κ (thinned κ q)))) (by_token κ (thinned κ q)) $ await ! tt $ split ! $ move ! (1 ∷ 2 ∷ []) $
+        use2 𝓛 (‵ (flft (span ts) q)) (apply∗ 𝓤 (A.lft κ (thinned κ q)) (A.lft (span ts) q)) $ move ! (0 ∷ 2 ∷ []) $ use2 𝓛 (raw (lfts 𝓛 ts)) (apply∗ 𝓤 (A.lft (span ts) q) (lfts 𝓛 ts)) $
+        now ! $ move ! (1 ∷ 0 ∷ []) $ done !)
+
+    -- the value can be read for as long as the `&` lives
+    pub sees : (κ : Lft) → ent 𝓤 (sem 𝓛 (seen_by R b o x t κ)) (sem 𝓛 (sh κ))
+    sees κ = qed 𝓛 (‵ (seen_by R b o x t κ) ∷ []) ∵ fsplit3 ! $ keep ! (0 ∷ 2 ∷ []) $ by ! (moves_from 𝓛 sh shown_laws κ a a (meet_⊑_left a κ))
+
+module _ (R : RattleType) (L : RowLaws R) (x : R.Denot) (t : Id) where
+  pub ref_laws : (p : Ptr) (right : ℕ) → ShrLaws (ref_shares R p x t right)
+  ref_laws null_ptr right = said_shr_laws ffalse tt
+  ref_laws (block_ptr b o) zero = nothing_shr_laws
+  ref_laws (block_ptr b o) (suc zero) = seen_laws R L b o x t
+  ref_laws (block_ptr b o) (suc (suc zero)) = seen_laws R L b o x t
+  ref_laws (block_ptr b o) (suc (suc (suc k))) = nothing_shr_laws
+
+  pub Lends-ref : {M : Type 1} {𝓤 : Ura M} (𝓛 : Logic 𝓤) (l : Lft) (p : Ptr) (right : ℕ) → Lends 𝓛 (ref_owns R p x t right) (ref_shares R p x t right) l
+  Lends-ref 𝓛 l null_ptr right = Lends-false 𝓛 (ref_shares R null_ptr x t right) l
+  Lends-ref 𝓛 l (block_ptr b o) zero = Lends-nothing 𝓛 (right_to R b o x t 0) l
+  Lends-ref 𝓛 l (block_ptr b o) (suc zero) = Lends-reads R L b o x t 𝓛 l
+  Lends-ref 𝓛 l (block_ptr b o) (suc (suc zero)) = Lends-first 𝓛 (reads R b o x t) (part 64 t.1) (seen_by R b o x t) l (Lends-reads R L b o x t 𝓛 l)
+  Lends-ref 𝓛 l (block_ptr b o) (suc (suc (suc k))) = Lends-nothing 𝓛 (right_to R b o x t (suc (suc (suc k)))) l

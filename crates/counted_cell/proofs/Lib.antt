@@ -1,0 +1,15 @@
+pub mod Steps
+pub mod CellRefLent
+pub mod Names
+pub mod CellRefFields
+pub mod Gains
+pub mod CellRefSent
+pub mod Begins
+pub mod PlacedFields
+pub mod Splits
+pub mod BlockRightFields
+pub mod PlacesSteps
+pub mod PlacesLaws
+pub mod PlacesSent
+pub mod Blocks
+pub mod Begun

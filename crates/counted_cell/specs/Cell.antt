@@ -1,0 +1,31 @@
+-- What contracts see of a cell: through its owner, and through each of its shares.
+use Rattle.std.specs.Prelude.{◌≡◌, ℕ, ◌+◌, ◌-◌, ◌%◌, ◌^◌, List}
+use Rattle.counted_cell.specs.Counting.{CellName}
+use Rattle.counted_cell.specs.Text.{somes}
+use Rattle.counted_cell.specs.declared.label.Label.{Label}
+use Rattle.counted_cell.specs.declared.content.Content.{Content}
+use Rattle.counted_cell.specs.declared.cell_ref.CellRef.{CellRef}
+
+-- its name, which no other cell has, and what never changes in it
+pub record Cell : Type 0 where
+  pub name : CellName
+  pub label : Label
+  pub text : List ℕ
+
+abbrev pub cell_of : CellRef Content → Cell
+cell_of r = record { name = r.name; label = r.value.label; text = somes r.value.text.places.slots }
+
+-- how many bytes lie before the text
+abbrev pub header_size : ℕ
+header_size = 48
+
+abbrev pub header_align : ℕ
+header_align = 8
+
+-- how many bytes a text may have
+abbrev pub most_bytes : ℕ
+most_bytes = 2 ^ 62 - 1
+
+-- how many bytes a block has whose text has n
+abbrev pub block_size : ℕ → ℕ
+block_size n = header_size + n + (header_align - (header_size + n) % header_align) % header_align

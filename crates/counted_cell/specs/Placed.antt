@@ -1,0 +1,11 @@
+-- What the owner of a value at a pointer has.
+use base.Fraction.{full_share}
+use base.Fml.{Fml, ftrue, fsep, fex}
+use denote.RattleType.{RattleType}
+use denote.RawPtr.{Ptr, InBlock, lies_at}
+
+abbrev pub placed : Ptr → Fml
+placed p = fex (InBlock p) (λ _. ftrue)
+
+abbrev pub placed_owns : (R : RattleType) → Ptr → R.Denot → Fml
+placed_owns R p x = fsep (placed p) (lies_at R full_share p x)

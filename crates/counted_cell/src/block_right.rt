@@ -1,0 +1,42 @@
+//! The right to have a cell's block back.
+ghost use Rattle.std.specs.Prelude.{◌≡◌, ◌≤◌, ℕ};
+ghost use Rattle.counted_cell.specs.Counting.{CellName, cell_name_coded, owner_right, share_right, sole_right};
+ghost use Rattle.counted_cell.specs.BlockRight.{block_right_owns};
+
+use crate::header::Header;
+use crate::cell_ref::CellRef;
+use crate::placed::Placed;
+use std::marker::Model;
+
+#[derive(Drop)]
+pub struct BlockRight<T> {
+    pub(crate) ptr: *mut Header<T>,
+    pub ghost value: { T },
+    pub ghost name: { CellName } by { cell_name_coded },
+}
+
+impl<T> Model for BlockRight<T> {
+    ghost also_owns = { λ d. block_right_owns T.row d.ptr d.value d.name };
+}
+
+/// The owner's right and the first share of a block whose count is 1, of which there may be as many as `limit`.
+pub fn begin<T>(whole: Placed<Header<T>>) -> (BlockRight<T>, CellRef<T>, CellRef<T>)
+    ghost limit: { ℕ }
+    requires { (whole.value.count ≡ 1) × (1 ≤ limit) }
+    ensures { (result.0.name.limit ≡ limit) × (result.0.ptr ≡ whole.ptr) × (result.1.ptr ≡ whole.ptr) × (result.0.value ≡ whole.value.value) × (result.1.value ≡ whole.value.value) × (result.2.value ≡ whole.value.value) × (result.1.name ≡ result.0.name) × (result.2.name ≡ result.0.name) × (result.1.right ≡ owner_right) × (result.2.right ≡ share_right) }
+{
+    let Placed { ptr } = whole;
+    (BlockRight { ptr }, CellRef { ptr }, CellRef { ptr })
+}
+
+/// The block, from the owner's end.
+pub fn reclaim<T>(block: BlockRight<T>, sole: CellRef<T>) -> Placed<Header<T>>
+    requires { (sole.right ≡ sole_right) × (sole.name ≡ block.name) × (sole.ptr ≡ block.ptr) }
+    ensures { (result.ptr ≡ block.ptr) × (result.value.value ≡ block.value) }
+{
+    let BlockRight { ptr } = block;
+    let CellRef { ptr: _ } = sole;
+    Placed { ptr }
+}
+
+unsafe impl<T: Send> Send for BlockRight<T> {}

@@ -1,0 +1,122 @@
+//! The rights to a cell: the owner's, a share's, and what the owner's end gains.
+ghost use Rattle.std.specs.Prelude.{◌≡◌, ◌≢◌, ℕ, ◌+◌, ◌^◌, ◌<◌};
+ghost use Rattle.counted_cell.specs.Counting.{CellName, cell_name_coded, Right, right_coded, CanRead, no_right, owner_right, share_right, sole_right, ref_owns, ref_shares, reading_owns};
+
+use crate::header::Header;
+use atomic_table::exchange;
+use std::marker::{Brand, Model, PhantomData};
+use std::sync::atomic::Ordering::SeqCst;
+use std::sync::atomic::raw;
+
+/// `right` is 0 for nothing, 1 for the owner, 2 for a share, and 3 for the end, which has the cell to itself.
+/// It can't be dropped: a share's right is spent by `leave` alone, the owner's by `close`, and nothing by `nothing`.
+pub struct CellRef<T> {
+    pub(crate) ptr: *const Header<T>,
+    pub ghost value: { T },
+    pub ghost name: { CellName } by { cell_name_coded },
+    pub ghost right: { Right } by { right_coded },
+}
+
+impl<T> Model for CellRef<T> {
+    ghost also_owns = { λ h. ref_owns T.row h.ptr h.value h.name h.right };
+
+    ghost also_shares = { λ h _ κ. ref_shares T.row h.ptr h.value h.name h.right κ };
+}
+
+/// What a look at the count shows. Where it was 0, no share is left and none will ever be.
+#[derive(Drop)]
+pub struct Reading {
+    marker: PhantomData<()>,
+    pub ghost name: { CellName } by { cell_name_coded },
+    pub ghost count: { ℕ },
+}
+
+impl Model for Reading {
+    ghost also_owns = { λ s. reading_owns s.name s.count };
+}
+
+impl<T> CellRef<T> {
+    pub fn get(&self) -> &T
+        requires { CanRead self.now.right }
+        ensures { result.now ≡ self.now.value }
+    {
+        unsafe { &(*self.ptr).value }
+    }
+
+    pub fn load(&self) -> (u64, Reading)
+        requires { CanRead self.now.right }
+        ensures { (result.1.name ≡ self.now.name) × (result.1.count ≡ result.0) }
+    {
+        let ptr = self.ptr;
+        let found = unsafe { raw::load::<Brand>(&raw const (*ptr).count, SeqCst) };
+        (
+            found,
+            Reading {
+                marker: PhantomData,
+            },
+        )
+    }
+
+    /// One share more, where the count is still `seen`, which is above 0 and below the limit.
+    pub fn increment(&self, seen: u64) -> (u64, CellRef<T>)
+        requires holds { CanRead self.now.right }
+        requires room { (0 < seen) × (seen < self.now.name.limit) × (seen + 1 < 2 ^ 63) }
+        ensures same { (result.1.value ≡ self.now.value) × (result.1.name ≡ self.now.name) }
+        ensures gained { (result.0 ≡ seen → result.1.right ≡ share_right) × (result.0 ≢ seen → result.1.right ≡ no_right) }
+    {
+        let ptr = self.ptr;
+        let more = seen + 1;
+        let found = unsafe { exchange::<Brand>(&raw const (*ptr).count, seen, more) };
+        (found, CellRef { ptr })
+    }
+
+    /// One share less. Returns the count as it was, and a sight of what is left.
+    pub fn decrement(self) -> (u64, Reading)
+        requires { self.right ≡ share_right }
+        ensures { (0 < result.0) × (result.1.name ≡ self.name) × (result.1.count + 1 ≡ result.0) }
+    {
+        let CellRef { ptr } = self;
+        let found = unsafe { raw::fetch_sub::<Brand>(&raw const (*ptr).count, 1, SeqCst) };
+        (
+            found,
+            Reading {
+                marker: PhantomData,
+            },
+        )
+    }
+
+    /// The end of what gained nothing.
+    pub fn done(self)
+        requires { self.right ≡ no_right }
+    {
+        let CellRef { ptr: _ } = self;
+    }
+
+    /// The owner's end, by one load. Where it found 0, what is left has the cell to itself.
+    pub fn close(self) -> (u64, Reading, CellRef<T>)
+        requires { self.right ≡ owner_right }
+        ensures found { (result.1.name ≡ self.name) × (result.1.count ≡ result.0) }
+        ensures same { (result.2.value ≡ self.value) × (result.2.name ≡ self.name) × (result.2.ptr ≡ self.ptr) }
+        ensures gained { (result.0 ≡ 0 → result.2.right ≡ sole_right) × (result.0 ≢ 0 → result.2.right ≡ no_right) }
+    {
+        let CellRef { ptr } = self;
+        let found = unsafe { raw::load::<Brand>(&raw const (*ptr).count, SeqCst) };
+        let reading = Reading {
+            marker: PhantomData,
+        };
+        (found, reading, CellRef { ptr })
+    }
+}
+
+/// A look that found 0 and a share of the same cell are never together.
+pub fn exclude<T>(reading: Reading, share: CellRef<T>)
+    requires zero { (reading.count ≡ 0) × (reading.name ≡ share.name) }
+    requires share { share.right ≡ share_right }
+    ensures { ⊥ }
+{
+    let CellRef { ptr: _ } = share;
+}
+
+unsafe impl<T: Send + Sync> Send for CellRef<T> {}
+
+unsafe impl<T: Send + Sync> Sync for CellRef<T> {}

@@ -1,0 +1,52 @@
+//! What was read off a cell's count, as values that only a step on the count makes.
+use crate::cell_ref::{Reading, exclude};
+use crate::share::Share;
+use std::marker::Model;
+
+/// Shows that the count of a cell was read as 0: no share of the cell is left, and none will ever be.
+/// In a clause it is the cell's name.
+#[derive(Drop)]
+pub struct NoShares {
+    pub(crate) reading: Reading,
+}
+
+impl Model for NoShares {
+    ghost use Rattle.std.specs.Prelude.{◌≡◌};
+    ghost use Rattle.counted_cell.specs.Counting.{CellName};
+
+    ghost Value = { CellName };
+
+    ghost view = { λ n. n.reading.name };
+
+    ghost invariant = { λ n. n.reading.count ≡ 0 };
+}
+
+impl NoShares {
+    ghost use Rattle.std.specs.Prelude.{◌≡◌};
+
+    /// A law: it is never together with a share of the same cell.
+    pub fn excludes(self, share: Share)
+        requires { share.name ≡ self }
+        ensures { ⊥ }
+    {
+        let Self { reading } = self;
+        exclude(reading, share.into_ref())
+    }
+}
+
+/// Shows that the count of a cell was read as its limit. In a clause it is the cell's name.
+#[derive(Drop)]
+pub struct AtLimit {
+    pub(crate) reading: Reading,
+}
+
+impl Model for AtLimit {
+    ghost use Rattle.std.specs.Prelude.{◌≡◌};
+    ghost use Rattle.counted_cell.specs.Counting.{CellName};
+
+    ghost Value = { CellName };
+
+    ghost view = { λ a. a.reading.name };
+
+    ghost invariant = { λ a. a.reading.count ≡ a.reading.name.limit };
+}

@@ -1,0 +1,30 @@
+//! A text on the heap, in one block with its hash, its ticket and a count, which one owner and counted shares read.
+//!
+//! The count is the number of shares that weren't given back. It goes up only from one or more and below the cell's limit, by
+//! one, and down only where a share is given back. At 0 no share is left and none will ever be, so the owner's end, which reads
+//! the count, frees the block where it is 0 and leaves it otherwise.
+//!
+//! All that follows pointers stands in `cell_ref`, `block_right`, `block`, `places` and `placed`, a few lines a function.
+#![tactic(auto)]
+
+mod block;
+mod block_right;
+mod cell_ref;
+mod content;
+mod evidence;
+mod header;
+mod label;
+mod owner;
+mod placed;
+mod places;
+mod reply;
+mod share;
+#[cfg(test)]
+mod tests;
+mod text;
+
+pub use evidence::{AtLimit, NoShares};
+pub use label::Label;
+pub use owner::Owner;
+pub use reply::Reply;
+pub use share::{Given, Share};

@@ -1,0 +1,149 @@
+//! The owner of a cell.
+ghost use Rattle.std.specs.Prelude.{◌≡◌, ◌^◌, ◌<◌, ◌≤◌, IfOk, IfSome};
+ghost use Rattle.counted_cell.specs.Cell.{block_size, most_bytes};
+
+use crate::block::{FreeRight, allocate, deallocate};
+use crate::block_right::{BlockRight, begin, reclaim};
+use crate::cell_ref::CellRef;
+use crate::content::Content;
+use crate::evidence::NoShares;
+use crate::header::Header;
+use crate::label::Label;
+use crate::placed::{fill, take};
+use crate::reply::Reply;
+use crate::share::Share;
+use crate::text::Text;
+use std::alloc::{AllocError, Allocator};
+use std::marker::Model;
+use std::mem::{align_of, size_of};
+use std::sync::Wait;
+
+/// What owns a cell. Its end frees the block where the count is 0, and leaves it otherwise, for the shares that are left.
+/// In a clause it is its cell.
+pub struct Owner<A: Allocator> {
+    cell: CellRef<Content>,
+    block: BlockRight<Content>,
+    free: FreeRight<Header<Content>, A>,
+    alloc: A,
+}
+
+impl<A: Allocator> Model for Owner<A> {
+    ghost use Rattle.std.specs.Prelude.{◌≡◌, ◌^◌, ◌+◌, ◌<◌, ◌≤◌, length};
+    ghost use denote.RawPtr.{◌+ₚ◌};
+    ghost use Rattle.counted_cell.specs.Cell.{Cell, cell_of, header_size, most_bytes};
+    ghost use Rattle.counted_cell.specs.Counting.{owner_right};
+
+    ghost Value = { Cell };
+
+    ghost view = { λ o. cell_of o.cell };
+
+    ghost invariant = { λ o. (o.cell.right ≡ owner_right) × (o.cell.value.label.limit ≡ o.cell.name.limit) × (o.cell.name.limit < 2 ^ 63)
+        × ((o.block.name ≡ o.cell.name) × (o.block.value ≡ o.cell.value) × (o.block.ptr ≡ o.free.at) × (o.cell.ptr ≡ o.block.ptr))
+        × ((o.free.alloc ≡ o.alloc) × (o.block.value.text.places.at ≡ o.free.at +ₚ header_size) × (length o.block.value.text.places.slots ≡ o.free.len) × (o.free.len ≤ most_bytes)) };
+}
+
+impl<A: Allocator> Drop for Owner<A> {
+    fn drop(self) {
+        let _ = self.finish();
+    }
+}
+
+/// The longest text that a cell takes, in bytes. A longer one is refused as if there were no memory for it.
+const MOST_BYTES: usize = (1 << 62) - 1;
+
+const ALIGN: usize = align_of::<Header<Content>>();
+
+/// How many bytes a block has whose text has `len`: the header, the text, and what fills up to the alignment.
+fn size_for(len: usize) -> usize
+    requires { len ≤ most_bytes }
+    ensures { result ≡ block_size len }
+{
+    let end = size_of::<Header<Content>>() + len;
+    end + (ALIGN - end % ALIGN) % ALIGN
+}
+
+impl<A: Allocator> Owner<A> {
+    ghost use Rattle.counted_cell.specs.Cell.{cell_of};
+    ghost use Rattle.counted_cell.specs.Reply.{IsReply};
+
+    /// A cell with a copy of the text, and its first share. Without memory nothing is made.
+    pub fn new(alloc: A, label: Label, text: &str) -> Result<(Owner<A>, Share), AllocError>
+        requires { (1 ≤ label.limit) × (label.limit < 2 ^ 63) }
+        ensures owner { IfOk result (λ made. (made.0.label ≡ label) × (made.0.text ≡ text.now)) }
+        ensures share { IfOk result (λ made. made.1 ≡ made.0) }
+    {
+        let len = text.len();
+        if len > MOST_BYTES {
+            return Err(AllocError);
+        }
+        let (room, ptr, places, free) = allocate(&alloc, len, size_for(len), ALIGN)?;
+        let text = Text::write(ptr, places, text);
+        let value = Content { label, text };
+        let (block, owner, share) = begin(fill(room, Header { count: 1, value }));
+        let owner = Owner {
+            cell: owner,
+            block,
+            free,
+            alloc,
+        };
+        Ok((owner, Share::of_ref(share)))
+    }
+
+    /// The numbers of the cell.
+    pub fn label(&self) -> Label
+        ensures { result ≡ self.now.label }
+    {
+        self.cell.get().label
+    }
+
+    /// The text of the cell.
+    pub fn text(&self) -> &str
+        ensures { result.now ≡ self.now.text }
+    {
+        self.cell.get().text.as_str()
+    }
+
+    /// One share more of the cell.
+    pub fn add<R: Wait>(&self, rt: &R) -> Reply
+        ensures { IsReply self.now result }
+    {
+        Reply::one_more(rt, &self.cell)
+    }
+
+    /// Where the count reads 0: that no share is left.
+    pub fn dying(&self) -> Option<NoShares>
+        ensures { IfSome result (λ none. none ≡ self.now.name) }
+    {
+        let (seen, reading) = self.cell.load();
+        if seen == 0 {
+            Some(NoShares { reading })
+        } else {
+            None
+        }
+    }
+
+    /// Ends the cell. Where the count reads 0 the block is freed, and it tells that no share was left. Otherwise the block stays
+    /// for the shares that are left, for ever.
+    pub fn finish(self) -> Option<NoShares>
+        ensures { IfSome result (λ none. none ≡ self.name) }
+    {
+        let Self {
+            cell,
+            block,
+            free,
+            alloc,
+        } = self;
+        let (found, reading, sole) = cell.close();
+        if found == 0 {
+            let (room, header) = take(reclaim(block, sole));
+            let Header { count: _, value } = header;
+            let Content { label: _, text } = value;
+            let (len, places) = text.into_bytes();
+            deallocate(&alloc, room, places, free, size_for(len), ALIGN);
+            Some(NoShares { reading })
+        } else {
+            sole.done();
+            None
+        }
+    }
+}

@@ -1,0 +1,48 @@
+//! What an addition of a share answers.
+ghost use Rattle.std.specs.Prelude.{◌≡◌, ◌<◌, ◌^◌, ◌⊎◌};
+ghost use Rattle.counted_cell.specs.Counting.{CanRead};
+ghost use Rattle.counted_cell.specs.Cell.{cell_of};
+
+use crate::cell_ref::CellRef;
+use crate::content::Content;
+use crate::evidence::{AtLimit, NoShares};
+use crate::share::Share;
+use std::sync::Wait;
+
+/// What an addition answers. It can't be forgotten, since it may hold a share.
+pub enum Reply {
+    /// The count is one more, for this share.
+    Added(Share),
+    /// The count was read as 0, so there are no shares any more. Nothing has changed.
+    Dying(NoShares),
+    /// The count was read as the limit. Nothing has changed.
+    Full(AtLimit),
+}
+
+impl Reply {
+    ghost use Rattle.counted_cell.specs.Reply.{IsReply};
+
+    /// One share more of the cell. It tries again where another came between.
+    pub(crate) fn one_more<R: Wait>(rt: &R, cell: &CellRef<Content>) -> Reply
+        requires reads { CanRead cell.now.right }
+        requires limit { (cell.now.value.label.limit ≡ cell.now.name.limit) × (cell.now.name.limit < 2 ^ 63) }
+        ensures { IsReply (cell_of cell.now) result }
+    {
+        let limit = cell.get().label.limit;
+        for _ in rt.forever() {
+            let (seen, reading) = cell.load();
+            if seen == 0 {
+                return Reply::Dying(NoShares { reading });
+            }
+            if seen >= limit {
+                return Reply::Full(AtLimit { reading });
+            }
+            let (found, more) = cell.increment(seen);
+            if found == seen {
+                return Reply::Added(Share::of_ref(more));
+            }
+            more.done();
+        }
+        unreachable!()
+    }
+}

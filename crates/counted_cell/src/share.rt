@@ -1,0 +1,117 @@
+//! The shares of a cell.
+ghost use Rattle.std.specs.Prelude.{◌≡◌, ◌^◌, ◌<◌, ◌+◌};
+
+use crate::cell_ref::{CellRef, Reading};
+use crate::content::Content;
+use crate::evidence::NoShares;
+use crate::label::Label;
+use crate::reply::Reply;
+use std::marker::Model;
+use std::sync::Wait;
+
+/// One of the shares that the count counts. It can't be forgotten in safe code: `give` alone spends it.
+/// In a clause it is its cell.
+pub struct Share {
+    cell: CellRef<Content>,
+}
+
+impl Model for Share {
+    ghost use Rattle.std.specs.Prelude.{◌≡◌, ◌^◌, ◌<◌};
+    ghost use Rattle.counted_cell.specs.Cell.{Cell, cell_of};
+    ghost use Rattle.counted_cell.specs.Counting.{share_right};
+
+    ghost Value = { Cell };
+
+    ghost view = { λ s. cell_of s.cell };
+
+    ghost invariant = { λ s. (s.cell.right ≡ share_right) × (s.cell.value.label.limit ≡ s.cell.name.limit) × (s.cell.name.limit < 2 ^ 63) };
+}
+
+impl Share {
+    ghost use Rattle.counted_cell.specs.Counting.{share_right};
+    ghost use Rattle.counted_cell.specs.Cell.{cell_of};
+    ghost use Rattle.counted_cell.specs.Reply.{IsReply};
+
+    /// The share whose right it is.
+    pub(crate) fn of_ref(cell: CellRef<Content>) -> Share
+        requires { (cell.right ≡ share_right) × (cell.value.label.limit ≡ cell.name.limit) × (cell.name.limit < 2 ^ 63) }
+        ensures { result ≡ cell_of cell }
+    {
+        Share { cell }
+    }
+
+    /// The right of the share.
+    pub(crate) fn into_ref(self) -> CellRef<Content>
+        ensures { (result.right ≡ share_right) × (cell_of result ≡ self) }
+    {
+        let Self { cell } = self;
+        cell
+    }
+
+    /// The numbers of its cell.
+    pub fn label(&self) -> Label
+        ensures { result ≡ self.now.label }
+    {
+        self.cell.get().label
+    }
+
+    /// The text of its cell.
+    pub fn text(&self) -> &str
+        ensures { result.now ≡ self.now.text }
+    {
+        self.cell.get().text.as_str()
+    }
+
+    /// One share more of the same cell.
+    pub fn add<R: Wait>(&self, rt: &R) -> Reply
+        ensures { IsReply self.now result }
+    {
+        Reply::one_more(rt, &self.cell)
+    }
+
+    /// Takes the share off the count, and tells what that left.
+    pub fn give(self) -> Given
+        ensures { result.name ≡ self.name }
+    {
+        let Self { cell } = self;
+        let (found, reading) = cell.decrement();
+        Given {
+            left: found - 1,
+            reading,
+        }
+    }
+}
+
+/// What giving a share back left. Nothing else makes one. In a clause it is the cell's name and the count that was left.
+#[derive(Drop)]
+pub struct Given {
+    left: u64,
+    reading: Reading,
+}
+
+impl Model for Given {
+    ghost use Rattle.std.specs.Prelude.{◌≡◌};
+    ghost use Rattle.counted_cell.specs.Counting.{Count};
+
+    ghost Value = { Count };
+
+    ghost view = { λ g. record { name = g.reading.name; count = g.reading.count } };
+
+    ghost invariant = { λ g. g.reading.count ≡ g.left };
+}
+
+impl Given {
+    ghost use Rattle.counted_cell.specs.Counting.{if_none_left};
+
+    /// Where the share was the last one: that no share is left.
+    pub fn last(self) -> Option<NoShares>
+        ensures { result ≡ if_none_left self }
+    {
+        let Self { left, reading } = self;
+        if left == 0 {
+            Some(NoShares { reading })
+        } else {
+            None
+        }
+    }
+}

@@ -1,0 +1,1 @@
+//! A text's life in its cell, with threads.
