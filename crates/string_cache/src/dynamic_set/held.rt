@@ -3,6 +3,7 @@ ghost use Rattle.std.specs.Prelude.{◌≡◌, IfErr, IfOk};
 
 use super::set::Set;
 use super::share::Share;
+use counted_cell::Reply;
 use std::marker::Model;
 use std::sync::Wait;
 use string_cache_core::Fault;
@@ -13,7 +14,7 @@ use string_cache_core::static_sets::StaticAtomSet;
 /// Its drop subtracts one and never waits. Where it was the entry's last share, the bucket's lock is tried once; if it was
 /// free, dying entries are taken out of the bucket, and otherwise the next pass over the bucket does that.
 pub struct Held<'s, Static: StaticAtomSet> {
-    share: Share,
+    share: counted_cell::Share,
     set: &'s Set<Static>,
 }
 
@@ -23,9 +24,11 @@ impl<'s, Static: StaticAtomSet> Model for Held<'s, Static> {
 
     ghost Value = { Linked };
 
-    ghost view = { λ h. h.share };
+    ghost use Rattle.string_cache.specs.Share.{linked_of};
 
-    ghost invariant = { λ h. IsRight Static.tables most_buckets h.share };
+    ghost view = { λ h. linked_of h.share };
+
+    ghost invariant = { λ h. IsRight Static.tables most_buckets (linked_of h.share) };
 }
 
 impl<'s, Static: StaticAtomSet> Drop for Held<'s, Static> {
@@ -43,14 +46,17 @@ impl<'s, Static: StaticAtomSet> Held<'s, Static> {
         requires { IsRight Static.tables most_buckets share }
         ensures { result ≡ share }
     {
-        Held { share, set }
+        Held {
+            share: share.into_counted(),
+            set,
+        }
     }
 
     /// The entry's ticket.
     pub(crate) fn ticket(&self) -> u64
         ensures { result ≡ self.now.ticket }
     {
-        self.share.ticket()
+        self.share.label().ticket
     }
 
     /// The entry's text.
@@ -64,7 +70,7 @@ impl<'s, Static: StaticAtomSet> Held<'s, Static> {
     pub(crate) fn hash(&self) -> u64
         ensures { result ≡ self.now.hash }
     {
-        self.share.hash()
+        self.share.label().hash
     }
 
     /// One share more of the same entry. It is refused for `FullCount` alone, where the entry has as many as it may have.
@@ -72,10 +78,12 @@ impl<'s, Static: StaticAtomSet> Held<'s, Static> {
         ensures same { IfOk result (λ held. held ≡ self.now) }
         ensures full { IfErr result (λ fault. fault ≡ Fault.FullCount) }
     {
-        let share = self.share.another(rt)?;
-        Ok(Held {
-            share,
-            set: self.set,
-        })
+        match self.share.add(rt) {
+            Reply::Added(share) => Ok(Held {
+                share,
+                set: self.set,
+            }),
+            Reply::Dying(_) | Reply::Full(_) => Err(Fault::FullCount),
+        }
     }
 }

@@ -8,7 +8,7 @@ ghost use Rattle.string_cache.specs.Chain.{IsRight};
 use super::bucket::Bucket;
 use super::counts::OwnCounts;
 use super::held::Held;
-use super::share::Share;
+use counted_cell::Share;
 use std::alloc::Global;
 use std::marker::Model;
 use std::sync::{Mutex, Wait};
@@ -110,8 +110,8 @@ impl<Static: StaticAtomSet> Set<Static> {
 
     /// Gives a share back. Where it was its entry's last, tries the lock of the entry's bucket, once, and prunes the bucket.
     pub(super) fn give_back(&self, share: Share) {
-        let at = usize::from(bucket_of(share.hash()));
-        if share.give_back() {
+        let at = usize::from(bucket_of(share.label().hash));
+        if share.give().last().is_some() {
             if let Some(mut bucket) = self.buckets[at].try_lock() {
                 bucket.prune(&mut OwnCounts);
             }
