@@ -1,4 +1,4 @@
--- What a `&` to a hold has, and how it is lent. Assumes `Logic`.
+-- What a `&` to a reference has, and how it is lent. Assumes `Logic`.
 use Rattle.std.proofs.Common.{◌≡◌, ℕ, zero, suc, ◌+◌, [], ◌∷◌, ◌++◌}
 use seplogic.Ra.Ura.{Ura}
 use base.FractionLaws.{Counts}
@@ -17,11 +17,11 @@ use denote.SharingLaws.{contraction, beside_shr_laws, one_shr_laws, always_shr_l
 use denote.Moves.{moves_from}
 use denote.Steps.{nothing}
 use denote.Struct.Lending.{Lends, Lends-false, Lends-nothing, Lends-first, lent_at, lent_at_shr_laws}
-use Rattle.counted_cell.specs.Counting.{Id, offset, Inv, shown, reads, right_to, seen_by, seen_with, ref_owns, ref_shares}
+use Rattle.counted_cell.specs.Counting.{CellName, Right, no_right, owner_right, share_right, sole_right, offset, Inv, shown, reads, right_to, seen_by, seen_with, ref_owns, ref_shares}
 
-module _ (R : RattleType) (L : RowLaws R) (b o : ℕ) (x : R.Denot) (t : Id) where
+module _ (R : RattleType) (L : RowLaws R) (b o : ℕ) (x : R.Denot) (t : CellName) where
   abbrev a : Lft
-  a = t.0 ∷ []
+  a = t.value_life ∷ []
 
   abbrev sh : Lft → Fml
   sh = shown R b o x t
@@ -48,7 +48,7 @@ module _ (R : RattleType) (L : RowLaws R) (b o : ℕ) (x : R.Denot) (t : Id) whe
       again : (e : Share) → Counts 64 e 1 → ent 𝓤 (sep 𝓤 (sem 𝓛 (finv J)) (sem 𝓛 (sh a))) (sem 𝓛 (fwand (fsep (fdead κ) (fseps (flft a e ∷ []))) (fupd Owns)))
       unfolding fseps
       again e c = qed 𝓛 (‵ (finv J) ∷ ‵ (sh a) ∷ []) ∵ assume ! (‵ (fsep (fdead κ) (fsep (flft a e) ftrue))) $ suffices ! (sem 𝓛 Owns) (upd_i 𝓤 (sem 𝓛 Owns)) $
-          fsplit3 ! $ move ! (1 ∷ []) $ use1 𝓛 (‵ (part 64 t.0)) (part_in 64 𝓛 t.0 e c) $ keep ! (0 ∷ 3 ∷ 4 ∷ []) $ fjoin3 ! $ done !
+          fsplit3 ! $ move ! (1 ∷ []) $ use1 𝓛 (‵ (part 64 t.value_life)) (part_in 64 𝓛 t.value_life e c) $ keep ! (0 ∷ 3 ∷ 4 ∷ []) $ fjoin3 ! $ done !
 
       by_token : (q : Share) → ent 𝓤 (sep 𝓤 (A.bor κ Owns) (A.lft κ q)) (H.⇛ (sep 𝓤 (sem 𝓛 Lent) (A.lft κ q)))
       unfolding fseps
@@ -71,17 +71,17 @@ module _ (R : RattleType) (L : RowLaws R) (b o : ℕ) (x : R.Denot) (t : Id) whe
     pub sees : (κ : Lft) → ent 𝓤 (sem 𝓛 (seen_by R b o x t κ)) (sem 𝓛 (sh κ))
     sees κ = qed 𝓛 (‵ (seen_by R b o x t κ) ∷ []) ∵ fsplit3 ! $ keep ! (0 ∷ 2 ∷ []) $ by ! (moves_from 𝓛 sh shown_laws κ a a (meet_⊑_left a κ))
 
-module _ (R : RattleType) (L : RowLaws R) (x : R.Denot) (t : Id) where
-  pub ref_laws : (p : Ptr) (right : ℕ) → ShrLaws (ref_shares R p x t right)
+module _ (R : RattleType) (L : RowLaws R) (x : R.Denot) (t : CellName) where
+  pub ref_laws : (p : Ptr) (right : Right) → ShrLaws (ref_shares R p x t right)
   ref_laws null_ptr right = said_shr_laws ffalse tt
-  ref_laws (block_ptr b o) zero = nothing_shr_laws
-  ref_laws (block_ptr b o) (suc zero) = seen_laws R L b o x t
-  ref_laws (block_ptr b o) (suc (suc zero)) = seen_laws R L b o x t
-  ref_laws (block_ptr b o) (suc (suc (suc k))) = nothing_shr_laws
+  ref_laws (block_ptr b o) no_right = nothing_shr_laws
+  ref_laws (block_ptr b o) owner_right = seen_laws R L b o x t
+  ref_laws (block_ptr b o) share_right = seen_laws R L b o x t
+  ref_laws (block_ptr b o) sole_right = nothing_shr_laws
 
-  pub Lends-ref : {M : Type 1} {𝓤 : Ura M} (𝓛 : Logic 𝓤) (l : Lft) (p : Ptr) (right : ℕ) → Lends 𝓛 (ref_owns R p x t right) (ref_shares R p x t right) l
+  pub Lends-ref : {M : Type 1} {𝓤 : Ura M} (𝓛 : Logic 𝓤) (l : Lft) (p : Ptr) (right : Right) → Lends 𝓛 (ref_owns R p x t right) (ref_shares R p x t right) l
   Lends-ref 𝓛 l null_ptr right = Lends-false 𝓛 (ref_shares R null_ptr x t right) l
-  Lends-ref 𝓛 l (block_ptr b o) zero = Lends-nothing 𝓛 (right_to R b o x t 0) l
-  Lends-ref 𝓛 l (block_ptr b o) (suc zero) = Lends-reads R L b o x t 𝓛 l
-  Lends-ref 𝓛 l (block_ptr b o) (suc (suc zero)) = Lends-first 𝓛 (reads R b o x t) (part 64 t.1) (seen_by R b o x t) l (Lends-reads R L b o x t 𝓛 l)
-  Lends-ref 𝓛 l (block_ptr b o) (suc (suc (suc k))) = Lends-nothing 𝓛 (right_to R b o x t (suc (suc (suc k)))) l
+  Lends-ref 𝓛 l (block_ptr b o) no_right = Lends-nothing 𝓛 (right_to R b o x t no_right) l
+  Lends-ref 𝓛 l (block_ptr b o) owner_right = Lends-reads R L b o x t 𝓛 l
+  Lends-ref 𝓛 l (block_ptr b o) share_right = Lends-first 𝓛 (reads R b o x t) (part 64 t.share_life) (seen_by R b o x t) l (Lends-reads R L b o x t 𝓛 l)
+  Lends-ref 𝓛 l (block_ptr b o) sole_right = Lends-nothing 𝓛 (right_to R b o x t sole_right) l

@@ -95,16 +95,18 @@ impl<T> CellRef<T> {
     /// The owner's end, by one load. Where it found 0, what is left has the cell to itself.
     pub fn close(self) -> (u64, Reading, CellRef<T>)
         requires { self.right ≡ owner_right }
-        ensures found { (result.1.name ≡ self.name) × (result.1.count ≡ result.0) }
-        ensures same { (result.2.value ≡ self.value) × (result.2.name ≡ self.name) × (result.2.ptr ≡ self.ptr) }
+        ensures found { (result.1.name ≡ self.name) × (result.1.count ≡ result.0) × (result.2.value ≡ self.value) × (result.2.name ≡ self.name) × (result.2.ptr ≡ self.ptr) }
         ensures gained { (result.0 ≡ 0 → result.2.right ≡ sole_right) × (result.0 ≢ 0 → result.2.right ≡ no_right) }
     {
         let CellRef { ptr } = self;
         let found = unsafe { raw::load::<Brand>(&raw const (*ptr).count, SeqCst) };
-        let reading = Reading {
-            marker: PhantomData,
-        };
-        (found, reading, CellRef { ptr })
+        (
+            found,
+            Reading {
+                marker: PhantomData,
+            },
+            CellRef { ptr },
+        )
     }
 }
 

@@ -41,12 +41,12 @@ pub struct AtLimit {
 }
 
 impl Model for AtLimit {
-    ghost use Rattle.std.specs.Prelude.{◌≡◌};
+    ghost use Rattle.std.specs.Prelude.{◌≤◌};
     ghost use Rattle.counted_cell.specs.Counting.{CellName};
 
     ghost Value = { CellName };
 
     ghost view = { λ a. a.reading.name };
 
-    ghost invariant = { λ a. a.reading.count ≡ a.reading.name.limit };
+    ghost invariant = { λ a. a.reading.name.limit ≤ a.reading.count };
 }
