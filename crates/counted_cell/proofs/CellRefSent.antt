@@ -45,7 +45,7 @@ module _ (T : RattleType) (y : IsSync T) (x : T.Denot) (t : CellName) where
   shared_keyless null_ptr right κ = tt
   shared_keyless (block_ptr b o) no_right κ = tt
   shared_keyless (block_ptr b o) owner_right κ = seen_keyless b o κ
-  shared_keyless (block_ptr b o) share_right κ = seen_keyless b o κ
+  shared_keyless (block_ptr b o) share_right κ = (seen_keyless b o κ, (λ q. tt))
   shared_keyless (block_ptr b o) sole_right κ = tt
 
 ps : IsSend RawPtr

@@ -111,12 +111,12 @@ impl<T> CellRef<T> {
 }
 
 /// A look that found 0 and a share of the same cell are never together.
-pub fn exclude<T>(reading: Reading, share: CellRef<T>)
-    requires zero { (reading.count ≡ 0) × (reading.name ≡ share.name) }
-    requires share { share.right ≡ share_right }
+pub fn exclude<T>(reading: Reading, share: &CellRef<T>)
+    requires zero { (reading.count ≡ 0) × (reading.name ≡ share.now.name) }
+    requires share { share.now.right ≡ share_right }
     ensures { ⊥ }
 {
-    let CellRef { ptr: _ } = share;
+    let _ = share;
 }
 
 unsafe impl<T: Send + Sync> Send for CellRef<T> {}

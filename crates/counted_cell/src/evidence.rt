@@ -25,12 +25,12 @@ impl NoShares {
     ghost use Rattle.std.specs.Prelude.{◌≡◌};
 
     /// A law: it is never together with a share of the same cell.
-    pub fn excludes(self, share: Share)
-        requires { share.name ≡ self }
+    pub fn excludes(self, share: &Share)
+        requires { share.now.name ≡ self }
         ensures { ⊥ }
     {
         let Self { reading } = self;
-        exclude(reading, share.into_ref())
+        exclude(reading, share.as_ref())
     }
 }
 
