@@ -50,3 +50,20 @@ impl Model for AtLimit {
 
     ghost invariant = { λ a. a.reading.name.limit ≤ a.reading.count };
 }
+
+/// Shows that the count of a cell was read as 1 or more. In a clause it is the cell's name.
+#[derive(Drop)]
+pub struct SharesLeft {
+    pub(crate) reading: Reading,
+}
+
+impl Model for SharesLeft {
+    ghost use Rattle.std.specs.Prelude.{◌<◌};
+    ghost use Rattle.counted_cell.specs.Counting.{CellName};
+
+    ghost Value = { CellName };
+
+    ghost view = { λ s. s.reading.name };
+
+    ghost invariant = { λ s. 0 < s.reading.count };
+}
