@@ -16,8 +16,12 @@ use denote.SharingLaws.{contraction}
 use denote.Steps.{nothing}
 use denote.Struct.Lending.{Lends}
 use Rattle.std.specs.Sync.RawAtomic.{word}
-use Rattle.counted_cell.specs.Counting.{Id, offset, shares_out, counted, standing, phase, Inv, shown, reads, right_to}
+use Rattle.counted_cell.specs.Counting.{CellName, owner_right, share_right, sole_right, offset, shares_out, counted, standing, phase, Inv, shown, reads, right_to}
 use Rattle.counted_cell.proofs.CellRefLent.{shown_laws}
+
+-- the name of a cell of these two lifetimes and this limit
+abbrev pub name_of : ℕ × ℕ → ℕ → CellName
+name_of k m = record { value_life = k.0; share_life = k.1; limit = m }
 
 module _ {M : Type 1} {𝓤 : Ura M} (𝓛 : Logic 𝓤) (R : RattleType) (L : RowLaws R) (b o : ℕ) (x : R.Denot) where
   open 𝓛 use {H, A}
@@ -26,13 +30,13 @@ module _ {M : Type 1} {𝓤 : Ura M} (𝓛 : Logic 𝓤) (R : RattleType) (L : R
   At = lies_at R full_share (block_ptr b (o + offset R)) x
 
   -- the owner's right, a share's, and the lender's right to have the value back
-  abbrev pub Begun : Id → Fml
-  Begun t = fsep (right_to R b o x t 1) (fsep (right_to R b o x t 2) (flent (t.0 ∷ []) At))
+  abbrev pub Begun : CellName → Fml
+  Begun t = fsep (right_to R b o x t owner_right) (fsep (right_to R b o x t share_right) (flent (t.value_life ∷ []) At))
 
-  pub begins : (l μ : Lft) (q : Share) (m : ℕ) → 1 ≤ m → ((t : Id) → Lends 𝓛 At (shown R b o x t) l) → Incl μ l
-      → ent 𝓤 (sep 𝓤 (sem 𝓛 (word b (o + 0) 1)) (sep 𝓤 (sem 𝓛 At) (A.lft μ q))) (H.⇛ (sep 𝓤 (sem 𝓛 (fex (ℕ × ℕ) (λ k. Begun (k.0, k.1, m)))) (A.lft μ q)))
+  pub begins : (l μ : Lft) (q : Share) (m : ℕ) → 1 ≤ m → ((t : CellName) → Lends 𝓛 At (shown R b o x t) l) → Incl μ l
+      → ent 𝓤 (sep 𝓤 (sem 𝓛 (word b (o + 0) 1)) (sep 𝓤 (sem 𝓛 At) (A.lft μ q))) (H.⇛ (sep 𝓤 (sem 𝓛 (fex (ℕ × ℕ) (λ k. Begun (name_of k m)))) (A.lft μ q)))
   begins l μ q m room lends inc = qed 𝓛 (‵ (word b (o + 0) 1) ∷ ‵ At ∷ ‵ (flft μ q) ∷ []) ∵ updating ! $ lft_new ! tt (λ c.
-      use1 𝓛 (‵ (rest 64 c 1) ⊛ ‵ (part 64 c)) (cut 64 𝓛 c 0 full_share (lit< tt) (Counts-all 64)) $ split ! $ lft_new ! tt (λ a. let t : Id = (a, c, m) in let J : Fml = Inv t b (o + 0) in let sh = shown R b o x t in
+      use1 𝓛 (‵ (rest 64 c 1) ⊛ ‵ (part 64 c)) (cut 64 𝓛 c 0 full_share (lit< tt) (Counts-all 64)) $ split ! $ lft_new ! tt (λ a. let t : CellName = name_of (a, c) m in let J : Fml = Inv t b (o + 0) in let sh = shown R b o x t in
       -- [a's token; c's rest; c's part; the word; the value; the token]
       move ! (4 ∷ []) $ bor_new ! tt (a ∷ []) $ move ! (0 ∷ 2 ∷ 6 ∷ []) $
       -- [the borrow; a's token; the token; the lender's right; c's rest; c's part; the word]
@@ -48,8 +52,8 @@ module _ {M : Type 1} {𝓤 : Ura M} (𝓛 : Logic 𝓤) (R : RattleType) (L : R
       -- [the invariant, twice; a part; a part; what is shown; the token; the lender's right; c's part]
       move ! (4 ∷ []) $ use1 𝓛 (‵ (sh (a ∷ [])) ⊛ ‵ (sh (a ∷ []))) (contraction 𝓛 sh (shown_laws R L b o x t) (a ∷ [])) $ split ! $
       -- [what is shown, twice; the invariant, twice; a part; a part; the token; the lender's right; c's part]
-      move ! (4 ∷ 2 ∷ 0 ∷ []) $ fjoin3 ! $ move ! (3 ∷ 2 ∷ 1 ∷ []) $ fjoin3 ! $ move ! (0 ∷ 4 ∷ []) $ fjoin ! $ move ! (1 ∷ 0 ∷ 3 ∷ []) $ fjoin3 ! $ fpack ! (ℕ × ℕ) (λ k. Begun (k.0, k.1, m)) (a, c) $ now ! $ done !))
+      move ! (4 ∷ 2 ∷ 0 ∷ []) $ fjoin3 ! $ move ! (3 ∷ 2 ∷ 1 ∷ []) $ fjoin3 ! $ move ! (0 ∷ 4 ∷ []) $ fjoin ! $ move ! (1 ∷ 0 ∷ 3 ∷ []) $ fjoin3 ! $ fpack ! (ℕ × ℕ) (λ k. Begun (name_of k m)) (a, c) $ now ! $ done !))
 
   -- what the owner's end gained, with the lender's right
-  pub ends : (t : Id) → ent 𝓤 (sep 𝓤 (sem 𝓛 (right_to R b o x t 3)) (sem 𝓛 (flent (t.0 ∷ []) At))) (H.⇛ (sep 𝓤 (sem 𝓛 (word b (o + 0) 0)) (sem 𝓛 At)))
-  ends t = qed 𝓛 (‵ (right_to R b o x t 3) ∷ ‵ (flent (t.0 ∷ []) At) ∷ []) ∵ updating ! $ fsplit ! $ move ! (1 ∷ 2 ∷ []) $ lent_back ! tt $ now ! $ move ! (1 ∷ 0 ∷ []) $ done !
+  pub ends : (t : CellName) → ent 𝓤 (sep 𝓤 (sem 𝓛 (right_to R b o x t sole_right)) (sem 𝓛 (flent (t.value_life ∷ []) At))) (H.⇛ (sep 𝓤 (sem 𝓛 (word b (o + 0) 0)) (sem 𝓛 At)))
+  ends t = qed 𝓛 (‵ (right_to R b o x t sole_right) ∷ ‵ (flent (t.value_life ∷ []) At) ∷ []) ∵ updating ! $ fsplit ! $ move ! (1 ∷ 2 ∷ []) $ lent_back ! tt $ now ! $ move ! (1 ∷ 0 ∷ []) $ done !

@@ -1,4 +1,4 @@
--- A hold may cross threads where its value may be shared and sent. Assumes `Logic`.
+-- A reference may cross threads where its value may be shared and sent. Assumes `Logic`.
 use Rattle.std.proofs.Common.{ℕ, zero, suc, ◌+◌, Bool, true, false, [], ◌∷◌}
 use base.Fml.{Fml, Lft, ftrue, finv}
 use base.Shift.{Keyless}
@@ -9,44 +9,44 @@ use denote.Builtin.{RawPtr}
 use denote.Struct.Struct.{exits_of}
 use denote.Struct.Owning.{shape, fields, to}
 use denote.Param.Send.{IsSend, IsSync, Quiet, Common, owning_send, struct_send, struct_sync, sendable}
-use Rattle.counted_cell.specs.Counting.{Id, shares_out, phase, Inv, offset, shown, reads, right_to, seen_by, ref_owns, ref_shares}
+use Rattle.counted_cell.specs.Counting.{CellName, Right, no_right, owner_right, share_right, sole_right, shares_out, phase, Inv, offset, shown, reads, right_to, seen_by, ref_owns, ref_shares}
 use Rattle.counted_cell.specs.contracts.cell_ref.CellRef.{the_row, the_type}
 
 pub quiet : {D X : Type 0} (to : D → X) (e : Exit X) → Quiet e → Quiet (hidden (under to e))
 quiet to unchanged q = λ x w. tt
 quiet to (leaves L l S s r₀) q = λ d. q (to d)
 
-out_keyless : (t : Id) (n : ℕ) (y : Bool) → Keyless (shares_out t n y)
+out_keyless : (t : CellName) (n : ℕ) (y : Bool) → Keyless (shares_out t n y)
 out_keyless t n true = λ r c. tt
 out_keyless t n false = ((λ _. tt), tt)
 
-phase_keyless : (t : Id) (b o : ℕ) (y : Bool) → Keyless (phase t b o y)
+phase_keyless : (t : CellName) (b o : ℕ) (y : Bool) → Keyless (phase t b o y)
 phase_keyless t b o true = λ n. (tt, ((λ _. tt), ((λ r c. tt), out_keyless t n)))
 phase_keyless t b o false = tt
 
-module _ (T : RattleType) (y : IsSync T) (x : T.Denot) (t : Id) where
+module _ (T : RattleType) (y : IsSync T) (x : T.Denot) (t : CellName) where
   shown_keyless : (b o : ℕ) (κ : Lft) → Keyless (shown T b o x t κ)
   shown_keyless b o κ = (tt, y.shared x b (o + offset T) κ)
 
   reads_keyless : (b o : ℕ) → Keyless (reads T b o x t)
-  reads_keyless b o = ((λ e c. tt), (phase_keyless t b (o + 0), shown_keyless b o (t.0 ∷ [])))
+  reads_keyless b o = ((λ e c. tt), (phase_keyless t b (o + 0), shown_keyless b o (t.value_life ∷ [])))
 
-  pub owned_keyless : (p : Ptr) (right : ℕ) → Keyless (ref_owns T p x t right)
+  pub owned_keyless : (p : Ptr) (right : Right) → Keyless (ref_owns T p x t right)
   owned_keyless null_ptr right = tt
-  owned_keyless (block_ptr b o) zero = tt
-  owned_keyless (block_ptr b o) (suc zero) = reads_keyless b o
-  owned_keyless (block_ptr b o) (suc (suc zero)) = (reads_keyless b o, (λ e c. tt))
-  owned_keyless (block_ptr b o) (suc (suc (suc k))) = (tt, tt)
+  owned_keyless (block_ptr b o) no_right = tt
+  owned_keyless (block_ptr b o) owner_right = reads_keyless b o
+  owned_keyless (block_ptr b o) share_right = (reads_keyless b o, (λ e c. tt))
+  owned_keyless (block_ptr b o) sole_right = (tt, tt)
 
   seen_keyless : (b o : ℕ) (κ : Lft) → Keyless (seen_by T b o x t κ)
-  seen_keyless b o κ = ((λ q. tt), (phase_keyless t b (o + 0), shown_keyless b o (t.0 ∷ [])))
+  seen_keyless b o κ = ((λ q. tt), (phase_keyless t b (o + 0), shown_keyless b o (t.value_life ∷ [])))
 
-  pub shared_keyless : (p : Ptr) (right : ℕ) (κ : Lft) → Keyless (ref_shares T p x t right κ)
+  pub shared_keyless : (p : Ptr) (right : Right) (κ : Lft) → Keyless (ref_shares T p x t right κ)
   shared_keyless null_ptr right κ = tt
-  shared_keyless (block_ptr b o) zero κ = tt
-  shared_keyless (block_ptr b o) (suc zero) κ = seen_keyless b o κ
-  shared_keyless (block_ptr b o) (suc (suc zero)) κ = seen_keyless b o κ
-  shared_keyless (block_ptr b o) (suc (suc (suc k))) κ = tt
+  shared_keyless (block_ptr b o) no_right κ = tt
+  shared_keyless (block_ptr b o) owner_right κ = seen_keyless b o κ
+  shared_keyless (block_ptr b o) share_right κ = (seen_keyless b o κ, (λ q. tt))
+  shared_keyless (block_ptr b o) sole_right κ = tt
 
 ps : IsSend RawPtr
 ps = search sendable
@@ -55,7 +55,7 @@ py : IsSync RawPtr
 py = search sendable
 
 pub ref_send : (T : RattleType) → IsSync T → IsSend (the_row T)
-ref_send T y = let O = the_type T in owning_send O (ps, tt) (λ d. owned_keyless T y d.value d.cell d.ptr d.right) (λ k. quiet (to O) (exits_of k (fields O)) ((struct_send (shape O) (ps, tt)).leaving k))
+ref_send T y = let O = the_type T in owning_send O (ps, tt) (λ d. owned_keyless T y d.value d.name d.ptr d.right) (λ k. quiet (to O) (exits_of k (fields O)) ((struct_send (shape O) (ps, tt)).leaving k))
 
 pub ref_sync : (T : RattleType) → IsSync T → IsSync (the_row T)
-ref_sync T y = record { shared = λ d b o κ. ((struct_sync (shape (the_type T)) (py, tt)).shared (to (the_type T) d) b o κ, shared_keyless T y d.value d.cell d.ptr d.right κ) }
+ref_sync T y = record { shared = λ d b o κ. ((struct_sync (shape (the_type T)) (py, tt)).shared (to (the_type T) d) b o κ, shared_keyless T y d.value d.name d.ptr d.right κ) }

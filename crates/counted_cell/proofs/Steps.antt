@@ -16,9 +16,9 @@ use types.RcWeak.{part, rest, takes, gives, whole, rest_some}
 use denote.RawPtr.{block_ptr}
 use denote.Steps.{nothing}
 use Rattle.std.specs.Sync.RawAtomic.{Shift, rests, ends, enters, leaves, along, shifted, closing, if_none, back, found, asks, always, word}
-use Rattle.counted_cell.specs.Counting.{fact, Id, limit_of, shares_out, counted, standing, phase, Inv, reading_owns}
+use Rattle.counted_cell.specs.Counting.{fact, CellName, shares_out, counted, standing, phase, Inv, reading_owns}
 
-module _ {M : Type 1} {𝓤 : Ura M} (𝓛 : Logic 𝓤) (b o : ℕ) (t : Id) where
+module _ {M : Type 1} {𝓤 : Ura M} (𝓛 : Logic 𝓤) (b o : ℕ) (t : CellName) where
   open 𝓛 use {H, A}
 
   abbrev Pr : Type 2
@@ -40,10 +40,10 @@ module _ {M : Type 1} {𝓤 : Ura M} (𝓛 : Logic 𝓤) (b o : ℕ) (t : Id) wh
   infixr 35 ◌∗◌
   infixr 30 ◌-∗◌
   abbrev a : Lft
-  a = t.0 ∷ []
+  a = t.value_life ∷ []
 
   abbrev c : Lft
-  c = t.1 ∷ []
+  c = t.share_life ∷ []
 
   abbrev I : Fml
   I = Inv t b o
@@ -58,7 +58,7 @@ module _ {M : Type 1} {𝓤 : Ura M} (𝓛 : Logic 𝓤) (b o : ℕ) (t : Id) wh
   part_dead k X = qed 𝓛 (‵ (part 64 k) ∷ ‵ (fdead (k ∷ [])) ∷ []) ∵ fpick ! (λ e. fpick ! (λ _. by ! (not_dead (k ∷ []) e X)))
 
   abbrev Within : ℕ → Type 0
-  Within n = n ≤ limit_of t
+  Within n = n ≤ t.limit
 
   stood : (n : ℕ) → Within n → ⟦ word b o n ⟧ ∗ ⟦ St n ⟧ ⊢ ⟦ I ⟧
   stood n le = qed 𝓛 (‵ (word b o n) ∷ ‵ (St n) ∷ []) ∵ move ! (1 ∷ []) $ nothing ! $ fpack ! (Within n) (λ _. ftrue) le $ fjoin ! $ move ! (1 ∷ 0 ∷ []) $ fjoin ! $ fpack ! ℕ (standing t b o) n $ fpack ! Bool (phase t b o) true $ done !
@@ -109,39 +109,39 @@ module _ {M : Type 1} {𝓤 : Ura M} (𝓛 : Logic 𝓤) (b o : ℕ) (t : Id) wh
   Left n = fsep (fact (0 < n)) (reading_owns t (n - 1))
 
   abbrev pub Shared : Pr
-  Shared = ⟦ part 64 t.0 ⟧ ∗ ⟦ part 64 t.1 ⟧
+  Shared = ⟦ part 64 t.value_life ⟧ ∗ ⟦ part 64 t.share_life ⟧
 
-  leave_from : (j n : ℕ) → n < 2 ^ 64 → Within n → (y : Bool) → ⟦ shares_out t n y ⟧ ∗ ⟦ rest 64 t.0 (n + 1) ⟧ ∗ ⟦ word b o (less n) ⟧ ∗ Shared ⊢ Then j (Left n)
-  leave_from j n fits le false = qed 𝓛 (‵ (shares_out t n false) ∷ ‵ (rest 64 t.0 (n + 1)) ∷ ‵ (word b o (less n)) ∷ ‵ (part 64 t.0) ∷ ‵ (part 64 t.1) ∷ []) ∵ fsplit ! $ keep ! (5 ∷ 1 ∷ []) $ by ! (part_dead t.1 (Then j (Left n)))
-  leave_from j n fits le true = qed 𝓛 (‵ (rest 64 t.1 n) ∷ ‵ (rest 64 t.0 (n + 1)) ∷ ‵ (word b o (less n)) ∷ ‵ (part 64 t.0) ∷ ‵ (part 64 t.1) ∷ []) ∵
-      use1 𝓛 (given (0 < n) (‵ (rest 64 t.1 n))) (rest_some 64 𝓛 t.1 n) $ learn ! (λ pos. nothing ! $ fpack ! (0 < n) (λ _. ftrue) pos $ move ! (2 ∷ 4 ∷ []) $
-      use2 𝓛 (‵ (rest 64 t.0 ((n + 1) - 1))) (gives 64 𝓛 t.0 (n + 1) (omega arith)) $ let back_at : (n + 1) - 1 ≡ n = omega arith in rewrite ! 0 (λ (k : ℕ). ‵ (rest 64 t.0 k)) back_at refl $
+  leave_from : (j n : ℕ) → n < 2 ^ 64 → Within n → (y : Bool) → ⟦ shares_out t n y ⟧ ∗ ⟦ rest 64 t.value_life (n + 1) ⟧ ∗ ⟦ word b o (less n) ⟧ ∗ Shared ⊢ Then j (Left n)
+  leave_from j n fits le false = qed 𝓛 (‵ (shares_out t n false) ∷ ‵ (rest 64 t.value_life (n + 1)) ∷ ‵ (word b o (less n)) ∷ ‵ (part 64 t.value_life) ∷ ‵ (part 64 t.share_life) ∷ []) ∵ fsplit ! $ keep ! (5 ∷ 1 ∷ []) $ by ! (part_dead t.share_life (Then j (Left n)))
+  leave_from j n fits le true = qed 𝓛 (‵ (rest 64 t.share_life n) ∷ ‵ (rest 64 t.value_life (n + 1)) ∷ ‵ (word b o (less n)) ∷ ‵ (part 64 t.value_life) ∷ ‵ (part 64 t.share_life) ∷ []) ∵
+      use1 𝓛 (given (0 < n) (‵ (rest 64 t.share_life n))) (rest_some 64 𝓛 t.share_life n) $ learn ! (λ pos. nothing ! $ fpack ! (0 < n) (λ _. ftrue) pos $ move ! (2 ∷ 4 ∷ []) $
+      use2 𝓛 (‵ (rest 64 t.value_life ((n + 1) - 1))) (gives 64 𝓛 t.value_life (n + 1) (omega arith)) $ let back_at : (n + 1) - 1 ≡ n = omega arith in rewrite ! 0 (λ (k : ℕ). ‵ (rest 64 t.value_life k)) back_at refl $
       -- [a's rest; that n is positive; c's rest; the word; c's part]
       dite (ℕ_discrete n 1)
-      (λ one. let zero : less n ≡ 0 = omega arith in rewrite ! 0 (λ (k : ℕ). ‵ (rest 64 t.0 k)) one refl $ rewrite ! 2 (λ (k : ℕ). ‵ (rest 64 t.1 k)) one refl $ rewrite ! 3 (λ (k : ℕ). ‵ (word b o k)) zero refl $
-      move ! (2 ∷ 4 ∷ []) $ use2 𝓛 (‵ (flft c full_share)) (whole 64 𝓛 t.1) $ suffices ! _ (ending j (Left n) t.1) $ frame ! $ assume ! (‵ (fdead c)) $ use1 𝓛 (‵ (fdead c) ⊛ ‵ (fdead c)) (𝓛.lfts.dead_dup c) $ split ! $
+      (λ one. let zero : less n ≡ 0 = omega arith in rewrite ! 0 (λ (k : ℕ). ‵ (rest 64 t.value_life k)) one refl $ rewrite ! 2 (λ (k : ℕ). ‵ (rest 64 t.share_life k)) one refl $ rewrite ! 3 (λ (k : ℕ). ‵ (word b o k)) zero refl $
+      move ! (2 ∷ 4 ∷ []) $ use2 𝓛 (‵ (flft c full_share)) (whole 64 𝓛 t.share_life) $ suffices ! _ (ending j (Left n) t.share_life) $ frame ! $ assume ! (‵ (fdead c)) $ use1 𝓛 (‵ (fdead c) ⊛ ‵ (fdead c)) (𝓛.lfts.dead_dup c) $ split ! $
       nothing ! $ fpack ! (0 ≡ 0) (λ _. ftrue) refl $ fjoin ! $ fpack ! Bool (shares_out t 0) false $ move ! (2 ∷ 0 ∷ []) $ fjoin ! $ move ! (3 ∷ 0 ∷ []) $
       use2 𝓛 (‵ I) (stood 0 (omega arith)) $ move ! (1 ∷ []) $ use1 𝓛 (‵ (reading_owns t (n - 1))) (all_i 𝓤 (λ (_ : n - 1 ≡ 0). A.dead c) (λ _. id⊢ 𝓤 (A.dead c))) $ move ! (2 ∷ 0 ∷ []) $ fjoin ! $ move ! (1 ∷ 0 ∷ []) $ done !)
-      (λ many. let is : less n ≡ n - 1 = omega arith in move ! (2 ∷ 4 ∷ []) $ use2 𝓛 (‵ (rest 64 t.1 (n - 1))) (gives 64 𝓛 t.1 n (omega arith)) $
-      let same : n ≡ (n - 1) + 1 = omega arith in rewrite ! 1 (λ (k : ℕ). ‵ (rest 64 t.0 k)) same refl $ rewrite ! 3 (λ (k : ℕ). ‵ (word b o k)) is refl $
+      (λ many. let is : less n ≡ n - 1 = omega arith in move ! (2 ∷ 4 ∷ []) $ use2 𝓛 (‵ (rest 64 t.share_life (n - 1))) (gives 64 𝓛 t.share_life n (omega arith)) $
+      let same : n ≡ (n - 1) + 1 = omega arith in rewrite ! 1 (λ (k : ℕ). ‵ (rest 64 t.value_life k)) same refl $ rewrite ! 3 (λ (k : ℕ). ‵ (word b o k)) is refl $
       fpack ! Bool (shares_out t (n - 1)) true $ move ! (1 ∷ 0 ∷ []) $ fjoin ! $ move ! (2 ∷ 0 ∷ []) $ use2 𝓛 (‵ I) (stood (n - 1) (omega arith)) $
       nothing ! $ use1 𝓛 (‵ (reading_owns t (n - 1))) (all_i 𝓤 (λ (_ : n - 1 ≡ 0). A.dead c) (λ z. absurd (omega arith))) $ move ! (2 ∷ 0 ∷ []) $ fjoin ! $ move ! (1 ∷ 0 ∷ []) $ by ! (plainly j (Left n))))
 
   pub leaves_one : A.inv I ∗ Shared ⊢ asks 𝓛 (block_ptr b o) less always Left
-  leaves_one = stepped less Left Shared (qed 𝓛 (‵ (fdead a) ∷ ‵ (part 64 t.0) ∷ ‵ (part 64 t.1) ∷ []) ∵ keep ! (1 ∷ 0 ∷ []) $ by ! (part_dead t.0 (never 𝓤)))
-      (λ j n fits le. qed 𝓛 (‵ (word b o (less n)) ∷ ‵ (St n) ∷ ‵ (part 64 t.0) ∷ ‵ (part 64 t.1) ∷ []) ∵ move ! (1 ∷ []) $ fsplit ! $ move ! (1 ∷ []) $ fpick ! (λ y. by ! (leave_from j n fits le y)))
+  leaves_one = stepped less Left Shared (qed 𝓛 (‵ (fdead a) ∷ ‵ (part 64 t.value_life) ∷ ‵ (part 64 t.share_life) ∷ []) ∵ keep ! (1 ∷ 0 ∷ []) $ by ! (part_dead t.value_life (never 𝓤)))
+      (λ j n fits le. qed 𝓛 (‵ (word b o (less n)) ∷ ‵ (St n) ∷ ‵ (part 64 t.value_life) ∷ ‵ (part 64 t.share_life) ∷ []) ∵ move ! (1 ∷ []) $ fsplit ! $ move ! (1 ∷ []) $ fpick ! (λ y. by ! (leave_from j n fits le y)))
 
   -- ---- a look
   module _ (s : Share) where
     abbrev pub Looked : ℕ → Fml
     Looked n = fsep (flft a s) (reading_owns t n)
 
-    look_from : (j n : ℕ) → Within n → (y : Bool) → ⟦ shares_out t n y ⟧ ∗ ⟦ rest 64 t.0 (n + 1) ⟧ ∗ ⟦ word b o n ⟧ ∗ A.lft a s ⊢ Then j (Looked n)
-    look_from j n le false = qed 𝓛 (‵ (shares_out t n false) ∷ ‵ (rest 64 t.0 (n + 1)) ∷ ‵ (word b o n) ∷ ‵ (flft a s) ∷ []) ∵ fsplit ! $ move ! (1 ∷ []) $
+    look_from : (j n : ℕ) → Within n → (y : Bool) → ⟦ shares_out t n y ⟧ ∗ ⟦ rest 64 t.value_life (n + 1) ⟧ ∗ ⟦ word b o n ⟧ ∗ A.lft a s ⊢ Then j (Looked n)
+    look_from j n le false = qed 𝓛 (‵ (shares_out t n false) ∷ ‵ (rest 64 t.value_life (n + 1)) ∷ ‵ (word b o n) ∷ ‵ (flft a s) ∷ []) ∵ fsplit ! $ move ! (1 ∷ []) $
         use1 𝓛 (‵ (fdead c) ⊛ ‵ (fdead c)) (𝓛.lfts.dead_dup c) $ split ! $ move ! (2 ∷ 1 ∷ []) $ fjoin ! $ fpack ! Bool (shares_out t n) false $ move ! (2 ∷ 0 ∷ []) $ fjoin ! $ move ! (2 ∷ 0 ∷ []) $
         use2 𝓛 (‵ I) (stood n le) $ move ! (1 ∷ []) $ use1 𝓛 (‵ (reading_owns t n)) (all_i 𝓤 (λ (_ : n ≡ 0). A.dead c) (λ _. id⊢ 𝓤 (A.dead c))) $ move ! (2 ∷ 0 ∷ []) $ fjoin ! $ move ! (1 ∷ 0 ∷ []) $ by ! (plainly j (Looked n))
-    look_from j n le true = qed 𝓛 (‵ (rest 64 t.1 n) ∷ ‵ (rest 64 t.0 (n + 1)) ∷ ‵ (word b o n) ∷ ‵ (flft a s) ∷ []) ∵
-        use1 𝓛 (given (0 < n) (‵ (rest 64 t.1 n))) (rest_some 64 𝓛 t.1 n) $ learn ! (λ pos. fpack ! Bool (shares_out t n) true $ move ! (1 ∷ 0 ∷ []) $ fjoin ! $ move ! (1 ∷ 0 ∷ []) $
+    look_from j n le true = qed 𝓛 (‵ (rest 64 t.share_life n) ∷ ‵ (rest 64 t.value_life (n + 1)) ∷ ‵ (word b o n) ∷ ‵ (flft a s) ∷ []) ∵
+        use1 𝓛 (given (0 < n) (‵ (rest 64 t.share_life n))) (rest_some 64 𝓛 t.share_life n) $ learn ! (λ pos. fpack ! Bool (shares_out t n) true $ move ! (1 ∷ 0 ∷ []) $ fjoin ! $ move ! (1 ∷ 0 ∷ []) $
         use2 𝓛 (‵ I) (stood n le) $ nothing ! $ use1 𝓛 (‵ (reading_owns t n)) (all_i 𝓤 (λ (_ : n ≡ 0). A.dead c) (λ z. absurd (omega arith))) $ move ! (2 ∷ 0 ∷ []) $ fjoin ! $ move ! (1 ∷ 0 ∷ []) $ by ! (plainly j (Looked n)))
 
     pub looks : A.inv I ∗ A.lft a s ⊢ asks 𝓛 (block_ptr b o) (λ n. n) always Looked
@@ -149,22 +149,22 @@ module _ {M : Type 1} {𝓤 : Ura M} (𝓛 : Logic 𝓤) (b o : ℕ) (t : Id) wh
         (λ j n fits le. qed 𝓛 (‵ (word b o n) ∷ ‵ (St n) ∷ ‵ (flft a s) ∷ []) ∵ move ! (1 ∷ []) $ fsplit ! $ move ! (1 ∷ []) $ fpick ! (λ y. by ! (look_from j n le y)))
 
     -- ---- a share more
-    module _ (seen : ℕ) (pos : 0 < seen) (room : seen + 2 < 2 ^ 64) (below : seen < limit_of t) where
+    module _ (seen : ℕ) (pos : 0 < seen) (room : seen + 2 < 2 ^ 64) (below : seen < t.limit) where
       abbrev pub more : ℕ → ℕ
       more n = either (eqb n seen) (seen + 1) n
 
       abbrev pub won : ℕ → Bool → Fml
-      won n true = fsep (fact (n ≡ seen)) (fsep (part 64 t.0) (part 64 t.1))
+      won n true = fsep (fact (n ≡ seen)) (fsep (part 64 t.value_life) (part 64 t.share_life))
       won n false = fact (n ≢ seen)
 
       abbrev pub Raised : ℕ → Fml
       Raised n = fsep (flft a s) (fex Bool (won n))
 
-      raise_from : (j : ℕ) (y : Bool) → ⟦ shares_out t seen y ⟧ ∗ ⟦ rest 64 t.0 (seen + 1) ⟧ ∗ ⟦ word b o (seen + 1) ⟧ ∗ A.lft a s ⊢ Then j (Raised seen)
-      raise_from j false = qed 𝓛 (‵ (shares_out t seen false) ∷ ‵ (rest 64 t.0 (seen + 1)) ∷ ‵ (word b o (seen + 1)) ∷ ‵ (flft a s) ∷ []) ∵ fsplit ! $ fpick ! (λ z. absurd (omega arith))
-      raise_from j true = qed 𝓛 (‵ (rest 64 t.1 seen) ∷ ‵ (rest 64 t.0 (seen + 1)) ∷ ‵ (word b o (seen + 1)) ∷ ‵ (flft a s) ∷ []) ∵
-          use1 𝓛 (‵ (rest 64 t.1 (seen + 1)) ⊛ ‵ (part 64 t.1)) (takes 64 𝓛 t.1 seen (omega arith)) $ split ! $ fpack ! Bool (shares_out t (seen + 1)) true $ move ! (2 ∷ []) $
-          use1 𝓛 (‵ (rest 64 t.0 ((seen + 1) + 1)) ⊛ ‵ (part 64 t.0)) (takes 64 𝓛 t.0 (seen + 1) (omega arith)) $ split ! $ move ! (0 ∷ 2 ∷ []) $ fjoin ! $ move ! (3 ∷ 0 ∷ []) $
+      raise_from : (j : ℕ) (y : Bool) → ⟦ shares_out t seen y ⟧ ∗ ⟦ rest 64 t.value_life (seen + 1) ⟧ ∗ ⟦ word b o (seen + 1) ⟧ ∗ A.lft a s ⊢ Then j (Raised seen)
+      raise_from j false = qed 𝓛 (‵ (shares_out t seen false) ∷ ‵ (rest 64 t.value_life (seen + 1)) ∷ ‵ (word b o (seen + 1)) ∷ ‵ (flft a s) ∷ []) ∵ fsplit ! $ fpick ! (λ z. absurd (omega arith))
+      raise_from j true = qed 𝓛 (‵ (rest 64 t.share_life seen) ∷ ‵ (rest 64 t.value_life (seen + 1)) ∷ ‵ (word b o (seen + 1)) ∷ ‵ (flft a s) ∷ []) ∵
+          use1 𝓛 (‵ (rest 64 t.share_life (seen + 1)) ⊛ ‵ (part 64 t.share_life)) (takes 64 𝓛 t.share_life seen (omega arith)) $ split ! $ fpack ! Bool (shares_out t (seen + 1)) true $ move ! (2 ∷ []) $
+          use1 𝓛 (‵ (rest 64 t.value_life ((seen + 1) + 1)) ⊛ ‵ (part 64 t.value_life)) (takes 64 𝓛 t.value_life (seen + 1) (omega arith)) $ split ! $ move ! (0 ∷ 2 ∷ []) $ fjoin ! $ move ! (3 ∷ 0 ∷ []) $
           use2 𝓛 (‵ I) (stood (seen + 1) (omega arith)) $ move ! (1 ∷ 2 ∷ []) $ fjoin ! $ nothing ! $ fpack ! (seen ≡ seen) (λ _. ftrue) refl $ fjoin ! $ fpack ! Bool (won seen) true $ move ! (2 ∷ 0 ∷ []) $ fjoin ! $ move ! (1 ∷ 0 ∷ []) $
           by ! (plainly j (Raised seen))
 
@@ -182,14 +182,22 @@ module _ {M : Type 1} {𝓤 : Ura M} (𝓛 : Logic 𝓤) (b o : ℕ) (t : Id) wh
   over n false = fact (n ≢ 0)
 
   abbrev pub Closed : ℕ → Fml
-  Closed n = fex Bool (over n)
+  Closed n = fsep (reading_owns t n) (fex Bool (over n))
 
-  close_from : (j n : ℕ) → Within n → ⟦ word b o n ⟧ ∗ ⟦ St n ⟧ ∗ ⟦ part 64 t.0 ⟧ ⊢ Then j (Closed n)
-  close_from j n le = qed 𝓛 (‵ (word b o n) ∷ ‵ (St n) ∷ ‵ (part 64 t.0) ∷ []) ∵ dite (ℕ_discrete n 0)
-      (λ z. rewrite ! 0 (λ (k : ℕ). ‵ (word b o k)) z refl $ move ! (1 ∷ []) $ fsplit ! $ rewrite ! 0 (λ (k : ℕ). ‵ (rest 64 t.0 (k + 1))) z refl $ move ! (0 ∷ 3 ∷ []) $ use2 𝓛 (‵ (flft a full_share)) (whole 64 𝓛 t.0) $
-      suffices ! _ (ending j (Closed n) t.0) $ frame ! $ assume ! (‵ (fdead a)) $ use1 𝓛 (‵ (fdead a) ⊛ ‵ (fdead a)) (𝓛.lfts.dead_dup a) $ split ! $ fpack ! Bool (phase t b o) false $ frame ! $ keep ! (2 ∷ 0 ∷ []) $ fjoin ! $
-      nothing ! $ fpack ! (n ≡ 0) (λ _. ftrue) z $ fjoin ! $ fpack ! Bool (over n) true $ done !)
-      (λ some. use2 𝓛 (‵ I) (stood n le) $ move ! (1 ∷ []) $ drop ! $ nothing ! $ fpack ! (n ≢ 0) (λ _. ftrue) some $ fpack ! Bool (over n) false $ move ! (1 ∷ 0 ∷ []) $ by ! (plainly j (Closed n)))
+  none_left : (n : ℕ) → n ≡ 0 → (y : Bool) → ⟦ shares_out t n y ⟧ ⊢ A.dead c
+  none_left n z false = qed 𝓛 (‵ (shares_out t n false) ∷ []) ∵ fsplit ! $ keep ! (1 ∷ []) $ done !
+  none_left n z true = qed 𝓛 (‵ (rest 64 t.share_life n) ∷ []) ∵ use1 𝓛 (given (0 < n) (‵ (rest 64 t.share_life n))) (rest_some 64 𝓛 t.share_life n) $ learn ! (λ pos. absurd (omega arith))
 
-  pub closes_it : A.inv I ∗ ⟦ part 64 t.0 ⟧ ⊢ asks 𝓛 (block_ptr b o) (λ n. n) always Closed
-  closes_it = stepped (λ n. n) Closed ⟦ part 64 t.0 ⟧ (qed 𝓛 (‵ (fdead a) ∷ ‵ (part 64 t.0) ∷ []) ∵ move ! (1 ∷ 0 ∷ []) $ by ! (part_dead t.0 (never 𝓤))) (λ j n fits le. close_from j n le)
+  share_life_over : (n : ℕ) → n ≡ 0 → ⟦ fex Bool (shares_out t n) ⟧ ⊢ A.dead c
+  share_life_over n z = qed 𝓛 (‵ (fex Bool (shares_out t n)) ∷ []) ∵ fpick ! (λ y. by ! (none_left n z y))
+
+  close_from : (j n : ℕ) → Within n → ⟦ word b o n ⟧ ∗ ⟦ St n ⟧ ∗ ⟦ part 64 t.value_life ⟧ ⊢ Then j (Closed n)
+  close_from j n le = qed 𝓛 (‵ (word b o n) ∷ ‵ (St n) ∷ ‵ (part 64 t.value_life) ∷ []) ∵ dite (ℕ_discrete n 0)
+      (λ z. rewrite ! 0 (λ (k : ℕ). ‵ (word b o k)) z refl $ move ! (1 ∷ []) $ fsplit ! $ rewrite ! 0 (λ (k : ℕ). ‵ (rest 64 t.value_life (k + 1))) z refl $ move ! (0 ∷ 3 ∷ []) $ use2 𝓛 (‵ (flft a full_share)) (whole 64 𝓛 t.value_life) $ move ! (1 ∷ []) $ use1 𝓛 (‵ (fdead c)) (share_life_over n z) $ move ! (1 ∷ []) $
+      suffices ! _ (ending j (Closed n) t.value_life) $ frame ! $ assume ! (‵ (fdead a)) $ use1 𝓛 (‵ (fdead a) ⊛ ‵ (fdead a)) (𝓛.lfts.dead_dup a) $ split ! $ fpack ! Bool (phase t b o) false $ frame ! $ move ! (1 ∷ []) $
+      use1 𝓛 (‵ (reading_owns t n)) (all_i 𝓤 (λ (_ : n ≡ 0). A.dead c) (λ _. id⊢ 𝓤 (A.dead c))) $ move ! (2 ∷ 1 ∷ []) $ fjoin ! $
+      nothing ! $ fpack ! (n ≡ 0) (λ _. ftrue) z $ fjoin ! $ fpack ! Bool (over n) true $ move ! (1 ∷ 0 ∷ []) $ fjoin ! $ done !)
+      (λ some. use2 𝓛 (‵ I) (stood n le) $ move ! (1 ∷ []) $ drop ! $ nothing ! $ fpack ! (n ≢ 0) (λ _. ftrue) some $ fpack ! Bool (over n) false $ nothing ! $ use1 𝓛 (‵ (reading_owns t n)) (all_i 𝓤 (λ (_ : n ≡ 0). A.dead c) (λ z. absurd (some z))) $ fjoin ! $ move ! (1 ∷ 0 ∷ []) $ by ! (plainly j (Closed n)))
+
+  pub closes_it : A.inv I ∗ ⟦ part 64 t.value_life ⟧ ⊢ asks 𝓛 (block_ptr b o) (λ n. n) always Closed
+  closes_it = stepped (λ n. n) Closed ⟦ part 64 t.value_life ⟧ (qed 𝓛 (‵ (fdead a) ∷ ‵ (part 64 t.value_life) ∷ []) ∵ move ! (1 ∷ 0 ∷ []) $ by ! (part_dead t.value_life (never 𝓤))) (λ j n fits le. close_from j n le)

@@ -6,7 +6,7 @@ use denote.RattleType.{RattleType}
 use denote.Memory.{part_at}
 use denote.RawPtr.{Ptr, block_ptr, null_ptr}
 use Rattle.std.specs.Sync.RawAtomic.{word}
-use Rattle.counted_cell.specs.Counting.{Id, offset}
+use Rattle.counted_cell.specs.Counting.{CellName, offset}
 use Rattle.counted_cell.specs.contracts.header.Header.{the_row}
 
 module _ (R : RattleType) (b o : ℕ) (x : R.Denot) where
@@ -17,6 +17,6 @@ module _ (R : RattleType) (b o : ℕ) (x : R.Denot) where
   abbrev pub way_back : Fml
   way_back = fwand (fsep (word b (o + 0) 0) value_at) (part_at (the_row R) full_share (record { count = 0; value = x }) b o)
 
-abbrev pub block_right_owns : (R : RattleType) → Ptr → R.Denot → Id → Fml
-block_right_owns R (block_ptr b o) x t = fsep (flent (t.0 ∷ []) (value_at R b o x)) (way_back R b o x)
+abbrev pub block_right_owns : (R : RattleType) → Ptr → R.Denot → CellName → Fml
+block_right_owns R (block_ptr b o) x t = fsep (flent (t.value_life ∷ []) (value_at R b o x)) (way_back R b o x)
 block_right_owns R null_ptr x t = ffalse

@@ -113,7 +113,7 @@ module _ (R : RattleType) (b o : ℕ) (x : R.Denot) (t : CellName) where
   abbrev pub seen_with : Right → Lft → Fml
   seen_with no_right = nothing
   seen_with owner_right = seen_by
-  seen_with share_right = seen_by
+  seen_with share_right = beside seen_by (one (λ q. flft (t.share_life ∷ []) q))
   seen_with sole_right = nothing
 
 abbrev pub ref_owns : (R : RattleType) → Ptr → R.Denot → CellName → Right → Fml

@@ -6,3 +6,4 @@ pub mod Block
 pub mod Text
 pub mod Cell
 pub mod Reply
+pub mod Ending

@@ -95,26 +95,28 @@ impl<T> CellRef<T> {
     /// The owner's end, by one load. Where it found 0, what is left has the cell to itself.
     pub fn close(self) -> (u64, Reading, CellRef<T>)
         requires { self.right ≡ owner_right }
-        ensures found { (result.1.name ≡ self.name) × (result.1.count ≡ result.0) }
-        ensures same { (result.2.value ≡ self.value) × (result.2.name ≡ self.name) × (result.2.ptr ≡ self.ptr) }
+        ensures found { (result.1.name ≡ self.name) × (result.1.count ≡ result.0) × (result.2.value ≡ self.value) × (result.2.name ≡ self.name) × (result.2.ptr ≡ self.ptr) }
         ensures gained { (result.0 ≡ 0 → result.2.right ≡ sole_right) × (result.0 ≢ 0 → result.2.right ≡ no_right) }
     {
         let CellRef { ptr } = self;
         let found = unsafe { raw::load::<Brand>(&raw const (*ptr).count, SeqCst) };
-        let reading = Reading {
-            marker: PhantomData,
-        };
-        (found, reading, CellRef { ptr })
+        (
+            found,
+            Reading {
+                marker: PhantomData,
+            },
+            CellRef { ptr },
+        )
     }
 }
 
 /// A look that found 0 and a share of the same cell are never together.
-pub fn exclude<T>(reading: Reading, share: CellRef<T>)
-    requires zero { (reading.count ≡ 0) × (reading.name ≡ share.name) }
-    requires share { share.right ≡ share_right }
+pub fn exclude<T>(reading: Reading, share: &CellRef<T>)
+    requires zero { (reading.count ≡ 0) × (reading.name ≡ share.now.name) }
+    requires share { share.now.right ≡ share_right }
     ensures { ⊥ }
 {
-    let CellRef { ptr: _ } = share;
+    let _ = share;
 }
 
 unsafe impl<T: Send + Sync> Send for CellRef<T> {}

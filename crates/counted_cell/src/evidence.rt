@@ -25,12 +25,12 @@ impl NoShares {
     ghost use Rattle.std.specs.Prelude.{◌≡◌};
 
     /// A law: it is never together with a share of the same cell.
-    pub fn excludes(self, share: Share)
-        requires { share.name ≡ self }
+    pub fn excludes(self, share: &Share)
+        requires { share.now.name ≡ self }
         ensures { ⊥ }
     {
         let Self { reading } = self;
-        exclude(reading, share.into_ref())
+        exclude(reading, share.as_ref())
     }
 }
 
@@ -41,12 +41,29 @@ pub struct AtLimit {
 }
 
 impl Model for AtLimit {
-    ghost use Rattle.std.specs.Prelude.{◌≡◌};
+    ghost use Rattle.std.specs.Prelude.{◌≤◌};
     ghost use Rattle.counted_cell.specs.Counting.{CellName};
 
     ghost Value = { CellName };
 
     ghost view = { λ a. a.reading.name };
 
-    ghost invariant = { λ a. a.reading.count ≡ a.reading.name.limit };
+    ghost invariant = { λ a. a.reading.name.limit ≤ a.reading.count };
+}
+
+/// Shows that the count of a cell was read as 1 or more. In a clause it is the cell's name.
+#[derive(Drop)]
+pub struct SharesLeft {
+    pub(crate) reading: Reading,
+}
+
+impl Model for SharesLeft {
+    ghost use Rattle.std.specs.Prelude.{◌<◌};
+    ghost use Rattle.counted_cell.specs.Counting.{CellName};
+
+    ghost Value = { CellName };
+
+    ghost view = { λ s. s.reading.name };
+
+    ghost invariant = { λ s. 0 < s.reading.count };
 }

@@ -11,6 +11,7 @@ mod block;
 mod block_right;
 mod cell_ref;
 mod content;
+mod ending;
 mod evidence;
 mod header;
 mod label;
@@ -23,7 +24,8 @@ mod share;
 mod tests;
 mod text;
 
-pub use evidence::{AtLimit, NoShares};
+pub use ending::Ending;
+pub use evidence::{AtLimit, NoShares, SharesLeft};
 pub use label::Label;
 pub use owner::Owner;
 pub use reply::Reply;

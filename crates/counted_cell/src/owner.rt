@@ -6,7 +6,8 @@ use crate::block::{FreeRight, allocate, deallocate};
 use crate::block_right::{BlockRight, begin, reclaim};
 use crate::cell_ref::CellRef;
 use crate::content::Content;
-use crate::evidence::NoShares;
+use crate::ending::Ending;
+use crate::evidence::{NoShares, SharesLeft};
 use crate::header::Header;
 use crate::label::Label;
 use crate::placed::{fill, take};
@@ -65,6 +66,7 @@ fn size_for(len: usize) -> usize
 impl<A: Allocator> Owner<A> {
     ghost use Rattle.counted_cell.specs.Cell.{cell_of};
     ghost use Rattle.counted_cell.specs.Reply.{IsReply};
+    ghost use Rattle.counted_cell.specs.Ending.{IsEnding};
 
     /// A cell with a copy of the text, and its first share. Without memory nothing is made.
     pub fn new(alloc: A, label: Label, text: &str) -> Result<(Owner<A>, Share), AllocError>
@@ -122,10 +124,9 @@ impl<A: Allocator> Owner<A> {
         }
     }
 
-    /// Ends the cell. Where the count reads 0 the block is freed, and it tells that no share was left. Otherwise the block stays
-    /// for the shares that are left, for ever.
-    pub fn finish(self) -> Option<NoShares>
-        ensures { IfSome result (λ none. none ≡ self.name) }
+    /// Ends the cell, by one load of the count: the block is freed where that is 0, and stays otherwise. It waits for nothing.
+    pub fn finish(self) -> Ending
+        ensures { IsEnding self.name result }
     {
         let Self {
             cell,
@@ -140,10 +141,10 @@ impl<A: Allocator> Owner<A> {
             let Content { label: _, text } = value;
             let (len, places) = text.into_bytes();
             deallocate(&alloc, room, places, free, size_for(len), ALIGN);
-            Some(NoShares { reading })
+            Ending::Freed(NoShares { reading })
         } else {
             sole.done();
-            None
+            Ending::Left(SharesLeft { reading })
         }
     }
 }

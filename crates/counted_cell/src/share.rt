@@ -1,9 +1,9 @@
 //! The shares of a cell.
-ghost use Rattle.std.specs.Prelude.{◌≡◌, ◌^◌, ◌<◌, ◌+◌};
+ghost use Rattle.std.specs.Prelude.{◌≡◌, ◌^◌, ◌<◌, IfErr, IfOk};
 
 use crate::cell_ref::{CellRef, Reading};
 use crate::content::Content;
-use crate::evidence::NoShares;
+use crate::evidence::{AtLimit, NoShares};
 use crate::label::Label;
 use crate::reply::Reply;
 use std::marker::Model;
@@ -30,7 +30,6 @@ impl Model for Share {
 impl Share {
     ghost use Rattle.counted_cell.specs.Counting.{share_right};
     ghost use Rattle.counted_cell.specs.Cell.{cell_of};
-    ghost use Rattle.counted_cell.specs.Reply.{IsReply};
 
     /// The share whose right it is.
     pub(crate) fn of_ref(cell: CellRef<Content>) -> Share
@@ -41,11 +40,10 @@ impl Share {
     }
 
     /// The right of the share.
-    pub(crate) fn into_ref(self) -> CellRef<Content>
-        ensures { (result.right ≡ share_right) × (cell_of result ≡ self) }
+    pub(crate) fn as_ref(&self) -> &CellRef<Content>
+        ensures { (result.now.right ≡ share_right) × (cell_of result.now ≡ self.now) }
     {
-        let Self { cell } = self;
-        cell
+        &self.cell
     }
 
     /// The numbers of its cell.
@@ -62,11 +60,19 @@ impl Share {
         self.cell.get().text.as_str()
     }
 
-    /// One share more of the same cell.
-    pub fn add<R: Wait>(&self, rt: &R) -> Reply
-        ensures { IsReply self.now result }
+    /// One share more of the same cell. Where the cell has as many as it may have, nothing has changed.
+    pub fn add<R: Wait>(&self, rt: &R) -> Result<Share, AtLimit>
+        ensures added { IfOk result (λ share. share ≡ self.now) }
+        ensures full { IfErr result (λ full. full ≡ self.now.name) }
     {
-        Reply::one_more(rt, &self.cell)
+        match Reply::one_more(rt, &self.cell) {
+            Reply::Added(share) => Ok(share),
+            Reply::Full(full) => Err(full),
+            Reply::Dying(none) => {
+                none.excludes(self);
+                unreachable!()
+            }
+        }
     }
 
     /// Takes the share off the count, and tells what that left.

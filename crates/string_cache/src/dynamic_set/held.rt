@@ -3,7 +3,6 @@ ghost use Rattle.std.specs.Prelude.{◌≡◌, IfErr, IfOk};
 
 use super::set::Set;
 use super::share::Share;
-use counted_cell::Reply;
 use std::marker::Model;
 use std::sync::Wait;
 use string_cache_core::Fault;
@@ -79,11 +78,11 @@ impl<'s, Static: StaticAtomSet> Held<'s, Static> {
         ensures full { IfErr result (λ fault. fault ≡ Fault.FullCount) }
     {
         match self.share.add(rt) {
-            Reply::Added(share) => Ok(Held {
+            Ok(share) => Ok(Held {
                 share,
                 set: self.set,
             }),
-            Reply::Dying(_) | Reply::Full(_) => Err(Fault::FullCount),
+            Err(_) => Err(Fault::FullCount),
         }
     }
 }

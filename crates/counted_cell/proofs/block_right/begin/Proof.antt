@@ -10,11 +10,11 @@ use Rattle.counted_cell.proofs.CellRefFields as hf
 use Rattle.counted_cell.proofs.PlacedFields as lf
 use Rattle.counted_cell.proofs.BlockRightFields as df
 use denote.Struct.Lending.{Lends-lies}
-use Rattle.counted_cell.specs.Counting.{Id, offset, right_to, ref_owns}
+use Rattle.counted_cell.specs.Counting.{CellName, owner_right, share_right, offset, right_to, ref_owns}
 use Rattle.counted_cell.specs.BlockRight.{value_at, way_back, block_right_owns}
 use Rattle.std.specs.Sync.RawAtomic.{word}
 use Rattle.counted_cell.proofs.Splits.{apart}
-use Rattle.counted_cell.proofs.Begins.{Begun, begins}
+use Rattle.counted_cell.proofs.Begins.{name_of, Begun, begins}
 use Rattle.counted_cell.specs.contracts.block_right.begin.{ended, clauses}
 use Rattle.counted_cell.specs.contracts.block_right.begin.Key.{name as #self}
 use Rattle.counted_cell.proofs.block_right.begin.Statement.{statement}
@@ -34,17 +34,17 @@ begin_spec 𝓤 𝓛 𝓜 𝓡 wired X L =
     fsplit ! $ fpick ! (λ inb. drop ! $ let at : p ≡ q = at_block p inb in rewrite ! 0 (λ (π : Ptr). ‵ (lies_at Br full_share π v)) at refl $
     use1 𝓛 (‵ (word b (o + 0) v.count) ⊛ ‵ (value_at R b o x) ⊛ ‵ (way_back R b o x)) (apart X L 𝓛 b o x v.count) $ split3 ! $ rewrite ! 0 (λ (k : ℕ). ‵ (word b (o + 0) k)) one refl $
     enter ! 𝓣.C 𝓣.Λ fn (lf.word p ∷ []) Post $ alloc_all ! (λ l. pass_all ! refl (hf.typed p inb, tt) $
-    move ! (0 ∷ 1 ∷ 3 ∷ []) $ use3 𝓛 (later (‵ (fex (ℕ × ℕ) (λ k. Begun 𝓛 R LR.shr_laws b o x (k.0, k.1, m))) ⊛ ‵ (flft κs.0 qs.0)))
-    (begins 𝓛 R LR.shr_laws b o x R.lives κs.0 qs.0 m asked.1 (λ t. Lends-lies 𝓛 R R.lives (block_ptr b (o + offset R)) x (LR.shares 𝓛 x)) leX) $ await ! tt $ split ! $ fpick ! (λ k. let t : Id = (k.0, k.1, m) in fsplit3 ! $
+    move ! (0 ∷ 1 ∷ 3 ∷ []) $ use3 𝓛 (later (‵ (fex (ℕ × ℕ) (λ k. Begun 𝓛 R LR.shr_laws b o x (name_of k m))) ⊛ ‵ (flft κs.0 qs.0)))
+    (begins 𝓛 R LR.shr_laws b o x R.lives κs.0 qs.0 m asked.1 (λ t. Lends-lies 𝓛 R R.lives (block_ptr b (o + offset R)) x (LR.shares 𝓛 x)) leX) $ await ! tt $ split ! $ fpick ! (λ k. let t : CellName = name_of k m in fsplit3 ! $
     -- [the owner's right; the share's; the lender's; the token; the way back; nothing]
     sets ! (is ! (of_opd ! (get_in ! (fld ! refl (stop !)) (sub ! 0 refl (whole !)))) (ap ptr_val at)) refl (tt, tt) $
     sets ! (agg ! (and_then ! (get ! refl) (no_more !))) refl (tt, (tt, tt)) $ sets ! (agg ! (and_then ! (get ! refl) (no_more !))) refl (tt, (tt, tt)) $ sets ! (agg ! (and_then ! (get ! refl) (no_more !))) refl (tt, (tt, tt)) $
     sets ! (agg ! (and_then ! (get ! refl) (and_then ! (get ! refl) (and_then ! (get ! refl) (no_more !))))) refl (tt, ((tt, tt), ((tt, tt), ((tt, tt), tt)))) $
-    let w : Val = hf.word_of q in let u : Val = vstruct (vcons w (vcons w (vcons w vnil))) in let r0 : Dr.Denot = record { ptr = q; value = x; cell = t } in let r1 : Hr.Denot = record { ptr = q; value = x; cell = t; right = 1 } in let r2 : Hr.Denot = record { ptr = q; value = x; cell = t; right = 2 } in
-    let Told : Type 0 = (m ≡ m) × (q ≡ p) × (q ≡ p) × (x ≡ x) × (x ≡ x) × (x ≡ x) × (t ≡ t) × (t ≡ t) × (1 ≡ 1) × (2 ≡ 2) in
+    let w : Val = hf.word_of q in let u : Val = vstruct (vcons w (vcons w (vcons w vnil))) in let r0 : Dr.Denot = record { ptr = q; value = x; name = t } in let r1 : Hr.Denot = record { ptr = q; value = x; name = t; right = owner_right } in let r2 : Hr.Denot = record { ptr = q; value = x; name = t; right = share_right } in
+    let Told : Type 0 = (m ≡ m) × (q ≡ p) × (q ≡ p) × (x ≡ x) × (x ≡ x) × (x ≡ x) × (t ≡ t) × (t ≡ t) × (owner_right ≡ owner_right) × (share_right ≡ share_right) in
     move ! (3 ∷ 5 ∷ []) $ join ! $ move ! (3 ∷ 4 ∷ []) $ fjoin ! $ use0 𝓛 (‵ ((df.Data R).own_val (q, tt) (w ∷ []))) (df.made R 𝓛 q) $ fjoin ! $
     move ! (2 ∷ []) $ use0 𝓛 (‵ ((hf.Data R).own_val (q, tt) (w ∷ []))) (hf.made R 𝓛 q) $ fjoin ! $ move ! (3 ∷ []) $ use0 𝓛 (‵ ((hf.Data R).own_val (q, tt) (w ∷ []))) (hf.made R 𝓛 q) $ fjoin ! $
-    -- [the share; the owner's; the deed; the tokens]
+    -- [the share; the owner's; the right to the block; the tokens]
     nothing ! $ move ! (1 ∷ 0 ∷ []) $ fjoin ! $ move ! (1 ∷ 0 ∷ []) $ fjoin ! $ move ! (1 ∷ 0 ∷ []) $ fjoin ! $ feq_i ! (List Val) (u ∷ []) (u ∷ []) refl $ fjoin ! $
     fpack ! (Valss (Dr ∷ Hr ∷ Hr ∷ [])) (λ uss. fsep (feq (List Val) (u ∷ []) (vstruct (of_list (uss.0 ++ (uss.1.0 ++ (uss.1.1.0 ++ [])))) ∷ [])) (owns (Dr ∷ Hr ∷ Hr ∷ []) (r0, (r1, (r2, tt))) uss)) (w ∷ [], (w ∷ [], (w ∷ [], tt))) $
     use0 𝓛 (raw (fact 𝓤 Told)) (fact_i 𝓤 Told (emp 𝓤) (refl, sym at, sym at, refl, refl, refl, refl, refl, refl, refl)) $ nothing ! $ nothing ! $ fjoin ! $

@@ -1,4 +1,4 @@
--- `end` takes the value back, and puts the block together.
+-- `reclaim` takes the value back, and puts the block together.
 use Rattle.counted_cell.proofs.Names.{◌≡◌, ℕ, ◌+◌, List, [], ◌∷◌, ◌++◌, sym, refl, ap, subst, proved, leaves, a_type, Val, vstruct, vcons, vnil, of_list, inst_fn, SProp, emp, apply∗, sep, fact, fact_i, Lft, Fml, ftrue, fsep, fex, feq, flft, sem, ‵, raw, ◌⊛◌, given, later, ◌$◌, ◌∵◌, !, qed, by, move, keep, drop, split, split3, join, fsplit, fsplit3, fjoin, fjoin3, fpick, fpack, learn, use0, use1, use2, use3, await, rewrite, feq_i, stop, fld, of_opd, no_more, and_then, returns, enter, alloc_all, pass_all, free_all, look_at, get, get_in, sets, is, agg, sub, whole, tables, no, RattleType, Valss, owns, types_at, plain, Ptr, InBlock, block_ptr, ptr_val, block_of, count_of, at_block, nothing, heard, param, layouts, param_laws, full_share, Stays, stay_dropped, walk_of, Goes-dropped}
 use contract.BorrowLft.{◌⊑◌}
 use denote.RawPtr.{lies_at}
@@ -9,7 +9,7 @@ use Rattle.counted_cell.specs.contracts.block_right.BlockRight as block_right
 use Rattle.counted_cell.proofs.CellRefFields as hf
 use Rattle.counted_cell.proofs.PlacedFields as lf
 use Rattle.counted_cell.proofs.BlockRightFields as df
-use Rattle.counted_cell.specs.Counting.{Id, offset, right_to, ref_owns}
+use Rattle.counted_cell.specs.Counting.{CellName, Right, sole_right, offset, right_to, ref_owns}
 use Rattle.counted_cell.specs.BlockRight.{value_at, way_back, block_right_owns}
 use Rattle.std.specs.Sync.RawAtomic.{word}
 use denote.Memory.{part_at}
@@ -27,13 +27,13 @@ reclaim_spec 𝓤 𝓛 𝓜 𝓡 wired X L =
     let hs : Stays En.signature.params En.kept = (stay_dropped (plain (λ _. Dr)) no, (stay_dropped (plain (λ _. Hr)) no, tt)) in
     proved 𝓛 En hs c 𝓜 𝓡 (Goes-dropped 𝓛 1 (plain (λ _. Dr)) no (λ κs x f. refl), (Goes-dropped 𝓛 1 (plain (λ _. Hr)) no (λ κs x f. refl), tt)) (#self inst) fn (code.unfolded 𝓤 H 𝓜 𝓡 wired (X, tt))
     (λ κs. ((λ e. df.word e.ptr ∷ []), ((λ e. hf.word_of e.ptr ∷ []), tt))) (λ κs. ((λ e vs so. df.told R e.ptr vs so.0), ((λ e vs so. hf.told R e.ptr vs so.0), tt))) (λ κs qs bounds a gh are.
-    let d : Dr.Denot = a.0 in let h : Hr.Denot = a.1.0 in let p : Ptr = d.ptr in let x : X.Denot = d.value in let t : Id = d.cell in let b : ℕ = block_of p in let o : ℕ = count_of p in let q : Ptr = block_ptr b o in
-    let y : (walk_of 𝓛 En hs c).Ghost = ((κs, qs, bounds, a, (df.word p ∷ [], (hf.word_of h.ptr ∷ [], tt))), gh) in let Post : Val → SProp 𝓤 = (walk_of 𝓛 En hs c).post y in let Asked : Type 0 = (h.right ≡ 3) × (h.cell ≡ t) × (h.ptr ≡ p) in
+    let d : Dr.Denot = a.0 in let h : Hr.Denot = a.1.0 in let p : Ptr = d.ptr in let x : X.Denot = d.value in let t : CellName = d.name in let b : ℕ = block_of p in let o : ℕ = count_of p in let q : Ptr = block_ptr b o in
+    let y : (walk_of 𝓛 En hs c).Ghost = ((κs, qs, bounds, a, (df.word p ∷ [], (hf.word_of h.ptr ∷ [], tt))), gh) in let Post : Val → SProp 𝓤 = (walk_of 𝓛 En hs c).post y in let Asked : Type 0 = (h.right ≡ sole_right) × (h.name ≡ t) × (h.ptr ≡ p) in
     qed 𝓛 (((‵ (flft κs.0 qs.0) ⊛ ‵ ftrue) ⊛ ‵ (fsep (Dr.own_val d (df.word p ∷ [])) (fsep (Hr.own_val h (hf.word_of h.ptr ∷ [])) ftrue))) ∷ raw (fact 𝓤 _) ∷ raw (fact 𝓤 Asked) ∷ []) ∵
     keep ! (2 ∷ 0 ∷ []) $ heard ! Asked (λ asked. split ! $ split ! $ move ! (2 ∷ []) $ fsplit3 ! $ fsplit ! $ drop ! $ move ! (1 ∷ []) $ fsplit ! $ drop ! $
-    -- [what the hold owns; what the deed owns; nothing; the token; nothing]
-    rewrite ! 0 (λ (s : Ptr × (Id × ℕ)). ‵ (ref_owns R s.0 h.value s.1.0 s.1.1)) (λ i. (asked.2 i, (asked.1 i, asked.0 i))) refl $
-    use1 𝓛 (given (InBlock p) (‵ (right_to R b o h.value t 3))) (hf.owned_in 𝓛 R h.value t p 3) $ learn ! (λ inb. let at : p ≡ q = at_block p inb in
+    -- [what the reference owns; what the right owns; nothing; the token; nothing]
+    rewrite ! 0 (λ (s : Ptr × (CellName × Right)). ‵ (ref_owns R s.0 h.value s.1.0 s.1.1)) (λ i. (asked.2 i, (asked.1 i, asked.0 i))) refl $
+    use1 𝓛 (given (InBlock p) (‵ (right_to R b o h.value t sole_right))) (hf.owned_in 𝓛 R h.value t p sole_right) $ learn ! (λ inb. let at : p ≡ q = at_block p inb in
     move ! (1 ∷ []) $ rewrite ! 0 (λ (π : Ptr). ‵ (block_right_owns R π x t)) at refl $ fsplit ! $ move ! (2 ∷ 0 ∷ 1 ∷ 4 ∷ 5 ∷ []) $
     -- [the end; the lender's right; the way back; the token; nothing; nothing]
     enter ! 𝓣.C 𝓣.Λ fn (df.word p ∷ hf.word_of h.ptr ∷ []) Post $ alloc_all ! (λ l. pass_all ! refl (hf.typed p inb, (hf.typed h.ptr (subst InBlock (sym asked.2) inb), tt)) $

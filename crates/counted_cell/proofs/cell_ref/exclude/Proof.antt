@@ -1,11 +1,13 @@
 -- The one has that no share is left, and the other is one.
-use Rattle.counted_cell.proofs.Names.{◌≡◌, ℕ, ◌+◌, List, [], ◌∷◌, proved_at, a_type, Val, inst_fn, SProp, fact, Fml, ftrue, fsep, fdead, flft, sem, part, ‵, raw, ◌⊛◌, given, ◌$◌, ◌∵◌, !, qed, by, move, keep, drop, split, fsplit, learn, use1, rewrite, refl, tables, yes, no, RattleType, plain, Ptr, InBlock, block_of, count_of, heard, param, layouts, Stays, stay_dropped, walk_of, Goes-dropped}
+use Rattle.counted_cell.proofs.Names.{◌≡◌, ℕ, List, [], ◌∷◌, proved, named, vptr, shr_vals, shr_Tells, pass_all, a_type, Val, inst_fn, SProp, fact, Lft, Share, Fml, ftrue, fsep, fhide, flft, sem, ‵, raw, ◌⊛◌, ◌$◌, ◌∵◌, !, qed, by, move, keep, split, fsplit, use1, rewrite, refl, tables, yes, RattleType, owns, types_at, plain, Ptr, block_of, count_of, heard, unhide, hidden_shr, param, layouts, RefOf, enter, alloc_all, lent_out, Stays, stay_dropped, walk_of, Goes-dropped, shr_bor-open, tokens_halve}
+use base.Fml.{fdead}
 use base.Logic.{all_e}
-use Rattle.counted_cell.specs.Counting.{right_to, reading_owns}
+use denote.Sharing.{one}
+use Rattle.counted_cell.specs.Counting.{CellName, Right, share_right, ref_shares, reading_owns}
 use Rattle.counted_cell.specs.contracts.cell_ref.CellRef as cell_ref
 use Rattle.counted_cell.specs.contracts.cell_ref.Reading as reading
-use Rattle.counted_cell.proofs.CellRefFields.{owned_in}
-use Rattle.counted_cell.proofs.Steps.{part_dead}
+use Rattle.counted_cell.proofs.CellRefFields.{Data, share_in, reading_word, reading_told}
+use Rattle.counted_cell.proofs.Steps.{not_dead}
 use Rattle.counted_cell.specs.contracts.cell_ref.exclude.{ended, clauses}
 use Rattle.counted_cell.specs.contracts.cell_ref.exclude.Key.{name as #self}
 use Rattle.counted_cell.proofs.cell_ref.exclude.Statement.{statement}
@@ -15,13 +17,17 @@ pub exclude_spec : {M : Type 1} → statement M
 exclude_spec 𝓤 𝓛 𝓜 𝓡 wired X L =
     let H = 𝓛.H in let 𝓣 = tables 𝓤 H 𝓜 𝓡 𝓡.env in let R : RattleType = param 0 X in let En = ended X in let inst = layouts (a_type ∷ []) (X, tt) in let fn = inst_fn inst code.function in
     let Row : RattleType = cell_ref.the_row R in let Seen : RattleType = reading.the_row in let c = clauses X 𝓛 𝓜.mem 𝓡.returns in
-    let hs : Stays En.signature.params En.kept = (stay_dropped (plain (λ _. Seen)) yes, (stay_dropped (plain (λ _. Row)) no, tt)) in
-    proved_at 𝓛 En hs c 𝓜 𝓡 (Goes-dropped 𝓛 1 (plain (λ _. Seen)) yes (λ κs x f. refl), (Goes-dropped 𝓛 1 (plain (λ _. Row)) no (λ κs x f. refl), tt)) (#self inst) fn (code.unfolded 𝓤 H 𝓜 𝓡 wired (X, tt)) (λ z are.
-    let s : Seen.Denot = z.0.3.0 in let d : Row.Denot = z.0.3.1.0 in let p : Ptr = d.ptr in let Zero : Type 0 = (s.count ≡ 0) × (s.cell ≡ d.cell) in
-    let Go : SProp 𝓤 = prog.Wp.WpFn 𝓤 H 𝓣.C 𝓣.Λ fn ((walk_of 𝓛 En hs c).args z) ((walk_of 𝓛 En hs c).post z) in
-    qed 𝓛 (((‵ (flft z.0.0.0 z.0.1.0) ⊛ ‵ ftrue) ⊛ ‵ (fsep (Seen.own_val s z.0.4.0) (fsep (Row.own_val d z.0.4.1.0) ftrue))) ∷ raw (fact 𝓤 _) ∷ raw (fact 𝓤 Zero) ∷ raw (fact 𝓤 (d.right ≡ 2)) ∷ []) ∵
-    keep ! (2 ∷ 3 ∷ 0 ∷ []) $ heard ! Zero (λ zero. heard ! (d.right ≡ 2) (λ is. split ! $ keep ! (1 ∷ []) $ fsplit ! $ fsplit ! $ drop ! $ move ! (1 ∷ []) $ fsplit ! $ fsplit ! $ drop ! $
-    use1 𝓛 (given (InBlock p) (‵ (right_to R (block_of p) (count_of p) d.value d.cell d.right))) (owned_in 𝓛 R d.value d.cell p d.right) $ learn ! (λ inb.
-    rewrite ! 0 (λ (k : ℕ). ‵ (right_to R (block_of p) (count_of p) d.value d.cell k)) is refl $ fsplit ! $ drop ! $ keep ! (0 ∷ 2 ∷ []) $ move ! (1 ∷ []) $
-    rewrite ! 0 (λ (t : ℕ × ℕ × ℕ). ‵ (reading_owns t s.count)) zero.1 refl $ use1 𝓛 (‵ (fdead (d.cell.1 ∷ []))) (all_e 𝓤 (λ (_ : s.count ≡ 0). 𝓛.A.dead (d.cell.1 ∷ [])) zero.0) $ move ! (1 ∷ 0 ∷ []) $
-    by ! (part_dead 𝓛 (block_of p) (count_of p) d.cell d.cell.1 Go)))))
+    let seen = plain (λ _. Seen) in let share = RefOf (0 ∷ []) tt (plain (λ _. Row)) (λ _. tt) in let hs : Stays En.signature.params En.kept = (stay_dropped seen yes, (stay_dropped share yes, tt)) in
+    proved 𝓛 En hs c 𝓜 𝓡 (Goes-dropped 𝓛 2 seen yes (λ κs x f. refl), (Goes-dropped 𝓛 2 share yes (λ κs x f. refl), tt)) (#self inst) fn (code.unfolded 𝓤 H 𝓜 𝓡 wired (X, tt))
+    (λ κs. ((λ e. reading_word ∷ []), (shr_vals, tt))) (λ κs. ((λ e vs so. reading_told vs so.0), (shr_Tells (named 0) κs.0 Row, tt))) (λ κs qs bounds a gh are.
+    let κ : Lft = κs.0 in let s : Seen.Denot = a.0 in let b : ℕ = a.1.0.ref_ptr.0 in let o : ℕ = a.1.0.ref_ptr.1 in let d : Row.Denot = a.1.0.now in let p : Ptr = d.ptr in let t : CellName = d.name in
+    let others : Fml = fsep (flft κs.1.0 qs.1.0) ftrue in let Zero : Type 0 = (s.count ≡ 0) × (s.name ≡ t) in
+    let y : (walk_of 𝓛 En hs c).Ghost = ((κs, qs, bounds, a, (reading_word ∷ [], (vptr b o ∷ [], tt))), gh) in let Post : Val → SProp 𝓤 = (walk_of 𝓛 En hs c).post y in
+    qed 𝓛 (((‵ (flft κ qs.0) ⊛ ‵ others) ⊛ ‵ (owns (types_at En.signature.params κs) a y.0.4)) ∷ raw (fact 𝓤 _) ∷ raw (fact 𝓤 Zero) ∷ raw (fact 𝓤 (d.right ≡ share_right)) ∷ []) ∵
+    keep ! (2 ∷ 3 ∷ 0 ∷ []) $ heard ! Zero (λ zero. heard ! (d.right ≡ share_right) (λ is. split ! $ split ! $ move ! (2 ∷ []) $ fsplit ! $ fsplit ! $ keep ! (2 ∷ 1 ∷ 3 ∷ []) $ fsplit ! $ fsplit ! $ keep ! (1 ∷ 3 ∷ 4 ∷ []) $
+    -- [the borrowed share; the reading; the token]
+    use1 𝓛 (‵ (hidden_shr (Data R) κ (p, tt) b o) ⊛ ‵ (fhide (ref_shares R p d.value t d.right κ))) (lent_out 𝓛 (cell_ref.struct R) (cell_ref.the_codes X.Denot R.coded) (cell_ref.the_heap R) (cell_ref.the_lent R) κ d b o) $
+    split ! $ keep ! (1 ∷ 2 ∷ 3 ∷ []) $ unhide ! $ rewrite ! 0 (λ (k : Right). ‵ (ref_shares R p d.value t k κ)) is refl $ use1 𝓛 (‵ (one (λ r. flft (t.share_life ∷ []) r) κ)) (share_in 𝓛 R d.value t p κ) $ move ! (0 ∷ 2 ∷ []) $
+    enter ! 𝓣.C 𝓣.Λ fn (reading_word ∷ vptr b o ∷ []) Post $ alloc_all ! (λ l. pass_all ! refl ((tt, (tt, tt)), ((tt, tt), tt)) $ shr_bor-open ! tt (tokens_halve 𝓛 (t.share_life ∷ [])) (λ r. keep ! (2 ∷ 1 ∷ []) $
+    rewrite ! 0 (λ (n : CellName). ‵ (reading_owns n s.count)) zero.1 refl $ use1 𝓛 (‵ (fdead (t.share_life ∷ []))) (all_e 𝓤 (λ (_ : s.count ≡ 0). 𝓛.A.dead (t.share_life ∷ [])) zero.0) $ move ! (1 ∷ 0 ∷ []) $
+    by ! (not_dead 𝓛 (block_of p) (count_of p) t (t.share_life ∷ []) r _))))))

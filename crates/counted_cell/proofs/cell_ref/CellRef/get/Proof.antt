@@ -1,6 +1,6 @@
 -- `get` lends the value through the pointer.
 use Rattle.counted_cell.proofs.Names.{◌≡◌, ℕ, ◌+◌, ◌<◌, List, [], ◌∷◌, sym, refl, ap, ◌∙◌, proved, leaves, a_type, named, Val, vptr, inst_fn, SProp, emp, fact, fact_i, Lft, Fml, ftrue, fsep, fhide, flft, sem, ‵, raw, ◌⊛◌, given, at_ret, ◌$◌, ◌∵◌, !, qed, by, move, keep, drop, split, join, fsplit, fjoin, learn, use0, use1, rewrite, feq_i, stop, fld, hop, addr, of_opd, first, blocks, exec, returns, enter, alloc_all, pass_all, free_all, look_at, get, through, sets, sets_last, env, sub, whole, look_in, tables, yes, RattleType, owns, types_at, plain, Ptr, InBlock, block_ptr, block_of, count_of, at_block, nothing, peeks, heard, looks, shuts, unhide, hide, Is, shows, cell_at, hidden_shr, param, layouts, param_laws, RefOf, shr_vals, shr_Tells, lent_at, lent_out, in_block_says, Stays, stay_dropped, walk_of, Goes-dropped, after}
-use Rattle.counted_cell.specs.Counting.{offset, seen_by, ref_shares}
+use Rattle.counted_cell.specs.Counting.{CanRead, offset, seen_by, ref_shares}
 use Rattle.counted_cell.specs.contracts.cell_ref.CellRef as cell_ref
 use Rattle.counted_cell.proofs.CellRefFields.{word_of, Data, told, opened, seen_in}
 use Rattle.counted_cell.proofs.CellRefLent.{sees}
@@ -17,14 +17,14 @@ get_spec 𝓤 𝓛 𝓜 𝓡 wired X L =
     proved 𝓛 En hs c 𝓜 𝓡 (Goes-dropped 𝓛 2 self yes (λ κs x f. refl), tt) (#self inst) fn (code.unfolded 𝓤 H 𝓜 𝓡 wired (X, tt))
     (λ κs. (shr_vals, tt)) (λ κs. (shr_Tells (named 0) κs.0 Row, tt)) (λ κs qs bounds a gh are.
     let b : ℕ = a.0.ref_ptr.0 in let o : ℕ = a.0.ref_ptr.1 in let κ : Lft = κs.0 in let d : Row.Denot = a.0.now in let p : Ptr = d.ptr in let x : X.Denot = d.value in let others : Fml = fsep (flft κs.1.0 qs.1.0) ftrue in
-    let pb : ℕ = block_of p in let po : ℕ = count_of p in let e : ℕ = po + offset R in let Asked : Type 0 = (0 < d.right) × (d.right < 3) in
+    let pb : ℕ = block_of p in let po : ℕ = count_of p in let e : ℕ = po + offset R in let Asked : Type 0 = CanRead d.right in
     let y : (walk_of 𝓛 En hs c).Ghost = ((κs, qs, bounds, a, (vptr b o ∷ [], tt)), gh) in let Post : Val → SProp 𝓤 = (walk_of 𝓛 En hs c).post y in let there : Val = vptr pb e in
     qed 𝓛 (((‵ (flft κ qs.0) ⊛ ‵ others) ⊛ ‵ (owns (types_at En.signature.params κs) a y.0.4)) ∷ raw (fact 𝓤 _) ∷ raw (fact 𝓤 Asked) ∷ []) ∵
     keep ! (2 ∷ 0 ∷ []) $ heard ! Asked (λ asked. split ! $ split ! $ move ! (2 ∷ []) $ fsplit ! $ fsplit ! $ keep ! (1 ∷ 3 ∷ 4 ∷ []) $
     enter ! 𝓣.C 𝓣.Λ fn (vptr b o ∷ []) Post $ alloc_all ! (λ l. pass_all ! refl ((tt, tt), tt) $ let Ev = env fn.locals l in
-    use1 𝓛 (‵ (hidden_shr D κ (p, tt) b o) ⊛ ‵ (fhide (ref_shares R p x d.cell d.right κ))) (lent_out 𝓛 (cell_ref.struct R) (cell_ref.the_codes X.Denot R.coded) (cell_ref.the_heap R) (cell_ref.the_lent R) κ d b o) $
-    split ! $ move ! (1 ∷ []) $ unhide ! $ use1 𝓛 (given (InBlock p) (‵ (seen_by R pb po x d.cell κ))) (seen_in 𝓛 R x d.cell p d.right asked.0 asked.1 κ) $ learn ! (λ inb.
-    use1 𝓛 (‵ (lent_at R (block_ptr pb e) x κ)) (sees R laws pb po x d.cell 𝓛 κ) $ fsplit ! $ drop ! $ hide ! $ move ! (1 ∷ 2 ∷ []) $
+    use1 𝓛 (‵ (hidden_shr D κ (p, tt) b o) ⊛ ‵ (fhide (ref_shares R p x d.name d.right κ))) (lent_out 𝓛 (cell_ref.struct R) (cell_ref.the_codes X.Denot R.coded) (cell_ref.the_heap R) (cell_ref.the_lent R) κ d b o) $
+    split ! $ move ! (1 ∷ []) $ unhide ! $ use1 𝓛 (given (InBlock p) (‵ (seen_by R pb po x d.name κ))) (seen_in 𝓛 R x d.name p d.right asked κ) $ learn ! (λ inb.
+    use1 𝓛 (‵ (lent_at R (block_ptr pb e) x κ)) (sees R laws pb po x d.name 𝓛 κ) $ fsplit ! $ drop ! $ hide ! $ move ! (1 ∷ 2 ∷ []) $
     looks ! tt D (opened R 𝓛) (p, tt) b o (λ q vs. move ! (1 ∷ []) $ peeks ! D (Is D) (shows 𝓛 D) (p, tt) vs (λ so.
     let ev : vs ≡ word_of (block_ptr pb po) ∷ [] = told R p vs so ∙ ap (λ (r : Ptr). word_of r ∷ []) (at_block p inb) in
     rewrite ! 1 (λ (ws : List Val). ‵ (cell_at q D.mir ws b o)) ev refl $ first ! $ blocks ! $
