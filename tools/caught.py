@@ -1,9 +1,11 @@
 #!/usr/bin/env python3
-"""Tries the wrong bodies that no contract sees: each has to fail its test.
+"""Tries the wrong bodies that no contract sees: each has to fail its test, or not to compile.
 
 A file crates/NAME/caught/*.edit has a first line 'test: FUNCTION', which names the test, and then, as a must-fail edit, lines
 'file: src/..', 'old: TEXT' and 'new: TEXT'. Each edit is applied to a copy of the repository, whose tests run without proofs
 (rt try --test). Before that, each named test has to pass over the crate as it is.
+
+Where a type alone forbids the body, the first line is 'error: TEXT': the compiler's error, which has to come.
 
 usage: tools/caught.py [--jobs N] [WORD..]     with words: only the edits whose paths contain one of them
 """
@@ -30,10 +32,11 @@ class BadEdit(Exception):
 
 @dataclass
 class Edit:
-    """A wrong body: the test that has to fail, and what is replaced by what, file by file."""
+    """A wrong body: the test that has to fail or the error that has to come, and what is replaced by what, file by file."""
 
     path: Path
     test: str = ""
+    error: str = ""
     changes: list = field(default_factory=list)
 
     @property
@@ -50,6 +53,8 @@ def read_edit(path):
         word, _, text = line.partition(": ")
         if word == "test":
             edit.test = text.strip()
+        elif word == "error":
+            edit.error = text.strip()
         elif word == "file":
             file = text.strip()
         elif word == "old":
@@ -59,8 +64,8 @@ def read_edit(path):
                 raise BadEdit("a 'new:' line stands before any 'file:' or 'old:' line")
             edit.changes.append((file, old, text))
             old = None
-    if not edit.test or not edit.changes:
-        raise BadEdit("it has no line 'test: FUNCTION', or no pair 'old:' and 'new:'")
+    if bool(edit.test) == bool(edit.error) or not edit.changes:
+        raise BadEdit("it has no line 'test: FUNCTION' or 'error: TEXT', or both, or no pair 'old:' and 'new:'")
     return edit
 
 
@@ -89,7 +94,7 @@ def outcomes(crate):
 
 
 def judge(edit, root):
-    """Whether the edit's test fails with it, and what to say."""
+    """Whether the edit's test fails with it, or its error comes, and what to say."""
     try:
         texts = edited(edit, root)
     except BadEdit as why:
@@ -102,6 +107,10 @@ def judge(edit, root):
     finally:
         for file, text in kept.items():
             file.write_bytes(text)
+    if edit.error:
+        if not found and edit.error in said:
+            return True, f"doesn't compile, as it must not: {edit.error}"
+        return False, f"COMPILED, or failed otherwise; it said: {said.strip()[:600]}"
     outcome = found.get(edit.test)
     if outcome == "FAILED":
         return True, f"{edit.test} fails, as it must"
@@ -152,7 +161,8 @@ def main():
             results.append(False)
             continue
         edits.append(edit)
-        tests.setdefault(edit.crate.name, set()).add(edit.test)
+        if edit.test:
+            tests.setdefault(edit.crate.name, set()).add(edit.test)
     for crate, named in sorted(tests.items()):
         tasks.put((f"caught {crate}", lambda root, crate=crate, named=named: judge_crate(crate, named, root)))
     for edit in edits:

@@ -1,5 +1,5 @@
 -- What clauses see of entries and their shares.
-use Rattle.std.specs.Prelude.{◌≡◌, ⊤, ⊥}
+use Rattle.std.specs.Prelude.{◌≡◌, ⊤}
 use Rattle.counted_cell.specs.Cell.{Cell}
 use Rattle.counted_cell.specs.declared.reply.Reply.{Reply}
 use Rattle.counted_cell.specs.declared.reply.Reply.TheVariants as cell

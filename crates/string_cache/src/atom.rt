@@ -74,7 +74,7 @@ impl<'s, Static: StaticAtomSet> Atom<'s, Static> {
     /// are never refused, and take no lock and no memory.
     ///
     /// `Memory` comes where a new text finds no room, `TicketsSpent` where its bucket has given its last ticket, and
-    /// `FullCount` where the text's entry has as many holders as the set's limits allow, or as an `Arc` may have.
+    /// `FullCount` where the text's entry has as many holders as the set's limits allow.
     pub fn from_str_in<R: Wait>(rt: &R, set: &'s Set<Static>, text: &str) -> Result<Self, Fault>
         ensures text { IfOk result (λ atom. atom.text ≡ text.now) }
         ensures refused { IfErr result IsInternFault }
@@ -122,7 +122,7 @@ impl<'s, Static: StaticAtomSet> Atom<'s, Static> {
     /// Another atom of the same text and word.
     ///
     /// It is refused for a dynamic text alone, and with `FullCount` alone: where its entry has as many holders as the set's
-    /// limits allow, or as an `Arc` may have.
+    /// limits allow.
     pub fn clone_atom<R: Wait>(&self, rt: &R) -> Result<Self, Fault>
         ensures same { IfOk result (λ atom. atom ≡ self.now) }
         ensures refused { IfErr result (λ fault. fault ≡ Fault.FullCount) }

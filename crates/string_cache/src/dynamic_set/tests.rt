@@ -166,6 +166,26 @@ fn shares_of_a_bucket(rt: HostRuntime) -> Result<(), Fail> {
     Ok(())
 }
 
+/// A share that outlives its bucket keeps its text, as does one whose entry made-up counts took out.
+#[test]
+fn share_outlives_its_bucket(rt: HostRuntime) -> Result<(), Fail> {
+    let limits = Limits::greatest();
+    let mut bucket = Bucket::new(rt.alloc());
+    let taken_out = link(&mut bucket, "tokenised", &limits)?;
+    let mut fake = Fake {
+        added: 0,
+        full: 0,
+        gone: 0,
+    };
+    assert!(rt; found(pass(&rt, &mut bucket, "tokenised", &mut fake)) == 0);
+    assert!(rt; tickets(&mut bucket) == [0, 0, 0]);
+    let linked = link(&mut bucket, "tokenised", &limits)?;
+    drop(bucket);
+    assert!(rt; linked.text() == "tokenised" && linked.ticket() == ticket_word(2, 0xe77));
+    assert!(rt; taken_out.text() == "tokenised" && taken_out.ticket() == ticket_word(1, 0xe77));
+    Ok(())
+}
+
 #[test]
 fn spent_tickets(rt: HostRuntime) -> Result<(), Fail> {
     let limits = Limits::new(1, 2).expect(&rt, "limits");
