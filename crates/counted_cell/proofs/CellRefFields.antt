@@ -67,7 +67,6 @@ module _ {M : Type 1} {𝓤 : Ura M} (𝓛 : Logic 𝓤) (R : RattleType) (x : R
   share_in null_ptr κ = never_e 𝓤 _
   share_in (block_ptr b o) κ = qed 𝓛 (‵ (seen_with R b o x t share_right κ) ∷ []) ∵ fsplit ! $ keep ! (1 ∷ []) $ done !
 
-
   pub owned_in : (p : Ptr) (right : Right) → ent 𝓤 (sem 𝓛 (ref_owns R p x t right)) (guard 𝓤 (InBlock p) (sem 𝓛 (right_to R (block_of p) (count_of p) x t right)))
   owned_in null_ptr right = never_e 𝓤 _
   owned_in (block_ptr b o) right = guard_i 𝓤 (Unit {0}) (sem 𝓛 (right_to R b o x t right)) tt

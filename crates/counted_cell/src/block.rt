@@ -4,8 +4,8 @@ ghost use Rattle.std.specs.Mem.{type_size};
 ghost use denote.RawPtr.{Ptr, ◌+ₚ◌};
 ghost use Rattle.counted_cell.specs.Block.{IsWhole, free_right_owns};
 
-use crate::places::{PlacesPtr, Places};
 use crate::placed::Room;
+use crate::places::{Places, PlacesPtr};
 use std::alloc::{AllocError, Allocator};
 use std::marker::{Model, PhantomData};
 use std::mem::size_of;

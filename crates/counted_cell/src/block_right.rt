@@ -3,8 +3,8 @@ ghost use Rattle.std.specs.Prelude.{◌≡◌, ◌≤◌, ℕ};
 ghost use Rattle.counted_cell.specs.Counting.{CellName, cell_name_coded, owner_right, share_right, sole_right};
 ghost use Rattle.counted_cell.specs.BlockRight.{block_right_owns};
 
-use crate::header::Header;
 use crate::cell_ref::CellRef;
+use crate::header::Header;
 use crate::placed::Placed;
 use std::marker::Model;
 

@@ -3,7 +3,7 @@ ghost use Rattle.std.specs.Prelude.{◌≡◌, length, map, replicate, None, Som
 ghost use Rattle.counted_cell.specs.Text.{somes};
 ghost use Rattle.std.proofs.Props.{props};
 
-use crate::places::{PlacesPtr, Places};
+use crate::places::{Places, PlacesPtr};
 
 /// The text, where its bytes lie, and their owner. Its drop gives nothing back: the block's end does.
 #[derive(Drop)]
