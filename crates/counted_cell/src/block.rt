@@ -54,7 +54,7 @@ pub(crate) fn allocate<B, A: Allocator>(
     }
 }
 
-/// Gives the block back. What the bytes hold is forgotten.
+/// Gives the block back to the allocator. What the bytes hold is forgotten.
 pub(crate) fn deallocate<B, A: Allocator>(
     alloc: &A,
     room: Room<B>,

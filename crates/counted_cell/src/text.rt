@@ -36,6 +36,7 @@ impl Text {
         }
     }
 
+    /// The text, as it lies in the block. Nothing is copied or checked.
     pub(crate) fn as_str(&self) -> &str
         ensures { result.now ≡ somes self.now.places.slots }
     {

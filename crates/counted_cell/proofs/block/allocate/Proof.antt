@@ -166,9 +166,9 @@ module _ (E : El) (Z : Al) {M : Type 1} {𝓤 : Ura M} (𝓛 : Logic 𝓤) (at_m
       answers Z ! at_mem run a τ v
       (λ b o e.
       let p : Ptr = block_ptr b o in let p' : Ptr = block_ptr b (o + far) in
-      let room : (Rm E Z).Denot = record { ptr = p } in let base : (Bs E Z).Denot = record { ptr = p' } in
-      let cells : (Cs E Z).Denot = record { mark = record {}; at = p'; slots = replicate len None } in
-      let lease : (Ls E Z).Denot = record { mark = record {}; at = p; len = len; alloc = a } in
+      let room : (Rm E Z).Denot = record { ptr = p } in let start : (Bs E Z).Denot = record { ptr = p' } in
+      let row : (Cs E Z).Denot = record { mark = record {}; at = p'; slots = replicate len None } in
+      let right : (Ls E Z).Denot = record { mark = record {}; at = p; len = len; alloc = a } in
       let made : Val = four_val (word p) (word p') mark mark in
       let typed : Good (layout (Four E Z)) made = (tt, ((tt, tt), ((tt, tt), ((tt, tt), ((tt, tt), tt))))) in
       let ok = first_Good (layout (Four E Z)) made typed in
@@ -185,13 +185,13 @@ module _ (E : El) (Z : Al) {M : Type 1} {𝓤 : Ura M} (𝓛 : Logic 𝓤) (at_m
       exec ! C Λ En (after 5 (function E Z).body) (at_ret En Post) $ sets ! (of_opd ! (get ! refl)) refl ok $
       use1 𝓛 (‵ (rooms (R E) len b o) ⊛ ‵ (way_back (R E) len b o)) (cuts (R E) 𝓛 len b o) $ split ! $ move ! (1 ∷ 2 ∷ []) $ fjoin ! $
       use0 𝓛 (‵ ((Mark E).own_val (tt, tt) (mark ∷ []))) (mark_made E 𝓛) $ fjoin ! $ move ! (1 ∷ []) $ fsplit3 ! $ move ! (1 ∷ []) $
-      -- [room for the bytes; room for the header; nothing; the lease; the tokens]
-      use1 𝓛 (‵ (slots u8 b (o + far) cells.slots)) (blank 𝓛 b len (o + far)) $
-      flt_i ! (length cells.slots * 1) (2 ^ 63) (subst (λ k. k * 1 < 2 ^ 63) (sym (length-replicate len None)) (omega (arith, short_of))) $ fjoin ! $
+      -- [room for the bytes; room for the header; nothing; the right; the tokens]
+      use1 𝓛 (‵ (slots u8 b (o + far) row.slots)) (blank 𝓛 b len (o + far)) $
+      flt_i ! (length row.slots * 1) (2 ^ 63) (subst (λ k. k * 1 < 2 ^ 63) (sym (length-replicate len None)) (omega (arith, short_of))) $ fjoin ! $
       use0 𝓛 (‵ ((Mark E).own_val (tt, tt) (mark ∷ []))) (mark_made E 𝓛) $ fjoin ! $ word_made ! p' $ move ! (2 ∷ []) $ word_made ! p $ fjoin ! $ move ! (0 ∷ 1 ∷ 2 ∷ 4 ∷ []) $ group ! 4 $
-      use1 𝓛 (‵ ((Four E Z).own_val (room, base, cells, lease) (made ∷ []))) (four_of 𝓛 (Rm E Z) (Bs E Z) (Cs E Z) (Ls E Z) room base cells lease (word p) (word p') mark mark) $
-      use1 𝓛 (‵ ((Out E Z).own_val (Ok (room, base, cells, lease)) (live 0 (vcons made vnil) ∷ []))) (ok_of 𝓛 (Four E Z) AE.the_row (room, base, cells, lease) made) $
-      returns ! (look_at ! 0 refl) $ free_all ! refl $ keep ! (0 ∷ 2 ∷ 3 ∷ []) $ by ! (exits (Ok (room, base, cells, lease)) (live 0 (vcons made vnil)) (refl, refl, refl, refl, refl, refl)))
+      use1 𝓛 (‵ ((Four E Z).own_val (room, start, row, right) (made ∷ []))) (four_of 𝓛 (Rm E Z) (Bs E Z) (Cs E Z) (Ls E Z) room start row right (word p) (word p') mark mark) $
+      use1 𝓛 (‵ ((Out E Z).own_val (Ok (room, start, row, right)) (live 0 (vcons made vnil) ∷ []))) (ok_of 𝓛 (Four E Z) AE.the_row (room, start, row, right) made) $
+      returns ! (look_at ! 0 refl) $ free_all ! refl $ keep ! (0 ∷ 2 ∷ 3 ∷ []) $ by ! (exits (Ok (room, start, row, right)) (live 0 (vcons made vnil)) (refl, refl, refl, refl, refl, refl)))
       (λ e.
       let Refusal : RattleType = Struct (Declared.shape AE.the_type) in
       let none : Val = live 1 (vcons (vstruct vnil) vnil) in
