@@ -1,12 +1,11 @@
 -- The data field of a `CellRef`, and what is read off what it owns. Assumes `Logic`.
 use mathlib.Core.Logic.{inl, inr}
-use Rattle.std.proofs.Common.{sym, subst, ◌≡◌, ℕ, zero, suc, ◌+◌, ◌<◌, T, Bool, true, false, List, [], ◌∷◌, ◌++◌, refl, ap, ◌∙◌, arith}
+use Rattle.std.proofs.Common.{sym, subst, ◌≡◌, T, List, [], ◌∷◌, ◌++◌, refl, ap, ◌∙◌}
 use seplogic.Ra.Ura.{Ura}
 use mir.Syntax.{ty_ptr, ty_struct, tcons, tnil}
 use mir.Val.{Val, vstruct, vcons, vnil, of_list, has_ty, WT}
-use base.Logic.{SProp, ent, emp, never_e, guard, guard_i, id⊢}
-use base.Fml.{Lft, fex, flft}
-use contract.Monad.{fact, fact_i}
+use base.Logic.{ent, emp, never_e, guard, guard_i}
+use base.Fml.{Lft, flft}
 use types.Logic.{Logic, sem}
 use types.Kit.{‵, ◌$◌, ◌∵◌, !, qed, check, keep, fsplit, done}
 use denote.RattleType.{RattleType}
@@ -21,7 +20,7 @@ use denote.Struct.Struct.{Struct}
 use denote.Struct.Owning.{shape}
 use Rattle.counted_cell.specs.contracts.cell_ref.CellRef as cell_ref
 use Rattle.counted_cell.specs.contracts.cell_ref.Reading as reading
-use Rattle.counted_cell.specs.Counting.{CellName, Right, CanRead, no_right, owner_right, share_right, sole_right, reads, right_to, seen_by, seen_with, ref_owns, ref_shares}
+use Rattle.counted_cell.specs.Counting.{CellName, Right, CanRead, no_right, owner_right, share_right, sole_right, right_to, seen_by, seen_with, ref_owns, ref_shares}
 
 abbrev pub word_of : Ptr → Val
 word_of p = vstruct (vcons (ptr_val p) vnil)

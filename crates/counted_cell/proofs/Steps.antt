@@ -2,20 +2,20 @@
 use Rattle.std.proofs.Common.{◌≢◌, ◌≡◌, ℕ, ◌+◌, ◌-◌, ◌%◌, ◌^◌, ◌<◌, ◌≤◌, eqb, Bool, true, false, List, [], ◌∷◌, sym, refl, subst, arith, eq-eqb, ne_eqb, w64}
 use mathlib.Core.Logic.{dite}
 use mathlib.Core.List.{Mem, not-mem-nil}
-use native.Mathlib.Decide.{ℕ_discrete, dec_le}
+use native.Mathlib.Decide.{ℕ_discrete}
 use seplogic.Ra.Ura.{Ura}
 use mir.Syntax.{ty_int}
 use mir.Val.{vint, has_ty, WT}
 use base.Fraction.{full_share}
 use base.Logic.{SProp, ent, sep, wand, ex, all, guard, upd, upd_i, ex_i, all_i, via, never, never_e, id⊢}
-use base.Fml.{Lft, Share, Fml, ftrue, fsep, fex, fall, finv, fnamed, flft, fdead}
+use base.Fml.{Lft, Share, Fml, ftrue, fsep, fex, finv, fnamed, flft, fdead}
 use prog.Atomic.{either}
 use types.Logic.{Logic, sem}
-use types.Kit.{‵, raw, ◌⊛◌, some, given, later, ◌$◌, ◌∵◌, !, qed, by, move, keep, drop, split, join, group, fsplit, fsplit3, fjoin, fjoin3, fpick, fpack, pick, learn, check, show, frame, each, assume, suffices, settle, use0, use1, use2, use3, rewrite, updating, await, now, done}
+use types.Kit.{‵, raw, ◌⊛◌, some, given, ◌$◌, ◌∵◌, !, qed, by, move, keep, drop, split, fsplit, fjoin, fpick, fpack, pick, learn, check, show, frame, each, assume, suffices, use1, use2, rewrite, done}
 use types.RcWeak.{part, rest, takes, gives, whole, rest_some}
 use denote.RawPtr.{block_ptr}
 use denote.Steps.{nothing}
-use Rattle.std.specs.Sync.RawAtomic.{Shift, rests, ends, enters, leaves, along, shifted, closing, if_none, back, found, asks, always, word}
+use Rattle.std.specs.Sync.RawAtomic.{Shift, rests, ends, enters, leaves, along, shifted, if_none, back, found, asks, always, word}
 use Rattle.counted_cell.specs.Counting.{fact, CellName, shares_out, counted, standing, phase, Inv, reading_owns}
 
 module _ {M : Type 1} {𝓤 : Ura M} (𝓛 : Logic 𝓤) (b o : ℕ) (t : CellName) where

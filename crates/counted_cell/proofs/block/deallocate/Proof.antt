@@ -1,7 +1,6 @@
 -- `deallocate` puts the block together, and hands it back with the allocator's token. Assumes `Logic`.
 use mathlib.Core.Path.{◌≡◌, refl, sym, ap, subst, ◌∙◌}
-use Prim.Native.Nat.{ℕ, ◌*◌, ◌<◌, ◌^◌}
-use native.Mathlib.Omega.{arith}
+use Prim.Native.Nat.{ℕ, ◌<◌, ◌^◌}
 use mathlib.Core.List.{List, [], ◌∷◌, ◌++◌}
 use seplogic.Ra.Ura.{Ura}
 use mir.Syntax.{Fn, named, w64}
@@ -35,30 +34,24 @@ use Rattle.core.proofs.alloc.Calls.{Goes-blank}
 use Rattle.std_alloc.proofs.VecSteps.Shapes.{after}
 use Rattle.std_alloc.proofs.RcSteps.{word, word-Good}
 use types.Kit.{flt_l}
-use types.Run.{bin}
 use denote.Builtin.{usize}
-use Rattle.std.specs.Prelude.{None}
-use Rattle.core.proofs.mem.Param.{El, R, elτ}
-use Rattle.std_alloc.proofs.RawLayout.{as_raw}
-use Rattle.counted_cell.specs.Places.{slots, places_own}
+use Rattle.core.proofs.mem.Param.{El, R}
+use Rattle.counted_cell.specs.Places.{places_own}
 use Rattle.counted_cell.proofs.PlacesSteps.{mark, mark_had, word_had}
 use base.Fml.{Incl-trans}
 use lib.Dec.{T}
-use lib.ListN.{replicate, length-replicate}
 use mir.Syntax.{ty_unit, ty_array}
 use mir.Val.{has_ty, WT}
-use prog.Memory.{Memory, align, capped}
-use prog.Capped.{capped_fits}
+use prog.Memory.{Memory}
 use prog.Routine.{Routine}
 use contract.Monad.{Fun}
 use contract.BorrowLft.{◌⊑◌}
 use sound.WpLaws.{FmC, fm_of}
-use types.Run.{size_word, align_word}
 use types.ByLocal.{lands_last}
 use denote.Triple.Statement.{Triple}
 use denote.Triple.Call.{calls_at_last}
 use Rattle.core.proofs.alloc.Calls.{Al, second, token, gives_key, Gives, at_gives, Gives-goes, Gives-Gives}
-use Rattle.core.proofs.slots.Leases.{uncapped, block_ty, block_size, block_align, args, P}
+use Rattle.core.proofs.slots.Leases.{args, P}
 use Rattle.counted_cell.specs.Block.{whole_type, rooms, IsWhole, room_owns, free_right_owns}
 use Rattle.counted_cell.proofs.Blocks.{swept}
 use Rattle.counted_cell.specs.contracts.block.FreeRight as L-type
@@ -71,7 +64,7 @@ use base.Logic.{apply∗}
 use types.Kit.{use2, drop}
 use types.Logic.{sem}
 use Prim.Native.Nat.{◌+◌}
-use denote.RawPtr.{block_ptr, ◌+ₚ◌}
+use denote.RawPtr.{◌+ₚ◌}
 use lib.ListN.{length}
 use Rattle.counted_cell.specs.contracts.block.deallocate as F
 use Rattle.counted_cell.specs.contracts.block.deallocate.Key.{name as #self}

@@ -1,5 +1,5 @@
 -- `begin` takes the word out of the block, and lends the value.
-use Rattle.counted_cell.proofs.Names.{◌≤◌, ◌≡◌, ℕ, ◌+◌, List, [], ◌∷◌, ◌++◌, sym, refl, ap, proved, leaves, a_type, Val, vstruct, vcons, vnil, of_list, inst_fn, SProp, emp, apply∗, sep, fact, fact_i, Lft, Fml, ftrue, fsep, fex, feq, flft, sem, ‵, raw, ◌⊛◌, given, later, ◌$◌, ◌∵◌, !, qed, by, move, keep, drop, split, split3, join, fsplit, fsplit3, fjoin, fjoin3, fpick, fpack, learn, use0, use1, use2, use3, await, rewrite, feq_i, stop, fld, of_opd, no_more, and_then, returns, enter, alloc_all, pass_all, free_all, look_at, get, get_in, sets, is, agg, sub, whole, tables, no, RattleType, Valss, owns, types_at, plain, Ptr, InBlock, block_ptr, ptr_val, block_of, count_of, at_block, nothing, heard, param, layouts, param_laws, full_share, Stays, stay_dropped, walk_of, Goes-dropped}
+use Rattle.counted_cell.proofs.Names.{◌≤◌, ◌≡◌, ℕ, ◌+◌, List, [], ◌∷◌, ◌++◌, sym, refl, ap, proved, leaves, a_type, Val, vstruct, vcons, vnil, of_list, inst_fn, SProp, emp, fact, fact_i, ftrue, fsep, fex, feq, flft, ‵, raw, ◌⊛◌, later, ◌$◌, ◌∵◌, !, qed, by, move, keep, drop, split, split3, join, fsplit, fsplit3, fjoin, fpick, fpack, use0, use1, use3, await, rewrite, feq_i, stop, fld, of_opd, no_more, and_then, returns, enter, alloc_all, pass_all, free_all, look_at, get, get_in, sets, is, agg, sub, whole, tables, no, RattleType, Valss, owns, types_at, plain, Ptr, block_ptr, ptr_val, block_of, count_of, at_block, nothing, heard, param, layouts, param_laws, full_share, Stays, stay_dropped, walk_of, Goes-dropped}
 use contract.BorrowLft.{◌⊑◌}
 use denote.RawPtr.{lies_at}
 use Rattle.counted_cell.specs.contracts.header.Header as block
@@ -10,8 +10,8 @@ use Rattle.counted_cell.proofs.CellRefFields as ref_fields
 use Rattle.counted_cell.proofs.PlacedFields as placed_fields
 use Rattle.counted_cell.proofs.BlockRightFields as right_fields
 use denote.Struct.Lending.{Lends-lies}
-use Rattle.counted_cell.specs.Counting.{CellName, owner_right, share_right, offset, right_to, ref_owns}
-use Rattle.counted_cell.specs.BlockRight.{value_at, way_back, block_right_owns}
+use Rattle.counted_cell.specs.Counting.{CellName, owner_right, share_right, offset}
+use Rattle.counted_cell.specs.BlockRight.{value_at, way_back}
 use Rattle.std.specs.Sync.RawAtomic.{word}
 use Rattle.counted_cell.proofs.Splits.{apart}
 use Rattle.counted_cell.proofs.Begins.{name_of, Begun, begins}

@@ -1,7 +1,5 @@
 -- `reclaim` takes the value back, and puts the block together.
-use Rattle.counted_cell.proofs.Names.{◌≡◌, ℕ, ◌+◌, List, [], ◌∷◌, ◌++◌, sym, refl, ap, subst, proved, leaves, a_type, Val, vstruct, vcons, vnil, of_list, inst_fn, SProp, emp, apply∗, sep, fact, fact_i, Lft, Fml, ftrue, fsep, fex, feq, flft, sem, ‵, raw, ◌⊛◌, given, later, ◌$◌, ◌∵◌, !, qed, by, move, keep, drop, split, split3, join, fsplit, fsplit3, fjoin, fjoin3, fpick, fpack, learn, use0, use1, use2, use3, await, rewrite, feq_i, stop, fld, of_opd, no_more, and_then, returns, enter, alloc_all, pass_all, free_all, look_at, get, get_in, sets, is, agg, sub, whole, tables, no, RattleType, Valss, owns, types_at, plain, Ptr, InBlock, block_ptr, ptr_val, block_of, count_of, at_block, nothing, heard, param, layouts, param_laws, full_share, Stays, stay_dropped, walk_of, Goes-dropped}
-use contract.BorrowLft.{◌⊑◌}
-use denote.RawPtr.{lies_at}
+use Rattle.counted_cell.proofs.Names.{◌≡◌, ℕ, ◌+◌, [], ◌∷◌, sym, refl, ap, subst, proved, leaves, a_type, Val, inst_fn, SProp, emp, apply∗, sep, fact, fact_i, Fml, ftrue, fsep, flft, sem, ‵, raw, ◌⊛◌, given, later, ◌$◌, ◌∵◌, !, qed, by, move, keep, drop, split, join, fsplit, fsplit3, fjoin, fpack, learn, use0, use1, use2, await, rewrite, stop, fld, of_opd, no_more, and_then, returns, enter, alloc_all, pass_all, free_all, look_at, get, get_in, sets, is, agg, sub, whole, tables, no, RattleType, plain, Ptr, InBlock, block_ptr, ptr_val, block_of, count_of, at_block, nothing, heard, param, layouts, param_laws, full_share, Stays, stay_dropped, walk_of, Goes-dropped}
 use Rattle.counted_cell.specs.contracts.header.Header as block
 use Rattle.counted_cell.specs.contracts.placed.Placed as placed
 use Rattle.counted_cell.specs.contracts.cell_ref.CellRef as cell_ref
@@ -9,11 +7,10 @@ use Rattle.counted_cell.specs.contracts.block_right.BlockRight as block_right
 use Rattle.counted_cell.proofs.CellRefFields as ref_fields
 use Rattle.counted_cell.proofs.PlacedFields as placed_fields
 use Rattle.counted_cell.proofs.BlockRightFields as right_fields
-use Rattle.counted_cell.specs.Counting.{CellName, Right, sole_right, offset, right_to, ref_owns}
-use Rattle.counted_cell.specs.BlockRight.{value_at, way_back, block_right_owns}
+use Rattle.counted_cell.specs.Counting.{CellName, Right, sole_right, right_to, ref_owns}
+use Rattle.counted_cell.specs.BlockRight.{value_at, block_right_owns}
 use Rattle.std.specs.Sync.RawAtomic.{word}
 use denote.Memory.{part_at}
-use base.Fml.{flent}
 use Rattle.counted_cell.proofs.Begins.{ends}
 use Rattle.counted_cell.specs.contracts.block_right.reclaim.{ended, clauses}
 use Rattle.counted_cell.specs.contracts.block_right.reclaim.Key.{name as #self}
