@@ -1,22 +1,22 @@
 -- A cell begins with its count at 1, and its value comes back at the end. Assumes `Logic`.
-use Rattle.std.proofs.Common.{◌≡◌, ℕ, ◌+◌, ◌<◌, ◌≤◌, ◌^◌, Bool, true, false, [], ◌∷◌, refl, subst, arith, lit<}
+use Rattle.std.proofs.Common.{ℕ, ◌+◌, ◌≤◌, Bool, true, [], ◌∷◌, lit<}
 use seplogic.Ra.Ura.{Ura}
 use base.Fraction.{full_share}
-use base.FractionLaws.{Counts, Counts-all}
-use base.Logic.{SProp, ent, sep, wand, ex, id⊢, via, all_e, apply∗}
-use base.Fml.{Lft, Share, Incl, Incl-trans, Fml, ftrue, fsep, fex, fwand, flft, fdead, fbor, flent, finv}
+use base.FractionLaws.{Counts-all}
+use base.Logic.{ent, sep}
+use base.Fml.{Lft, Share, Incl, Incl-trans, Fml, ftrue, fsep, fex, flft, flent, finv}
 use contract.BorrowLft.{meet_⊑_left, meet_⊑_right}
 use types.Logic.{Logic, sem}
-use types.Kit.{‵, raw, ◌⊛◌, some, later, ◌$◌, ◌∵◌, !, qed, by, move, keep, drop, split, split3, join, group, fsplit, fsplit3, fjoin, fjoin3, fpick, fpack, pick, show, use1, use2, use3, rewrite, updating, await, now, assume, done}
+use types.Kit.{‵, ◌⊛◌, later, ◌$◌, ◌∵◌, !, qed, move, split, split3, join, fsplit, fjoin, fjoin3, fpack, use1, use2, updating, await, now, done}
 use types.Tokens.{lft_new, bor_new, lent_back}
 use types.RcWeak.{part, rest, cut, takes}
 use denote.RattleType.{RattleType, RowLaws}
-use denote.RawPtr.{Ptr, block_ptr, lies_at}
+use denote.RawPtr.{block_ptr, lies_at}
 use denote.SharingLaws.{contraction}
 use denote.Steps.{nothing}
 use denote.Struct.Lending.{Lends}
 use Rattle.std.specs.Sync.RawAtomic.{word}
-use Rattle.counted_cell.specs.Counting.{CellName, owner_right, share_right, sole_right, offset, shares_out, counted, standing, phase, Inv, shown, reads, right_to}
+use Rattle.counted_cell.specs.Counting.{CellName, owner_right, share_right, sole_right, offset, shares_out, standing, phase, Inv, shown, right_to}
 use Rattle.counted_cell.proofs.CellRefLent.{shown_laws}
 
 -- the name of a cell of these two lifetimes and this limit

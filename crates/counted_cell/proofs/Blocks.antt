@@ -1,21 +1,20 @@
 -- A block is room for its header and for the bytes behind it, and those are the block again. Assumes `Logic`.
-use Rattle.std.proofs.Common.{◌≡◌, ℕ, zero, suc, ◌+◌, ◌-◌, ◌%◌, ◌*◌, List, [], ◌∷◌, length, replicate, sym, refl, ap, ◌∙◌, subst, arith, w8}
+use Rattle.std.proofs.Common.{◌≡◌, ℕ, zero, suc, ◌+◌, ◌-◌, ◌%◌, List, [], ◌∷◌, length, replicate, refl, ap, ◌∙◌, subst, arith, w8}
 use Rattle.std.specs.Prelude.{Option, Some, None}
 use Rattle.std.specs.Mem.{type_size}
 use native.Mathlib.Nat.{zero-mod, mod_self, mod-one, add-zero}
 use seplogic.Ra.Ura.{Ura}
 use base.Fraction.{full_share}
-use mir.Syntax.{Ty, ty_int, ty_array, tcons, tnil}
-use mir.Raw.{raw as bare}
+use mir.Syntax.{ty_int, ty_array, tcons, tnil}
 use mir.Val.{Val, vint, vstruct, vcons, vnil}
 use base.Logic.{SProp, ent, sep, wand, via, id⊢}
-use base.Fml.{Fml, ftrue, fsep, fat, froom}
+use base.Fml.{Fml, ftrue, fsep, froom}
 use prog.Memory.{size, align, up, pad}
 use prog.RawLaws.{size-raw}
 use types.Logic.{Logic, sem}
-use types.Kit.{‵, ◌⊛◌, ◌$◌, ◌∵◌, !, qed, by, move, keep, use1, use2, split, fsplit, fjoin, fpack, feq_i, frame, done}
+use types.Kit.{‵, ◌⊛◌, ◌$◌, ◌∵◌, !, qed, by, move, keep, use1, split, fjoin, fpack, feq_i, frame, done}
 use denote.RattleType.{RattleType, Valss}
-use denote.Memory.{lone, part_at}
+use denote.Memory.{lone}
 use denote.Plain.{uint_out}
 use denote.Builtin.{u8}
 use denote.Struct.Struct.{within}

@@ -1,12 +1,11 @@
 -- The data field of a `CellRef`, and what is read off what it owns. Assumes `Logic`.
 use mathlib.Core.Logic.{inl, inr}
-use Rattle.std.proofs.Common.{sym, subst, ◌≡◌, ℕ, zero, suc, ◌+◌, ◌<◌, T, Bool, true, false, List, [], ◌∷◌, ◌++◌, refl, ap, ◌∙◌, arith}
+use Rattle.std.proofs.Common.{sym, subst, ◌≡◌, T, List, [], ◌∷◌, ◌++◌, refl, ap, ◌∙◌}
 use seplogic.Ra.Ura.{Ura}
 use mir.Syntax.{ty_ptr, ty_struct, tcons, tnil}
 use mir.Val.{Val, vstruct, vcons, vnil, of_list, has_ty, WT}
-use base.Logic.{SProp, ent, emp, never_e, guard, guard_i, id⊢}
-use base.Fml.{Lft, fex, flft}
-use contract.Monad.{fact, fact_i}
+use base.Logic.{ent, emp, never_e, guard, guard_i}
+use base.Fml.{Lft, flft}
 use types.Logic.{Logic, sem}
 use types.Kit.{‵, ◌$◌, ◌∵◌, !, qed, check, keep, fsplit, done}
 use denote.RattleType.{RattleType}
@@ -21,7 +20,7 @@ use denote.Struct.Struct.{Struct}
 use denote.Struct.Owning.{shape}
 use Rattle.counted_cell.specs.contracts.cell_ref.CellRef as cell_ref
 use Rattle.counted_cell.specs.contracts.cell_ref.Reading as reading
-use Rattle.counted_cell.specs.Counting.{CellName, Right, CanRead, no_right, owner_right, share_right, sole_right, reads, right_to, seen_by, seen_with, ref_owns, ref_shares}
+use Rattle.counted_cell.specs.Counting.{CellName, Right, CanRead, no_right, owner_right, share_right, sole_right, right_to, seen_by, seen_with, ref_owns, ref_shares}
 
 abbrev pub word_of : Ptr → Val
 word_of p = vstruct (vcons (ptr_val p) vnil)
@@ -66,7 +65,6 @@ module _ {M : Type 1} {𝓤 : Ura M} (𝓛 : Logic 𝓤) (R : RattleType) (x : R
   pub share_in : (p : Ptr) (κ : Lft) → ent 𝓤 (sem 𝓛 (ref_shares R p x t share_right κ)) (sem 𝓛 (one (λ q. flft (t.share_life ∷ []) q) κ))
   share_in null_ptr κ = never_e 𝓤 _
   share_in (block_ptr b o) κ = qed 𝓛 (‵ (seen_with R b o x t share_right κ) ∷ []) ∵ fsplit ! $ keep ! (1 ∷ []) $ done !
-
 
   pub owned_in : (p : Ptr) (right : Right) → ent 𝓤 (sem 𝓛 (ref_owns R p x t right)) (guard 𝓤 (InBlock p) (sem 𝓛 (right_to R (block_of p) (count_of p) x t right)))
   owned_in null_ptr right = never_e 𝓤 _

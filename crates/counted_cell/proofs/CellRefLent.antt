@@ -1,23 +1,23 @@
 -- What a `&` to a reference has, and how it is lent. Assumes `Logic`.
-use Rattle.std.proofs.Common.{◌≡◌, ℕ, zero, suc, ◌+◌, [], ◌∷◌, ◌++◌}
+use Rattle.std.proofs.Common.{ℕ, ◌+◌, [], ◌∷◌}
 use seplogic.Ra.Ura.{Ura}
 use base.FractionLaws.{Counts}
 use base.Logic.{ent, sep, emp, upd_i, id⊢, apply∗, wand}
-use base.Fml.{Lft, Incl, Share, Fml, ftrue, ffalse, fsep, fseps, fex, fwand, fupd, fdead, fbor, flft, finv}
+use base.Fml.{Lft, Share, Fml, ftrue, ffalse, fsep, fseps, fwand, fupd, fdead, fbor, flft, finv}
 use contract.BorrowLft.{meet_⊑_left}
 use ghost.Rules.{span, thinned}
 use types.Logic.{Logic, sem, lfts}
-use types.Kit.{‵, raw, ◌⊛◌, some as exists, later, ◌$◌, ◌∵◌, !, qed, by, move, keep, use0, use1, use2, split, fsplit, fsplit3, fjoin, fjoin3, fpick, fpack, pick, assume, suffices, await, updating, now, done}
+use types.Kit.{‵, raw, ◌⊛◌, some as exists, later, ◌$◌, ◌∵◌, !, qed, by, move, keep, use0, use1, use2, split, fsplit3, fjoin, fjoin3, fpick, pick, assume, suffices, await, updating, now, done}
 use types.Tokens.{bor_open, obor_alter, bor_fracture, one_token}
 use types.RcWeak.{part, part_in}
 use denote.RattleType.{RattleType, RowLaws}
 use denote.RawPtr.{Ptr, block_ptr, null_ptr}
-use denote.Sharing.{ShrLaws, said, one, always, held, beside}
+use denote.Sharing.{ShrLaws, one, always, held, beside}
 use denote.SharingLaws.{contraction, beside_shr_laws, one_shr_laws, always_shr_laws, held_shr_laws, nothing_shr_laws, said_shr_laws}
 use denote.Moves.{moves_from}
 use denote.Steps.{nothing}
-use denote.Struct.Lending.{Lends, Lends-false, Lends-nothing, Lends-both, lent_at, lent_at_shr_laws}
-use Rattle.counted_cell.specs.Counting.{CellName, Right, no_right, owner_right, share_right, sole_right, offset, Inv, shown, reads, right_to, seen_by, seen_with, ref_owns, ref_shares}
+use denote.Struct.Lending.{Lends, Lends-false, Lends-nothing, Lends-both, lent_at_shr_laws}
+use Rattle.counted_cell.specs.Counting.{CellName, Right, no_right, owner_right, share_right, sole_right, offset, Inv, shown, reads, right_to, seen_by, ref_owns, ref_shares}
 
 module _ {M : Type 1} {𝓤 : Ura M} (𝓛 : Logic 𝓤) where
   open 𝓛 use {H, A}

@@ -1,6 +1,6 @@
 -- A reference may cross threads where its value may be shared and sent. Assumes `Logic`.
-use Rattle.std.proofs.Common.{ℕ, zero, suc, ◌+◌, Bool, true, false, [], ◌∷◌}
-use base.Fml.{Fml, Lft, ftrue, finv}
+use Rattle.std.proofs.Common.{ℕ, ◌+◌, Bool, true, false, [], ◌∷◌}
+use base.Fml.{Lft}
 use base.Shift.{Keyless}
 use denote.Exit.{Exit, unchanged, leaves, hidden, under}
 use denote.RattleType.{RattleType}
@@ -8,8 +8,8 @@ use denote.RawPtr.{Ptr, block_ptr, null_ptr}
 use denote.Builtin.{RawPtr}
 use denote.Struct.Struct.{exits_of}
 use denote.Struct.Owning.{shape, fields, to}
-use denote.Param.Send.{IsSend, IsSync, Quiet, Common, owning_send, struct_send, struct_sync, sendable}
-use Rattle.counted_cell.specs.Counting.{CellName, Right, no_right, owner_right, share_right, sole_right, shares_out, phase, Inv, offset, shown, reads, right_to, seen_by, ref_owns, ref_shares}
+use denote.Param.Send.{IsSend, IsSync, Quiet, owning_send, struct_send, struct_sync, sendable}
+use Rattle.counted_cell.specs.Counting.{CellName, Right, no_right, owner_right, share_right, sole_right, shares_out, phase, offset, shown, reads, seen_by, ref_owns, ref_shares}
 use Rattle.counted_cell.specs.contracts.cell_ref.CellRef.{the_row, the_type}
 
 pub quiet : {D X : Type 0} (to : D → X) (e : Exit X) → Quiet e → Quiet (hidden (under to e))

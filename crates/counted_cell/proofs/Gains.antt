@@ -1,14 +1,12 @@
 -- What a step on the count has gained, as the right of the reference that it gives. Assumes `Logic`.
 use Rattle.std.proofs.Common.{◌≡◌, ◌≢◌, ℕ, ◌+◌, ◌<◌, ◌^◌, Bool, true, false, [], ◌∷◌, refl}
 use seplogic.Ra.Ura.{Ura}
-use base.Logic.{SProp, ent, sep, guard}
+use base.Logic.{ent, sep, guard}
 use base.Fml.{Lft, Fml, ftrue, fsep, finv}
 use types.Logic.{Logic, sem}
-use types.Kit.{‵, ◌$◌, ◌∵◌, !, qed, by, move, keep, drop, fsplit, fsplit3, fjoin, fjoin3, fpick, check, use0, done}
-use types.RcWeak.{part}
+use types.Kit.{‵, ◌$◌, ◌∵◌, !, qed, move, keep, drop, fsplit, fsplit3, fjoin, fjoin3, fpick, check, done}
 use denote.RattleType.{RattleType}
-use denote.Steps.{nothing}
-use Rattle.counted_cell.specs.Counting.{CellName, Right, no_right, share_right, sole_right, Inv, shown, reads, right_to}
+use Rattle.counted_cell.specs.Counting.{CellName, Right, no_right, share_right, sole_right, Inv, shown, right_to}
 use Rattle.counted_cell.proofs.Steps.{over, won}
 
 -- the right, where it was gained

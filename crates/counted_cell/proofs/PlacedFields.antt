@@ -6,11 +6,8 @@ use base.Logic.{ent, emp}
 use types.Logic.{Logic, sem}
 use denote.RattleType.{RattleType}
 use denote.Laws.{Is}
-use denote.Opens.{Opens}
-use denote.Copied.{Struct-Copied}
 use denote.RawPtr.{Ptr, ptr_val}
 use denote.Shadow.{makes_shadow}
-use denote.Struct.Laws.{RawPtr-copy}
 use denote.Struct.Struct.{Struct}
 use denote.Struct.Owning.{shape}
 use Rattle.counted_cell.specs.contracts.placed.Placed as part

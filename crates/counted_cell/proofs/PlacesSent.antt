@@ -1,4 +1,4 @@
--- The parts of a buffer may cross threads as its items and its allocator may.
+-- A row of places may cross threads where its items may. Assumes `Logic`.
 use Rattle.std.specs.Prelude.{ℕ, ◌+◌, List, [], ◌∷◌, Option, Some, None}
 use Rattle.std.specs.Mem.{type_size}
 use base.Fraction.{full_share}

@@ -1,13 +1,12 @@
 -- A block is its word and its value. Assumes `Logic`.
-use Rattle.std.proofs.Common.{◌≡◌, ℕ, zero, ◌+◌, [], ◌∷◌, w64}
+use Rattle.std.proofs.Common.{ℕ, zero, ◌+◌, [], ◌∷◌, w64}
 use seplogic.Ra.Ura.{Ura}
 use base.Fraction.{full_share}
-use base.Logic.{SProp, ent, sep, wand, all_e, id⊢, apply∗}
+use base.Logic.{ent, sep, wand, all_e, apply∗}
 use base.Fml.{Fml, ftrue, fsep}
 use types.Logic.{Logic, sem}
-use types.Kit.{‵, raw, ◌⊛◌, ◌$◌, ◌∵◌, !, qed, by, move, keep, drop, use1, use2, split, split3, join, fsplit, fjoin, fjoin3, assume, done}
+use types.Kit.{‵, raw, ◌⊛◌, ◌$◌, ◌∵◌, !, qed, move, keep, use1, use2, split, split3, fsplit, fjoin3, assume, done}
 use denote.RattleType.{RattleType, Denots}
-use denote.Laws.{Lawful}
 use denote.Memory.{part_of, part_at}
 use denote.Plain.{uint_in, uint_out}
 use denote.Steps.{nothing}

@@ -2,20 +2,20 @@
 use Rattle.std.proofs.Common.{◌≢◌, ◌≡◌, ℕ, ◌+◌, ◌-◌, ◌%◌, ◌^◌, ◌<◌, ◌≤◌, eqb, Bool, true, false, List, [], ◌∷◌, sym, refl, subst, arith, eq-eqb, ne_eqb, w64}
 use mathlib.Core.Logic.{dite}
 use mathlib.Core.List.{Mem, not-mem-nil}
-use native.Mathlib.Decide.{ℕ_discrete, dec_le}
+use native.Mathlib.Decide.{ℕ_discrete}
 use seplogic.Ra.Ura.{Ura}
 use mir.Syntax.{ty_int}
 use mir.Val.{vint, has_ty, WT}
 use base.Fraction.{full_share}
 use base.Logic.{SProp, ent, sep, wand, ex, all, guard, upd, upd_i, ex_i, all_i, via, never, never_e, id⊢}
-use base.Fml.{Lft, Share, Fml, ftrue, fsep, fex, fall, finv, fnamed, flft, fdead}
+use base.Fml.{Lft, Share, Fml, ftrue, fsep, fex, finv, fnamed, flft, fdead}
 use prog.Atomic.{either}
 use types.Logic.{Logic, sem}
-use types.Kit.{‵, raw, ◌⊛◌, some, given, later, ◌$◌, ◌∵◌, !, qed, by, move, keep, drop, split, join, group, fsplit, fsplit3, fjoin, fjoin3, fpick, fpack, pick, learn, check, show, frame, each, assume, suffices, settle, use0, use1, use2, use3, rewrite, updating, await, now, done}
+use types.Kit.{‵, raw, ◌⊛◌, some, given, ◌$◌, ◌∵◌, !, qed, by, move, keep, drop, split, fsplit, fjoin, fpick, fpack, pick, learn, check, show, frame, each, assume, suffices, use1, use2, rewrite, done}
 use types.RcWeak.{part, rest, takes, gives, whole, rest_some}
 use denote.RawPtr.{block_ptr}
 use denote.Steps.{nothing}
-use Rattle.std.specs.Sync.RawAtomic.{Shift, rests, ends, enters, leaves, along, shifted, closing, if_none, back, found, asks, always, word}
+use Rattle.std.specs.Sync.RawAtomic.{Shift, rests, ends, enters, leaves, along, shifted, if_none, back, found, asks, always, word}
 use Rattle.counted_cell.specs.Counting.{fact, CellName, shares_out, counted, standing, phase, Inv, reading_owns}
 
 module _ {M : Type 1} {𝓤 : Ura M} (𝓛 : Logic 𝓤) (b o : ℕ) (t : CellName) where
@@ -131,22 +131,25 @@ module _ {M : Type 1} {𝓤 : Ura M} (𝓛 : Logic 𝓤) (b o : ℕ) (t : CellNa
   leaves_one = stepped less Left Shared (qed 𝓛 (‵ (fdead a) ∷ ‵ (part 64 t.value_life) ∷ ‵ (part 64 t.share_life) ∷ []) ∵ keep ! (1 ∷ 0 ∷ []) $ by ! (part_dead t.value_life (never 𝓤)))
       (λ j n fits le. qed 𝓛 (‵ (word b o (less n)) ∷ ‵ (St n) ∷ ‵ (part 64 t.value_life) ∷ ‵ (part 64 t.share_life) ∷ []) ∵ move ! (1 ∷ []) $ fsplit ! $ move ! (1 ∷ []) $ fpick ! (λ y. by ! (leave_from j n fits le y)))
 
+  -- ---- what a count that was read shows
+  shares_read : (n : ℕ) (y : Bool) → ⟦ shares_out t n y ⟧ ⊢ ⟦ fex Bool (shares_out t n) ⟧ ∗ ⟦ reading_owns t n ⟧
+  shares_read n false = qed 𝓛 (‵ (shares_out t n false) ∷ []) ∵ fsplit ! $ move ! (1 ∷ []) $ use1 𝓛 (‵ (fdead c) ⊛ ‵ (fdead c)) (𝓛.lfts.dead_dup c) $ split ! $ move ! (2 ∷ 1 ∷ []) $ fjoin ! $ fpack ! Bool (shares_out t n) false $
+      move ! (1 ∷ []) $ use1 𝓛 (‵ (reading_owns t n)) (all_i 𝓤 (λ (_ : n ≡ 0). A.dead c) (λ _. id⊢ 𝓤 (A.dead c))) $ move ! (1 ∷ 0 ∷ []) $ done !
+  shares_read n true = qed 𝓛 (‵ (rest 64 t.share_life n) ∷ []) ∵ use1 𝓛 (given (0 < n) (‵ (rest 64 t.share_life n))) (rest_some 64 𝓛 t.share_life n) $ learn ! (λ pos. fpack ! Bool (shares_out t n) true $
+      nothing ! $ use1 𝓛 (‵ (reading_owns t n)) (all_i 𝓤 (λ (_ : n ≡ 0). A.dead c) (λ z. absurd (omega arith))) $ move ! (1 ∷ 0 ∷ []) $ done !)
+
+  count_read : (n : ℕ) → ⟦ St n ⟧ ⊢ ⟦ St n ⟧ ∗ ⟦ reading_owns t n ⟧
+  count_read n = qed 𝓛 (‵ (St n) ∷ []) ∵ fsplit ! $ move ! (1 ∷ []) $ fpick ! (λ y. use1 𝓛 (‵ (fex Bool (shares_out t n)) ⊛ ‵ (reading_owns t n)) (shares_read n y) $ split ! $ move ! (2 ∷ 0 ∷ []) $ fjoin ! $ done !)
+
   -- ---- a look
   module _ (s : Share) where
     abbrev pub Looked : ℕ → Fml
     Looked n = fsep (flft a s) (reading_owns t n)
 
-    look_from : (j n : ℕ) → Within n → (y : Bool) → ⟦ shares_out t n y ⟧ ∗ ⟦ rest 64 t.value_life (n + 1) ⟧ ∗ ⟦ word b o n ⟧ ∗ A.lft a s ⊢ Then j (Looked n)
-    look_from j n le false = qed 𝓛 (‵ (shares_out t n false) ∷ ‵ (rest 64 t.value_life (n + 1)) ∷ ‵ (word b o n) ∷ ‵ (flft a s) ∷ []) ∵ fsplit ! $ move ! (1 ∷ []) $
-        use1 𝓛 (‵ (fdead c) ⊛ ‵ (fdead c)) (𝓛.lfts.dead_dup c) $ split ! $ move ! (2 ∷ 1 ∷ []) $ fjoin ! $ fpack ! Bool (shares_out t n) false $ move ! (2 ∷ 0 ∷ []) $ fjoin ! $ move ! (2 ∷ 0 ∷ []) $
-        use2 𝓛 (‵ I) (stood n le) $ move ! (1 ∷ []) $ use1 𝓛 (‵ (reading_owns t n)) (all_i 𝓤 (λ (_ : n ≡ 0). A.dead c) (λ _. id⊢ 𝓤 (A.dead c))) $ move ! (2 ∷ 0 ∷ []) $ fjoin ! $ move ! (1 ∷ 0 ∷ []) $ by ! (plainly j (Looked n))
-    look_from j n le true = qed 𝓛 (‵ (rest 64 t.share_life n) ∷ ‵ (rest 64 t.value_life (n + 1)) ∷ ‵ (word b o n) ∷ ‵ (flft a s) ∷ []) ∵
-        use1 𝓛 (given (0 < n) (‵ (rest 64 t.share_life n))) (rest_some 64 𝓛 t.share_life n) $ learn ! (λ pos. fpack ! Bool (shares_out t n) true $ move ! (1 ∷ 0 ∷ []) $ fjoin ! $ move ! (1 ∷ 0 ∷ []) $
-        use2 𝓛 (‵ I) (stood n le) $ nothing ! $ use1 𝓛 (‵ (reading_owns t n)) (all_i 𝓤 (λ (_ : n ≡ 0). A.dead c) (λ z. absurd (omega arith))) $ move ! (2 ∷ 0 ∷ []) $ fjoin ! $ move ! (1 ∷ 0 ∷ []) $ by ! (plainly j (Looked n)))
-
     pub looks : A.inv I ∗ A.lft a s ⊢ asks 𝓛 (block_ptr b o) (λ n. n) always Looked
     looks = stepped (λ n. n) Looked (A.lft a s) (qed 𝓛 (‵ (fdead a) ∷ ‵ (flft a s) ∷ []) ∵ move ! (1 ∷ 0 ∷ []) $ by ! (not_dead a s (never 𝓤)))
-        (λ j n fits le. qed 𝓛 (‵ (word b o n) ∷ ‵ (St n) ∷ ‵ (flft a s) ∷ []) ∵ move ! (1 ∷ []) $ fsplit ! $ move ! (1 ∷ []) $ fpick ! (λ y. by ! (look_from j n le y)))
+        (λ j n fits le. qed 𝓛 (‵ (word b o n) ∷ ‵ (St n) ∷ ‵ (flft a s) ∷ []) ∵ move ! (1 ∷ []) $ use1 𝓛 (‵ (St n) ⊛ ‵ (reading_owns t n)) (count_read n) $ split ! $ move ! (2 ∷ 0 ∷ []) $ use2 𝓛 (‵ I) (stood n le) $
+        move ! (2 ∷ 1 ∷ []) $ fjoin ! $ move ! (1 ∷ 0 ∷ []) $ by ! (plainly j (Looked n)))
 
     -- ---- a share more
     module _ (seen : ℕ) (pos : 0 < seen) (room : seen + 2 < 2 ^ 64) (below : seen < t.limit) where
@@ -158,14 +161,15 @@ module _ {M : Type 1} {𝓤 : Ura M} (𝓛 : Logic 𝓤) (b o : ℕ) (t : CellNa
       won n false = fact (n ≢ seen)
 
       abbrev pub Raised : ℕ → Fml
-      Raised n = fsep (flft a s) (fex Bool (won n))
+      Raised n = fsep (flft a s) (fsep (reading_owns t n) (fex Bool (won n)))
 
       raise_from : (j : ℕ) (y : Bool) → ⟦ shares_out t seen y ⟧ ∗ ⟦ rest 64 t.value_life (seen + 1) ⟧ ∗ ⟦ word b o (seen + 1) ⟧ ∗ A.lft a s ⊢ Then j (Raised seen)
       raise_from j false = qed 𝓛 (‵ (shares_out t seen false) ∷ ‵ (rest 64 t.value_life (seen + 1)) ∷ ‵ (word b o (seen + 1)) ∷ ‵ (flft a s) ∷ []) ∵ fsplit ! $ fpick ! (λ z. absurd (omega arith))
       raise_from j true = qed 𝓛 (‵ (rest 64 t.share_life seen) ∷ ‵ (rest 64 t.value_life (seen + 1)) ∷ ‵ (word b o (seen + 1)) ∷ ‵ (flft a s) ∷ []) ∵
           use1 𝓛 (‵ (rest 64 t.share_life (seen + 1)) ⊛ ‵ (part 64 t.share_life)) (takes 64 𝓛 t.share_life seen (omega arith)) $ split ! $ fpack ! Bool (shares_out t (seen + 1)) true $ move ! (2 ∷ []) $
           use1 𝓛 (‵ (rest 64 t.value_life ((seen + 1) + 1)) ⊛ ‵ (part 64 t.value_life)) (takes 64 𝓛 t.value_life (seen + 1) (omega arith)) $ split ! $ move ! (0 ∷ 2 ∷ []) $ fjoin ! $ move ! (3 ∷ 0 ∷ []) $
-          use2 𝓛 (‵ I) (stood (seen + 1) (omega arith)) $ move ! (1 ∷ 2 ∷ []) $ fjoin ! $ nothing ! $ fpack ! (seen ≡ seen) (λ _. ftrue) refl $ fjoin ! $ fpack ! Bool (won seen) true $ move ! (2 ∷ 0 ∷ []) $ fjoin ! $ move ! (1 ∷ 0 ∷ []) $
+          use2 𝓛 (‵ I) (stood (seen + 1) (omega arith)) $ move ! (1 ∷ 2 ∷ []) $ fjoin ! $ nothing ! $ fpack ! (seen ≡ seen) (λ _. ftrue) refl $ fjoin ! $ fpack ! Bool (won seen) true $
+          nothing ! $ use1 𝓛 (‵ (reading_owns t seen)) (all_i 𝓤 (λ (_ : seen ≡ 0). A.dead c) (λ z. absurd (omega arith))) $ fjoin ! $ move ! (2 ∷ 0 ∷ []) $ fjoin ! $ move ! (1 ∷ 0 ∷ []) $
           by ! (plainly j (Raised seen))
 
       pub raises : A.inv I ∗ A.lft a s ⊢ asks 𝓛 (block_ptr b o) more always Raised
@@ -173,8 +177,8 @@ module _ {M : Type 1} {𝓤 : Ura M} (𝓛 : Logic 𝓤) (b o : ℕ) (t : CellNa
           (λ j n fits le. let F : Bool → Type 1 = λ y. ⟦ word b o (either y (seen + 1) n) ⟧ ∗ (⟦ St n ⟧ ∗ A.lft a s) ⊢ Then j (Raised n) in dite (ℕ_discrete n seen)
           (λ e. subst F (sym (eq-eqb n seen e)) (subst (λ (k : ℕ). ⟦ word b o (seen + 1) ⟧ ∗ (⟦ St k ⟧ ∗ A.lft a s) ⊢ Then j (Raised k)) (sym e)
           (qed 𝓛 (‵ (word b o (seen + 1)) ∷ ‵ (St seen) ∷ ‵ (flft a s) ∷ []) ∵ move ! (1 ∷ []) $ fsplit ! $ move ! (1 ∷ []) $ fpick ! (λ y. by ! (raise_from j y)))))
-          (λ miss. subst F (sym (ne_eqb n seen miss)) (qed 𝓛 (‵ (word b o n) ∷ ‵ (St n) ∷ ‵ (flft a s) ∷ []) ∵ use2 𝓛 (‵ I) (stood n le) $ nothing ! $ fpack ! (n ≢ seen) (λ _. ftrue) miss $ fpack ! Bool (won n) false $
-          move ! (2 ∷ 0 ∷ []) $ fjoin ! $ move ! (1 ∷ 0 ∷ []) $ by ! (plainly j (Raised n)))))
+          (λ miss. subst F (sym (ne_eqb n seen miss)) (qed 𝓛 (‵ (word b o n) ∷ ‵ (St n) ∷ ‵ (flft a s) ∷ []) ∵ move ! (1 ∷ []) $ use1 𝓛 (‵ (St n) ⊛ ‵ (reading_owns t n)) (count_read n) $ split ! $ move ! (2 ∷ 0 ∷ []) $ use2 𝓛 (‵ I) (stood n le) $
+          nothing ! $ fpack ! (n ≢ seen) (λ _. ftrue) miss $ fpack ! Bool (won n) false $ move ! (2 ∷ 0 ∷ []) $ fjoin ! $ move ! (2 ∷ 0 ∷ []) $ fjoin ! $ move ! (1 ∷ 0 ∷ []) $ by ! (plainly j (Raised n)))))
 
   -- ---- the owner's end
   abbrev pub over : ℕ → Bool → Fml

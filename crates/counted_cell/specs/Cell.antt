@@ -1,5 +1,5 @@
 -- What contracts see of a cell: through its owner, and through each of its shares.
-use Rattle.std.specs.Prelude.{◌≡◌, ℕ, ◌+◌, ◌-◌, ◌%◌, ◌^◌, List}
+use Rattle.std.specs.Prelude.{ℕ, ◌+◌, ◌-◌, ◌%◌, ◌^◌, List}
 use Rattle.counted_cell.specs.Counting.{CellName}
 use Rattle.counted_cell.specs.Text.{somes}
 use Rattle.counted_cell.specs.declared.label.Label.{Label}

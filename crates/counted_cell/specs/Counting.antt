@@ -1,8 +1,7 @@
--- What the owner and the shares of a cell hold.
+-- The count of a cell's shares: what holds between any two steps on it, and what the owner and each share own.
 -- A cell has two lifetimes. While the first lives its value may be read: the owner and each share has one part in 2 ^ 64 of its token.
 -- While the second lives there is a share: each share has one part in 2 ^ 64 of that token too.
 use Rattle.std.specs.Prelude.{◌≡◌, ◌⊎◌, refl, ℕ, ◌+◌, ◌≤◌, Bool, true, false, cond, ◌==◌, [], ◌∷◌, Option, Some, None}
-use base.Fraction.{full_share}
 use Rattle.std.specs.Coded.{Coded, code_by, coded×, coded_ℕ}
 use base.Fml.{Lft, Fml, ftrue, ffalse, fsep, fex, fall, flft, fdead, finv}
 use prog.Memory.{up, align}

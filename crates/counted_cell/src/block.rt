@@ -4,8 +4,8 @@ ghost use Rattle.std.specs.Mem.{type_size};
 ghost use denote.RawPtr.{Ptr, ◌+ₚ◌};
 ghost use Rattle.counted_cell.specs.Block.{IsWhole, free_right_owns};
 
-use crate::places::{PlacesPtr, Places};
 use crate::placed::Room;
+use crate::places::{Places, PlacesPtr};
 use std::alloc::{AllocError, Allocator};
 use std::marker::{Model, PhantomData};
 use std::mem::size_of;
@@ -54,7 +54,7 @@ pub(crate) fn allocate<B, A: Allocator>(
     }
 }
 
-/// Gives the block back. What the bytes hold is forgotten.
+/// Gives the block back to the allocator. What the bytes hold is forgotten.
 pub(crate) fn deallocate<B, A: Allocator>(
     alloc: &A,
     room: Room<B>,

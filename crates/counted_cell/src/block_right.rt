@@ -3,11 +3,12 @@ ghost use Rattle.std.specs.Prelude.{◌≡◌, ◌≤◌, ℕ};
 ghost use Rattle.counted_cell.specs.Counting.{CellName, cell_name_coded, owner_right, share_right, sole_right};
 ghost use Rattle.counted_cell.specs.BlockRight.{block_right_owns};
 
-use crate::header::Header;
 use crate::cell_ref::CellRef;
+use crate::header::Header;
 use crate::placed::Placed;
 use std::marker::Model;
 
+/// The right to have a cell's block back, once nobody reads it any more. Its drop forgets that.
 #[derive(Drop)]
 pub struct BlockRight<T> {
     pub(crate) ptr: *mut Header<T>,
@@ -19,7 +20,8 @@ impl<T> Model for BlockRight<T> {
     ghost also_owns = { λ d. block_right_owns T.row d.ptr d.value d.name };
 }
 
-/// The owner's right and the first share of a block whose count is 1, of which there may be as many as `limit`.
+/// Makes a cell of a block whose count is 1: the right to have the block back, the owner's reference, and the first share's. From
+/// here on there are at most `limit` shares.
 pub fn begin<T>(whole: Placed<Header<T>>) -> (BlockRight<T>, CellRef<T>, CellRef<T>)
     ghost limit: { ℕ }
     requires { (whole.value.count ≡ 1) × (1 ≤ limit) }
@@ -29,7 +31,7 @@ pub fn begin<T>(whole: Placed<Header<T>>) -> (BlockRight<T>, CellRef<T>, CellRef
     (BlockRight { ptr }, CellRef { ptr }, CellRef { ptr })
 }
 
-/// The block, from the owner's end.
+/// The block, at the owner's end, which has the cell to itself.
 pub fn reclaim<T>(block: BlockRight<T>, sole: CellRef<T>) -> Placed<Header<T>>
     requires { (sole.right ≡ sole_right) × (sole.name ≡ block.name) × (sole.ptr ≡ block.ptr) }
     ensures { (result.ptr ≡ block.ptr) × (result.value.value ≡ block.value) }

@@ -1,4 +1,4 @@
-//! The rights to a cell: the owner's, a share's, and what the owner's end gains.
+//! References to a cell, each with what it may do there, and the steps on its count. Nothing else reads or writes the count.
 ghost use Rattle.std.specs.Prelude.{◌≡◌, ◌≢◌, ℕ, ◌+◌, ◌^◌, ◌<◌};
 ghost use Rattle.counted_cell.specs.Counting.{CellName, cell_name_coded, Right, right_coded, CanRead, no_right, owner_right, share_right, sole_right, ref_owns, ref_shares, reading_owns};
 
@@ -8,8 +8,8 @@ use std::marker::{Brand, Model, PhantomData};
 use std::sync::atomic::Ordering::SeqCst;
 use std::sync::atomic::raw;
 
-/// `right` is 0 for nothing, 1 for the owner, 2 for a share, and 3 for the end, which has the cell to itself.
-/// It can't be dropped: a share's right is spent by `leave` alone, the owner's by `close`, and nothing by `nothing`.
+/// A pointer to a cell, with the right that its holder has there. It can't be dropped, so no right is forgotten: a share's is
+/// spent by `decrement` alone, the owner's by `close`, what `close` gained by `reclaim`, and none at all by `done`.
 pub struct CellRef<T> {
     pub(crate) ptr: *const Header<T>,
     pub ghost value: { T },
@@ -23,7 +23,7 @@ impl<T> Model for CellRef<T> {
     ghost also_shares = { λ h _ κ. ref_shares T.row h.ptr h.value h.name h.right κ };
 }
 
-/// What a look at the count shows. Where it was 0, no share is left and none will ever be.
+/// What a step on the count found there, or left. Where that is 0, no share is left and none will ever be. The steps alone make one.
 #[derive(Drop)]
 pub struct Reading {
     marker: PhantomData<()>,
@@ -36,6 +36,7 @@ impl Model for Reading {
 }
 
 impl<T> CellRef<T> {
+    /// What the cell holds, which never changes.
     pub fn get(&self) -> &T
         requires { CanRead self.now.right }
         ensures { result.now ≡ self.now.value }
@@ -43,6 +44,7 @@ impl<T> CellRef<T> {
         unsafe { &(*self.ptr).value }
     }
 
+    /// The count.
     pub fn load(&self) -> (u64, Reading)
         requires { CanRead self.now.right }
         ensures { (result.1.name ≡ self.now.name) × (result.1.count ≡ result.0) }
@@ -57,20 +59,27 @@ impl<T> CellRef<T> {
         )
     }
 
-    /// One share more, where the count is still `seen`, which is above 0 and below the limit.
-    pub fn increment(&self, seen: u64) -> (u64, CellRef<T>)
-        requires holds { CanRead self.now.right }
+    /// One share more, where the count is still `seen`, which is above 0 and below the limit: one exchange. Returns the count that
+    /// was found, and the right to the share where that is `seen`.
+    pub fn increment(&self, seen: u64) -> (u64, Reading, CellRef<T>)
+        requires reads { CanRead self.now.right }
         requires room { (0 < seen) × (seen < self.now.name.limit) × (seen + 1 < 2 ^ 63) }
-        ensures same { (result.1.value ≡ self.now.value) × (result.1.name ≡ self.now.name) }
-        ensures gained { (result.0 ≡ seen → result.1.right ≡ share_right) × (result.0 ≢ seen → result.1.right ≡ no_right) }
+        ensures found { (result.1.name ≡ self.now.name) × (result.1.count ≡ result.0) × (result.2.value ≡ self.now.value) × (result.2.name ≡ self.now.name) }
+        ensures gained { (result.0 ≡ seen → result.2.right ≡ share_right) × (result.0 ≢ seen → result.2.right ≡ no_right) }
     {
         let ptr = self.ptr;
         let more = seen + 1;
         let found = unsafe { exchange::<Brand>(&raw const (*ptr).count, seen, more) };
-        (found, CellRef { ptr })
+        (
+            found,
+            Reading {
+                marker: PhantomData,
+            },
+            CellRef { ptr },
+        )
     }
 
-    /// One share less. Returns the count as it was, and a sight of what is left.
+    /// One share less: one subtraction. Returns the count that it found, and a reading of what is left.
     pub fn decrement(self) -> (u64, Reading)
         requires { self.right ≡ share_right }
         ensures { (0 < result.0) × (result.1.name ≡ self.name) × (result.1.count + 1 ≡ result.0) }
@@ -85,7 +94,7 @@ impl<T> CellRef<T> {
         )
     }
 
-    /// The end of what gained nothing.
+    /// The end of a reference that gained nothing.
     pub fn done(self)
         requires { self.right ≡ no_right }
     {
@@ -110,7 +119,7 @@ impl<T> CellRef<T> {
     }
 }
 
-/// A look that found 0 and a share of the same cell are never together.
+/// A law: a reading of 0 is never together with a share of the same cell.
 pub fn exclude<T>(reading: Reading, share: &CellRef<T>)
     requires zero { (reading.count ≡ 0) × (reading.name ≡ share.now.name) }
     requires share { share.now.right ≡ share_right }

@@ -5,7 +5,7 @@ ghost use Rattle.counted_cell.specs.Block.{room_owns};
 
 use std::marker::Model;
 
-/// The value at the pointer.
+/// The owner of the value at the pointer. Its drop forgets the value.
 #[derive(Drop)]
 pub struct Placed<B> {
     pub(crate) ptr: *mut B,
@@ -16,7 +16,7 @@ impl<B> Model for Placed<B> {
     ghost also_owns = { λ l. placed_owns B.row l.ptr l.value };
 }
 
-/// Room for a value at the pointer.
+/// The owner of room for a value at the pointer. Its drop forgets the room.
 #[derive(Drop)]
 pub struct Room<B> {
     pub(crate) ptr: *mut B,
@@ -26,6 +26,7 @@ impl<B> Model for Room<B> {
     ghost also_owns = { λ r. room_owns B.row r.ptr };
 }
 
+/// Moves the value into the room.
 pub(crate) fn fill<B>(room: Room<B>, value: B) -> Placed<B>
     ensures { (result.ptr ≡ room.ptr) × (result.value ≡ value) }
 {
@@ -34,10 +35,11 @@ pub(crate) fn fill<B>(room: Room<B>, value: B) -> Placed<B>
     Placed { ptr }
 }
 
-pub(crate) fn take<B>(loose: Placed<B>) -> (Room<B>, B)
-    ensures { (result.0.ptr ≡ loose.ptr) × (result.1 ≡ loose.value) }
+/// Moves the value out of its place, which is room then.
+pub(crate) fn take<B>(placed: Placed<B>) -> (Room<B>, B)
+    ensures { (result.0.ptr ≡ placed.ptr) × (result.1 ≡ placed.value) }
 {
-    let Placed { ptr } = loose;
+    let Placed { ptr } = placed;
     let value = unsafe { ptr.read() };
     (Room { ptr }, value)
 }

@@ -7,7 +7,7 @@ use std::alloc::AllocError;
 use std::marker::{Model, PhantomData};
 use std::slice;
 
-/// Where the row begins. It owns nothing.
+/// Where a row begins. It owns nothing.
 pub struct PlacesPtr<T> {
     pub(crate) ptr: *mut T,
 }
@@ -47,6 +47,7 @@ unsafe impl<T: Send> Send for Places<T> {}
 unsafe impl<T: Sync> Sync for Places<T> {}
 
 impl<T> Places<T> {
+    /// Fills an empty place.
     pub(crate) fn write(&mut self, start: PlacesPtr<T>, index: usize, item: T)
         requires { (start.ptr ≡ self.old.at) × (index < length self.old.slots) × (get_or self.old.slots index None ≡ None) }
         ensures { (self.new.at ≡ self.old.at) × (self.new.slots ≡ slice_set self.old.slots index (Some item)) }

@@ -22,26 +22,28 @@ pub enum Reply {
 impl Reply {
     ghost use Rattle.counted_cell.specs.Reply.{IsReply};
 
-    /// One share more of the cell. It tries again where another came between.
+    /// One share more of the cell. Where another step came between, it tries again from the count that it found.
     pub(crate) fn one_more<R: Wait>(rt: &R, cell: &CellRef<Content>) -> Reply
         requires reads { CanRead cell.now.right }
         requires limit { (cell.now.value.label.limit ≡ cell.now.name.limit) × (cell.now.name.limit < 2 ^ 63) }
         ensures { IsReply (cell_of cell.now) result }
     {
         let limit = cell.get().label.limit;
+        let (mut seen, mut reading) = cell.load();
         for _ in rt.forever() {
-            let (seen, reading) = cell.load();
             if seen == 0 {
                 return Reply::Dying(NoShares { reading });
             }
             if seen >= limit {
                 return Reply::Full(AtLimit { reading });
             }
-            let (found, more) = cell.increment(seen);
+            let (found, next, more) = cell.increment(seen);
             if found == seen {
                 return Reply::Added(Share::of_ref(more));
             }
             more.done();
+            seen = found;
+            reading = next;
         }
         unreachable!()
     }

@@ -1,29 +1,78 @@
-//! What no clause says: that a cell is made and an addition below the limit succeeds, that `dying` answers at once, that the
-//! block of a cell is really freed, and what threads do to one count.
+//! What no clause says: that a cell is made, that an addition below the limit succeeds, that `dying` answers as soon as the count
+//! is 0, that a block is really freed, and what threads do to one count.
+ghost use Rattle.std.specs.Prelude.{◌≤◌, ◌<◌, ◌^◌};
+
 use crate::{AtLimit, Ending, Label, Owner, Reply, Share};
+use linked_list_allocator::LocalHeap;
 use std::alloc::{AllocError, Allocator, Global};
 use std::process::Abort;
+use std::sync::Wait;
+use std::test::Fail;
 use std::thread;
 
-const TEXTS: [&str; 5] = [
-    "",
-    "a",
-    "interned",
-    "tokenised ü",
-    "a longer text, which takes more than one word of eight letters",
-];
+/// A share that is given back at its drop.
+struct Held {
+    share: Share,
+}
 
-const fn label(limit: u64) -> Label {
-    Label {
-        hash: 8,
-        ticket: 7,
-        limit,
+impl Drop for Held {
+    fn drop(self) {
+        let _ = self.gives_last();
     }
 }
 
-/// Gives the share back. Whether it was the last.
-fn gives_last(share: Share) -> bool {
-    share.give().last().is_some()
+impl Held {
+    /// Gives the share back. Whether it was the last.
+    fn gives_last(self) -> bool {
+        let Self { share } = self;
+        share.give().last().is_some()
+    }
+}
+
+/// A reply whose share is given back at its drop.
+#[derive(Drop)]
+enum Answer {
+    Added(Held),
+    Dying,
+    Full,
+}
+
+fn reply_answer(reply: Reply) -> Answer {
+    match reply {
+        Reply::Added(share) => Answer::Added(Held { share }),
+        Reply::Dying(_) => Answer::Dying,
+        Reply::Full(_) => Answer::Full,
+    }
+}
+
+fn share_answer(reply: Result<Share, AtLimit>) -> Answer {
+    match reply {
+        Ok(share) => Answer::Added(Held { share }),
+        Err(_) => Answer::Full,
+    }
+}
+
+impl Answer {
+    /// The share that was added.
+    fn share(self, rt: &impl Abort) -> Held {
+        match self {
+            Answer::Added(share) => share,
+            Answer::Dying | Answer::Full => panic!(rt; "nothing was added"),
+        }
+    }
+}
+
+/// A cell, whose first share is given back at its drop.
+fn make<A: Allocator>(alloc: A, limit: u64, text: &str) -> Result<(Owner<A>, Held), AllocError>
+    requires { (1 ≤ limit) × (limit < 2 ^ 63) }
+{
+    let label = Label {
+        hash: 8,
+        ticket: 7,
+        limit,
+    };
+    let (owner, share) = Owner::new(alloc, label, text)?;
+    Ok((owner, Held { share }))
 }
 
 /// Whether the end freed the cell.
@@ -31,27 +80,132 @@ fn frees<A: Allocator>(owner: Owner<A>) -> bool {
     matches!(owner.finish(), Ending::Freed(_))
 }
 
-/// The share that was added.
-fn added(rt: &impl Abort, reply: Reply) -> Share {
-    match reply {
-        Reply::Added(share) => share,
-        Reply::Dying(_) | Reply::Full(_) => panic!(rt; "nothing was added"),
-    }
+/// Makes a cell of the text, reads it through its owner and both of its shares, and ends it.
+fn one_life<R: Wait + Abort>(rt: &R, alloc: Global, text: &str) -> Result<(), AllocError> {
+    let (owner, first) = make(alloc, 2, text)?;
+    let second = reply_answer(owner.add(rt)).share(rt);
+    assert!(rt; owner.text() == text && first.share.text() == text && second.share.text() == text);
+    assert!(rt; owner.label().hash == 8 && first.share.label().ticket == 7);
+    assert!(rt; second.share.label().limit == 2);
+    assert!(rt; !first.gives_last());
+    assert!(rt; second.share.text() == text);
+    assert!(rt; second.gives_last());
+    assert!(rt; frees(owner));
+    Ok(())
 }
 
 #[test]
-fn a_cell_keeps_its_text_and_its_label(rt: HostRuntime) -> Result<(), AllocError> {
-    for text in TEXTS {
-        let (owner, share) = Owner::new(rt.alloc(), label(2), text)?;
-        assert!(rt; owner.text() == text && share.text() == text);
-        for label in [owner.label(), share.label()] {
-            assert!(rt; label.hash == 8 && label.ticket == 7 && label.limit == 2);
+fn a_cell_keeps_its_text(rt: HostRuntime) -> Result<(), Fail> {
+    let alloc = rt.alloc();
+    one_life(&rt, alloc, "")?;
+    one_life(&rt, alloc, "a")?;
+    one_life(&rt, alloc, "interned")?;
+    one_life(&rt, alloc, "tokenised ü")?;
+    one_life(&rt, alloc, "a longer text, which takes more than one word")?;
+    Ok(())
+}
+
+/// The replies from the first share to the last one, at a limit of 2.
+#[test]
+fn replies(rt: HostRuntime) -> Result<(), Fail> {
+    let (owner, first) = make(rt.alloc(), 2, "interned")?;
+    assert!(rt; owner.dying().is_none());
+    let second = share_answer(first.share.add(&rt)).share(&rt);
+    assert!(rt; matches!(reply_answer(owner.add(&rt)), Answer::Full));
+    assert!(rt; matches!(share_answer(first.share.add(&rt)), Answer::Full));
+    assert!(rt; !first.gives_last());
+    let third = reply_answer(owner.add(&rt)).share(&rt);
+    assert!(rt; !second.gives_last());
+    assert!(rt; owner.dying().is_none());
+    assert!(rt; third.gives_last());
+    assert!(rt; owner.dying().is_some());
+    assert!(rt; matches!(reply_answer(owner.add(&rt)), Answer::Dying));
+    assert!(rt; owner.dying().is_some());
+    assert!(rt; frees(owner));
+    Ok(())
+}
+
+/// Adds a share and gives it back, again and again. How many were refused.
+fn clone_and_give<R: Wait>(rt: &R, share: &Share) -> u64 {
+    let mut refused = 0u64;
+    for _ in 0..30_000 {
+        if let Answer::Full = share_answer(share.add(rt)) {
+            refused = refused.wrapping_add(1);
         }
-        let more = added(&rt, owner.add(&rt));
-        assert!(rt; !gives_last(share));
-        assert!(rt; more.text() == text && more.label().ticket == 7);
-        assert!(rt; gives_last(more));
-        assert!(rt; frees(owner));
     }
+    refused
+}
+
+/// No share is lost or left over, and none is refused, though two threads change one count.
+#[test]
+fn one_count_in_two_threads(rt: HostRuntime) -> Result<(), Fail> {
+    let (owner, first) = make(rt.alloc(), 3, "interned")?;
+    let (lent, handle) = (&first.share, &rt);
+    let refused = thread::join(
+        &rt,
+        || clone_and_give(handle, lent),
+        || clone_and_give(handle, lent),
+    );
+    assert!(rt; refused == (0, 0));
+    let second = share_answer(first.share.add(&rt)).share(&rt);
+    let third = reply_answer(owner.add(&rt)).share(&rt);
+    assert!(rt; matches!(reply_answer(owner.add(&rt)), Answer::Full));
+    assert!(rt; !first.gives_last());
+    assert!(rt; !third.gives_last());
+    assert!(rt; second.gives_last());
+    assert!(rt; frees(owner));
+    Ok(())
+}
+
+/// Of two threads that each give a share back, exactly one gave the last.
+#[test]
+fn one_of_two_is_the_last(rt: HostRuntime) -> Result<(), Fail> {
+    let (owner, first) = make(rt.alloc(), 2, "interned")?;
+    let second = share_answer(first.share.add(&rt)).share(&rt);
+    let last = thread::join(&rt, || first.gives_last(), || second.gives_last());
+    assert!(rt; last.0 != last.1);
+    assert!(rt; frees(owner));
+    Ok(())
+}
+
+/// How many bytes of the heap are taken once a cell has ended at its owner's `finish`, or at its drop.
+fn left_by_an_end(heap: &LocalHeap, by_drop: bool) -> Result<usize, AllocError> {
+    let (owner, share) = make(heap, 1, "interned")?;
+    drop(share);
+    if by_drop {
+        drop(owner);
+    } else {
+        let _ = owner.finish();
+    }
+    Ok(heap.used())
+}
+
+/// A cell is one block, which is given back at the end of the owner where no share is left, and never where one is.
+#[test]
+fn the_end_frees_what_is_not_held(rt: HostRuntime) -> Result<(), Fail> {
+    let heap = LocalHeap::new(rt.alloc(), 4096)?;
+    assert!(rt; left_by_an_end(&heap, false)? == 0);
+    assert!(rt; left_by_an_end(&heap, true)? == 0);
+    let (owner, share) = make(&heap, 1, "left behind")?;
+    let block = heap.used();
+    assert!(rt; block == 64);
+    assert!(rt; matches!(owner.finish(), Ending::Left(_)));
+    assert!(rt; share.share.text() == "left behind" && heap.used() == block);
+    assert!(rt; share.gives_last());
+    assert!(rt; heap.used() == block);
+    Ok(())
+}
+
+/// A heap without room refuses a cell and loses nothing.
+#[test]
+fn without_memory_nothing_is_made(rt: HostRuntime) -> Result<(), Fail> {
+    let heap = LocalHeap::new(rt.alloc(), 128)?;
+    let (owner, share) = make(&heap, 1, "interned")?;
+    let used = heap.used();
+    let long = "a text that finds no room in this heap, since it is longer than what is left of it";
+    assert!(rt; make(&heap, 1, long).is_err());
+    assert!(rt; heap.used() == used);
+    assert!(rt; share.gives_last());
+    assert!(rt; frees(owner));
     Ok(())
 }

@@ -3,7 +3,7 @@ ghost use Rattle.std.specs.Prelude.{◌≡◌, length, map, replicate, None, Som
 ghost use Rattle.counted_cell.specs.Text.{somes};
 ghost use Rattle.std.proofs.Props.{props};
 
-use crate::places::{PlacesPtr, Places};
+use crate::places::{Places, PlacesPtr};
 
 /// The text, where its bytes lie, and their owner. Its drop gives nothing back: the block's end does.
 #[derive(Drop)]
@@ -36,6 +36,7 @@ impl Text {
         }
     }
 
+    /// The text, as it lies in the block. Nothing is copied or checked.
     pub(crate) fn as_str(&self) -> &str
         ensures { result.now ≡ somes self.now.places.slots }
     {

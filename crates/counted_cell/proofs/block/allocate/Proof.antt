@@ -16,7 +16,7 @@ use types.Logic.{Logic}
 use contract.Monad.{fact}
 use contract.Running.{tables, tables_of}
 use sound.WpLaws.{WpFn-mono}
-use types.Kit.{Item, ⋆, ‵, raw, ◌⊛◌, later, await, at_ret, ◌$◌, ◌∵◌, !, qed, by, move, keep, use0, use1, use2, use3, split, join, fsplit, fsplit3, fjoin, feq_l, suffices, frame, done}
+use types.Kit.{Item, ⋆, ‵, raw, ◌⊛◌, later, await, at_ret, ◌$◌, ◌∵◌, !, qed, by, move, keep, use0, use1, use2, split, join, fsplit, fsplit3, fjoin, feq_l, suffices, frame, done}
 use types.Part.{whole, agg}
 use types.Run.{stop, fld, lit, of_opd, and_then, no_more, first, exec, returns, enter}
 use types.ByLocal.{alloc_all, pass_all, free_all, look_at, get, get_in, sets, sets_last, is, env}
@@ -36,21 +36,18 @@ use denote.Triple.Spec.{Meets, triple_of}
 use denote.Triple.Table.{entered}
 use denote.Triple.Walked.{says, needs, Stays, stay_dropped, walk_of, ends_at, Goes-dropped, walk_Meets}
 use Rattle.std_alloc.proofs.VecSteps.Shapes.{after}
-use Rattle.std_alloc.proofs.RcSteps.{Good, word, word-Good}
+use Rattle.std_alloc.proofs.RcSteps.{Good, word}
 use lib.ListN.{length}
 use types.Kit.{flt_l, flt_i}
 use types.Run.{bin}
 use denote.Builtin.{usize}
 use Rattle.std.specs.Prelude.{None}
-use Rattle.core.proofs.mem.Param.{El, R, elτ}
-use Rattle.std_alloc.proofs.RawLayout.{as_written}
+use Rattle.core.proofs.mem.Param.{El, R}
 use Rattle.counted_cell.specs.Places.{slots}
 use Rattle.counted_cell.proofs.PlacesSteps.{Mark, mark, mark_made, word_made}
 use base.Fml.{Incl-trans}
 use lib.ListN.{replicate, length-replicate}
-use mir.Syntax.{ty_array}
-use prog.Memory.{Memory, align, capped}
-use prog.Capped.{capped_fits}
+use prog.Memory.{Memory}
 use prog.Routine.{Routine}
 use prog.Wp.{Wp, after_seq, at_return}
 use contract.Monad.{Fun}
@@ -58,7 +55,7 @@ use contract.BorrowLft.{◌⊑◌}
 use sound.WpLaws.{FmC, fm_of}
 use types.Kit.{Post as After, any_q}
 use types.Match.{live, vrt, in_variant}
-use types.Run.{size_word, align_word, switches_on}
+use types.Run.{switches_on}
 use types.ByLocal.{get_tag, lands_as}
 use denote.Laws.{Is}
 use denote.Steps.{owned}
@@ -67,11 +64,10 @@ use denote.Struct.Declared as Declared
 use denote.Triple.Statement.{Triple}
 use denote.Triple.Call.{calls_at}
 use Rattle.std.specs.Prelude.{IfOk, Ok, Err}
-use Rattle.std.specs.Vec.Ownership.{FitsInBlock}
 use Rattle.core.specs.contracts.result.Result as RS
 use Rattle.core.specs.contracts.alloc.AllocError as AE
 use Rattle.core.proofs.alloc.Calls.{Al, second, Answer-typed, takes_key, Takes, at_takes, Answered, Takes-goes, Takes-gives, answers}
-use Rattle.core.proofs.slots.Leases.{uncapped, block_ty, block_size, block_align, args, P}
+use Rattle.core.proofs.slots.Leases.{args, P}
 use Rattle.std_alloc.proofs.VecSteps.Shapes.{head, arm_body}
 use Rattle.std_alloc.proofs.ResultValues.{ok_of, err_of}
 use Rattle.std_alloc.proofs.RcSteps.{first_Good}
@@ -85,8 +81,8 @@ use Rattle.std.specs.Mem.{type_size}
 use denote.Builtin.{u8}
 use Prim.Native.Nat.{◌+◌}
 use types.Run.{blocks, size_lit}
-use types.Kit.{group, drop}
-use denote.RawPtr.{InBlock, ◌+ₚ◌}
+use types.Kit.{group}
+use denote.RawPtr.{◌+ₚ◌}
 use Rattle.counted_cell.specs.contracts.block.allocate as F
 use Rattle.counted_cell.specs.contracts.block.allocate.Key.{name as #self}
 use Rattle.counted_cell.proofs.block.allocate.Statement as stated
@@ -166,9 +162,9 @@ module _ (E : El) (Z : Al) {M : Type 1} {𝓤 : Ura M} (𝓛 : Logic 𝓤) (at_m
       answers Z ! at_mem run a τ v
       (λ b o e.
       let p : Ptr = block_ptr b o in let p' : Ptr = block_ptr b (o + far) in
-      let room : (Rm E Z).Denot = record { ptr = p } in let base : (Bs E Z).Denot = record { ptr = p' } in
-      let cells : (Cs E Z).Denot = record { mark = record {}; at = p'; slots = replicate len None } in
-      let lease : (Ls E Z).Denot = record { mark = record {}; at = p; len = len; alloc = a } in
+      let room : (Rm E Z).Denot = record { ptr = p } in let start : (Bs E Z).Denot = record { ptr = p' } in
+      let row : (Cs E Z).Denot = record { mark = record {}; at = p'; slots = replicate len None } in
+      let right : (Ls E Z).Denot = record { mark = record {}; at = p; len = len; alloc = a } in
       let made : Val = four_val (word p) (word p') mark mark in
       let typed : Good (layout (Four E Z)) made = (tt, ((tt, tt), ((tt, tt), ((tt, tt), ((tt, tt), tt))))) in
       let ok = first_Good (layout (Four E Z)) made typed in
@@ -185,13 +181,13 @@ module _ (E : El) (Z : Al) {M : Type 1} {𝓤 : Ura M} (𝓛 : Logic 𝓤) (at_m
       exec ! C Λ En (after 5 (function E Z).body) (at_ret En Post) $ sets ! (of_opd ! (get ! refl)) refl ok $
       use1 𝓛 (‵ (rooms (R E) len b o) ⊛ ‵ (way_back (R E) len b o)) (cuts (R E) 𝓛 len b o) $ split ! $ move ! (1 ∷ 2 ∷ []) $ fjoin ! $
       use0 𝓛 (‵ ((Mark E).own_val (tt, tt) (mark ∷ []))) (mark_made E 𝓛) $ fjoin ! $ move ! (1 ∷ []) $ fsplit3 ! $ move ! (1 ∷ []) $
-      -- [room for the bytes; room for the header; nothing; the lease; the tokens]
-      use1 𝓛 (‵ (slots u8 b (o + far) cells.slots)) (blank 𝓛 b len (o + far)) $
-      flt_i ! (length cells.slots * 1) (2 ^ 63) (subst (λ k. k * 1 < 2 ^ 63) (sym (length-replicate len None)) (omega (arith, short_of))) $ fjoin ! $
+      -- [room for the bytes; room for the header; nothing; the right; the tokens]
+      use1 𝓛 (‵ (slots u8 b (o + far) row.slots)) (blank 𝓛 b len (o + far)) $
+      flt_i ! (length row.slots * 1) (2 ^ 63) (subst (λ k. k * 1 < 2 ^ 63) (sym (length-replicate len None)) (omega (arith, short_of))) $ fjoin ! $
       use0 𝓛 (‵ ((Mark E).own_val (tt, tt) (mark ∷ []))) (mark_made E 𝓛) $ fjoin ! $ word_made ! p' $ move ! (2 ∷ []) $ word_made ! p $ fjoin ! $ move ! (0 ∷ 1 ∷ 2 ∷ 4 ∷ []) $ group ! 4 $
-      use1 𝓛 (‵ ((Four E Z).own_val (room, base, cells, lease) (made ∷ []))) (four_of 𝓛 (Rm E Z) (Bs E Z) (Cs E Z) (Ls E Z) room base cells lease (word p) (word p') mark mark) $
-      use1 𝓛 (‵ ((Out E Z).own_val (Ok (room, base, cells, lease)) (live 0 (vcons made vnil) ∷ []))) (ok_of 𝓛 (Four E Z) AE.the_row (room, base, cells, lease) made) $
-      returns ! (look_at ! 0 refl) $ free_all ! refl $ keep ! (0 ∷ 2 ∷ 3 ∷ []) $ by ! (exits (Ok (room, base, cells, lease)) (live 0 (vcons made vnil)) (refl, refl, refl, refl, refl, refl)))
+      use1 𝓛 (‵ ((Four E Z).own_val (room, start, row, right) (made ∷ []))) (four_of 𝓛 (Rm E Z) (Bs E Z) (Cs E Z) (Ls E Z) room start row right (word p) (word p') mark mark) $
+      use1 𝓛 (‵ ((Out E Z).own_val (Ok (room, start, row, right)) (live 0 (vcons made vnil) ∷ []))) (ok_of 𝓛 (Four E Z) AE.the_row (room, start, row, right) made) $
+      returns ! (look_at ! 0 refl) $ free_all ! refl $ keep ! (0 ∷ 2 ∷ 3 ∷ []) $ by ! (exits (Ok (room, start, row, right)) (live 0 (vcons made vnil)) (refl, refl, refl, refl, refl, refl)))
       (λ e.
       let Refusal : RattleType = Struct (Declared.shape AE.the_type) in
       let none : Val = live 1 (vcons (vstruct vnil) vnil) in

@@ -1,7 +1,6 @@
 -- `deallocate` puts the block together, and hands it back with the allocator's token. Assumes `Logic`.
 use mathlib.Core.Path.{◌≡◌, refl, sym, ap, subst, ◌∙◌}
-use Prim.Native.Nat.{ℕ, ◌*◌, ◌<◌, ◌^◌}
-use native.Mathlib.Omega.{arith}
+use Prim.Native.Nat.{ℕ, ◌<◌, ◌^◌}
 use mathlib.Core.List.{List, [], ◌∷◌, ◌++◌}
 use seplogic.Ra.Ura.{Ura}
 use mir.Syntax.{Fn, named, w64}
@@ -35,30 +34,24 @@ use Rattle.core.proofs.alloc.Calls.{Goes-blank}
 use Rattle.std_alloc.proofs.VecSteps.Shapes.{after}
 use Rattle.std_alloc.proofs.RcSteps.{word, word-Good}
 use types.Kit.{flt_l}
-use types.Run.{bin}
 use denote.Builtin.{usize}
-use Rattle.std.specs.Prelude.{None}
-use Rattle.core.proofs.mem.Param.{El, R, elτ}
-use Rattle.std_alloc.proofs.RawLayout.{as_raw}
-use Rattle.counted_cell.specs.Places.{slots, places_own}
+use Rattle.core.proofs.mem.Param.{El, R}
+use Rattle.counted_cell.specs.Places.{places_own}
 use Rattle.counted_cell.proofs.PlacesSteps.{mark, mark_had, word_had}
 use base.Fml.{Incl-trans}
 use lib.Dec.{T}
-use lib.ListN.{replicate, length-replicate}
 use mir.Syntax.{ty_unit, ty_array}
 use mir.Val.{has_ty, WT}
-use prog.Memory.{Memory, align, capped}
-use prog.Capped.{capped_fits}
+use prog.Memory.{Memory}
 use prog.Routine.{Routine}
 use contract.Monad.{Fun}
 use contract.BorrowLft.{◌⊑◌}
 use sound.WpLaws.{FmC, fm_of}
-use types.Run.{size_word, align_word}
 use types.ByLocal.{lands_last}
 use denote.Triple.Statement.{Triple}
 use denote.Triple.Call.{calls_at_last}
 use Rattle.core.proofs.alloc.Calls.{Al, second, token, gives_key, Gives, at_gives, Gives-goes, Gives-Gives}
-use Rattle.core.proofs.slots.Leases.{uncapped, block_ty, block_size, block_align, args, P}
+use Rattle.core.proofs.slots.Leases.{args, P}
 use Rattle.counted_cell.specs.Block.{whole_type, rooms, IsWhole, room_owns, free_right_owns}
 use Rattle.counted_cell.proofs.Blocks.{swept}
 use Rattle.counted_cell.specs.contracts.block.FreeRight as L-type
@@ -71,7 +64,7 @@ use base.Logic.{apply∗}
 use types.Kit.{use2, drop}
 use types.Logic.{sem}
 use Prim.Native.Nat.{◌+◌}
-use denote.RawPtr.{block_ptr, ◌+ₚ◌}
+use denote.RawPtr.{◌+ₚ◌}
 use lib.ListN.{length}
 use Rattle.counted_cell.specs.contracts.block.deallocate as F
 use Rattle.counted_cell.specs.contracts.block.deallocate.Key.{name as #self}
@@ -101,10 +94,10 @@ module _ (E : El) (Z : Al) where
   stayed = (stay_dropped (RefOf (0 ∷ []) tt (plain (λ _. P E Z)) (λ _. tt)) yes, (stay_dropped (plain (λ _. Rm)) no, (stay_dropped (plain (λ _. Cs)) yes, (stay_dropped (plain (λ _. Ls)) no, (stay_dropped (plain (λ _. usize)) yes, (stay_dropped (plain (λ _. usize)) yes, tt))))))
 
   abbrev Asks : Z.row.Denot → Rm.Denot → Cs.Denot → Ls.Denot → ℕ → ℕ → Type 0
-  Asks a room cells lease s al = (lease.at ≡ room.ptr) × (lease.alloc ≡ a) × IsWhole (R E) lease.len s al × (cells.at ≡ room.ptr +ₚ type_size (R E)) × (length cells.slots ≡ lease.len)
+  Asks a room row right s al = (right.at ≡ room.ptr) × (right.alloc ≡ a) × IsWhole (R E) right.len s al × (row.at ≡ room.ptr +ₚ type_size (R E)) × (length row.slots ≡ right.len)
 
 module _ (E : El) (Z : Al) {M : Type 1} {𝓤 : Ura M} (𝓛 : Logic 𝓤) (at_mem : Memory → SProp 𝓤) (run : Routine → Fun 𝓤) (C : Calls 𝓤 𝓛.H) (Λ : Loops 𝓤 𝓛.H) (fm : FmC 𝓤 𝓛.H 𝓛.laws C)
-    (callee : Triple 𝓤 (C (gives_key Z)) (Gives Z 𝓛 at_mem run)) (κ κ₁ κ₂ : Lft) (q q₁ q₂ : Share) (short : κ ⊑ κ₂) (within : κ₂ ⊑ Z.row.lives) (rb ro : ℕ) (a : Z.row.Denot) (room : (Rm E Z).Denot) (cells : (Cs E Z).Denot) (lease : (Ls E Z).Denot) (s al : ℕ) (us0 us1 us2 us3 us4 us5 : List Val) where
+    (callee : Triple 𝓤 (C (gives_key Z)) (Gives Z 𝓛 at_mem run)) (κ κ₁ κ₂ : Lft) (q q₁ q₂ : Share) (short : κ ⊑ κ₂) (within : κ₂ ⊑ Z.row.lives) (rb ro : ℕ) (a : Z.row.Denot) (room : (Rm E Z).Denot) (row : (Cs E Z).Denot) (right : (Ls E Z).Denot) (s al : ℕ) (us0 us1 us2 us3 us4 us5 : List Val) where
   open 𝓛 use {H, A}
 
   abbrev self : Bor Z.row.Denot
@@ -114,7 +107,7 @@ module _ (E : El) (Z : Al) {M : Type 1} {𝓤 : Ura M} (𝓛 : Logic 𝓤) (at_m
   others = ‵ (flft κ₁ q₁) ⊛ ‵ (flft κ₂ q₂) ⊛ ‵ ftrue
 
   abbrev bound : (walk_of 𝓛 (ended E Z) (stayed E Z) (clauses E Z 𝓛 at_mem run)).Ghost
-  bound = (((κ, (κ₁, (κ₂, tt))), (q, (q₁, (q₂, tt))), (short, tt), (self, (room, (cells, (lease, (s, (al, tt)))))), (us0, (us1, (us2, (us3, (us4, (us5, tt))))))), tt)
+  bound = (((κ, (κ₁, (κ₂, tt))), (q, (q₁, (q₂, tt))), (short, tt), (self, (room, (row, (right, (s, (al, tt)))))), (us0, (us1, (us2, (us3, (us4, (us5, tt))))))), tt)
 
   abbrev Post : Val → SProp 𝓤
   Post = (walk_of 𝓛 (ended E Z) (stayed E Z) (clauses E Z 𝓛 at_mem run)).post bound
@@ -127,20 +120,20 @@ module _ (E : El) (Z : Al) {M : Type 1} {𝓤 : Ura M} (𝓛 : Logic 𝓤) (at_m
       move ! (1 ∷ 0 ∷ []) $ join ! $ nothing ! $ move ! (1 ∷ 0 ∷ []) $ done !
 
   abbrev Had : List (Item 𝓤)
-  Had = ‵ (room_owns (R E) room.ptr) ∷ ‵ (places_own u8 cells.at cells.slots) ∷ ‵ (free_right_owns (R E) (token Z lease.alloc) lease.at lease.len) ∷ ‵ (hidden_shr (P E Z) κ a rb ro) ∷ ‵ (flft κ q) ∷ others ∷ []
+  Had = ‵ (room_owns (R E) room.ptr) ∷ ‵ (places_own u8 row.at row.slots) ∷ ‵ (free_right_owns (R E) (token Z right.alloc) right.at right.len) ∷ ‵ (hidden_shr (P E Z) κ a rb ro) ∷ ‵ (flft κ q) ∷ others ∷ []
 
-  walk : Asks E Z a room cells lease s al → s < 2 ^ 64 → al < 2 ^ 64 → ent 𝓤 (⋆ 𝓛 Had) (WpFn 𝓤 H C Λ (function E Z) (vptr rb ro ∷ word room.ptr ∷ mark ∷ mark ∷ vint w64 s ∷ vint w64 al ∷ []) Post)
+  walk : Asks E Z a room row right s al → s < 2 ^ 64 → al < 2 ^ 64 → ent 𝓤 (⋆ 𝓛 Had) (WpFn 𝓤 H C Λ (function E Z) (vptr rb ro ∷ word room.ptr ∷ mark ∷ mark ∷ vint w64 s ∷ vint w64 al ∷ []) Post)
   walk asked fits fits' =
       qed 𝓛 Had ∵ enter ! C Λ (function E Z) (vptr rb ro ∷ word room.ptr ∷ mark ∷ mark ∷ vint w64 s ∷ vint w64 al ∷ []) _ $
       alloc_all ! (λ l. pass_all ! refl ((tt, tt), (word-Good [] room.ptr, ((tt, (tt, tt)), ((tt, (tt, tt)), ((tt, record { fits = fits }), ((tt, record { fits = fits' }), tt)))))) $
-      let En : Env 𝓤 H = env (function E Z).locals l in let n : ℕ = lease.len in let τ = whole_type (R E) n in let far : ℕ = type_size (R E) in
+      let En : Env 𝓤 H = env (function E Z).locals l in let n : ℕ = right.len in let τ = whole_type (R E) n in let far : ℕ = type_size (R E) in
       in_a_block ! room.ptr (λ p. room_owns (R E) p) (id⊢ 𝓤 (never 𝓤)) (λ b o e.
       let y : (Gives Z 𝓛 at_mem run).Ghost = at_gives Z 𝓛 at_mem run κ q (rb, ro) a b o s al τ in
       rewrite ! 2 (λ (d : Z.row.Denot × Ptr). ‵ (free_right_owns (R E) (token Z d.0) d.1 n)) (λ i. (asked.1 i, (asked.0 ∙ e) i)) refl $
-      rewrite ! 1 (λ (p : Ptr). ‵ (places_own u8 p cells.slots)) (asked.3 ∙ ap (λ (p : Ptr). p +ₚ far) e) refl $
-      move ! (1 ∷ []) $ fsplit ! $ drop ! $ use1 𝓛 (‵ (froom (ty_array (ty_int w8) (length cells.slots)) b (o + far))) (swept 𝓛 b cells.slots (o + far)) $
+      rewrite ! 1 (λ (p : Ptr). ‵ (places_own u8 p row.slots)) (asked.3 ∙ ap (λ (p : Ptr). p +ₚ far) e) refl $
+      move ! (1 ∷ []) $ fsplit ! $ drop ! $ use1 𝓛 (‵ (froom (ty_array (ty_int w8) (length row.slots)) b (o + far))) (swept 𝓛 b row.slots (o + far)) $
       rewrite ! 0 (λ (k : ℕ). ‵ (froom (ty_array (ty_int w8) k) b (o + far))) asked.4 refl $ nothing ! $ move ! (1 ∷ 0 ∷ []) $ fjoin ! $ move ! (1 ∷ 0 ∷ []) $ fjoin ! $
-      -- [the rooms; the lease; the handle; its token; the other tokens]
+      -- [the rooms; the right; the handle; its token; the other tokens]
       move ! (1 ∷ []) $ fsplit ! $ move ! (2 ∷ 0 ∷ []) $ use2 𝓛 (‵ (froom τ b o)) (apply∗ 𝓤 (sem 𝓛 (rooms (R E) n b o)) (H.room τ b o)) $
       sets ! (is ! (of_opd ! (get_in ! (fld ! refl (stop !)) (sub ! 0 refl (whole !)))) (ap ptr_val e)) refl (tt, tt) $ first ! $ blocks ! $ sets ! (of_opd ! (get ! refl)) refl (tt, tt) $
       group ! 4 $ use1 𝓛 (raw ((Gives Z 𝓛 at_mem run).pre y)) (Gives-goes Z 𝓛 at_mem run κ q (rb, ro) a (Incl-trans short within) b o s al τ asked.2.0 asked.2.1 fits fits') $
@@ -149,9 +142,9 @@ module _ (E : El) (Z : Al) {M : Type 1} {𝓤 : Ura M} (𝓛 : Logic 𝓤) (at_m
       lands_last ! refl (subst (λ (z : Val). T (has_ty ty_unit z) × WT z) (sym done_with) (tt, tt)) $ exec ! C Λ En (after 2 (function E Z).body) (at_ret En Post) $
       sets ! (of_opd ! (unit_lit !)) refl (tt, tt) $ returns ! (look_at ! 0 refl) $ free_all ! refl $ keep ! (0 ∷ 1 ∷ []) $ by ! exits))))
 
-  entry : Asks E Z a room cells lease s al → ent 𝓤 (on_entry 𝓛 (ended E Z).signature (κ, (κ₁, (κ₂, tt))) (q, (q₁, (q₂, tt))) (self, (room, (cells, (lease, (s, (al, tt)))))) (us0, (us1, (us2, (us3, (us4, (us5, tt))))))) (WpFn 𝓤 H C Λ (function E Z) (us0 ++ (us1 ++ (us2 ++ (us3 ++ (us4 ++ (us5 ++ [])))))) Post)
+  entry : Asks E Z a room row right s al → ent 𝓤 (on_entry 𝓛 (ended E Z).signature (κ, (κ₁, (κ₂, tt))) (q, (q₁, (q₂, tt))) (self, (room, (row, (right, (s, (al, tt)))))) (us0, (us1, (us2, (us3, (us4, (us5, tt))))))) (WpFn 𝓤 H C Λ (function E Z) (us0 ++ (us1 ++ (us2 ++ (us3 ++ (us4 ++ (us5 ++ [])))))) Post)
   entry asked =
-      qed 𝓛 ((‵ (flft κ q) ⊛ others) ∷ ‵ (owns (ShrRef (named 0) κ (P E Z) ∷ Rm E Z ∷ Cs E Z ∷ Ls E Z ∷ usize ∷ usize ∷ []) (self, (room, (cells, (lease, (s, (al, tt)))))) (us0, (us1, (us2, (us3, (us4, (us5, tt))))))) ∷ []) ∵ split ! $ move ! (2 ∷ []) $ fsplit3 ! $ fsplit ! $ feq_l ! (λ e0.
+      qed 𝓛 ((‵ (flft κ q) ⊛ others) ∷ ‵ (owns (ShrRef (named 0) κ (P E Z) ∷ Rm E Z ∷ Cs E Z ∷ Ls E Z ∷ usize ∷ usize ∷ []) (self, (room, (row, (right, (s, (al, tt)))))) (us0, (us1, (us2, (us3, (us4, (us5, tt))))))) ∷ []) ∵ split ! $ move ! (2 ∷ []) $ fsplit3 ! $ fsplit ! $ feq_l ! (λ e0.
       move ! (1 ∷ []) $ fsplit ! $ word_had ! room.ptr us1 (λ e1. move ! (2 ∷ []) $ fsplit3 ! $ fsplit ! $ mark_had ! E us2 (λ e2. move ! (1 ∷ []) $ fsplit ! $ mark_had ! E us3 (λ e3.
       move ! (2 ∷ []) $ fsplit3 ! $ fsplit ! $ feq_l ! (λ e4. flt_l ! (λ fits. fsplit ! $ feq_l ! (λ e5. flt_l ! (λ fits'. keep ! (3 ∷ 2 ∷ 1 ∷ 4 ∷ 5 ∷ 6 ∷ []) $
       by ! (subst (λ (ws : List Val × List Val × List Val × List Val × List Val × List Val). ent 𝓤 (⋆ 𝓛 Had) (WpFn 𝓤 H C Λ (function E Z) (ws.0 ++ (ws.1 ++ (ws.2 ++ (ws.3 ++ (ws.4 ++ (ws.5 ++ [])))))) Post))

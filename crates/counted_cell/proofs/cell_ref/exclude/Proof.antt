@@ -1,5 +1,5 @@
 -- The one has that no share is left, and the other is one.
-use Rattle.counted_cell.proofs.Names.{◌≡◌, ℕ, List, [], ◌∷◌, proved, named, vptr, shr_vals, shr_Tells, pass_all, a_type, Val, inst_fn, SProp, fact, Lft, Share, Fml, ftrue, fsep, fhide, flft, sem, ‵, raw, ◌⊛◌, ◌$◌, ◌∵◌, !, qed, by, move, keep, split, fsplit, use1, rewrite, refl, tables, yes, RattleType, owns, types_at, plain, Ptr, block_of, count_of, heard, unhide, hidden_shr, param, layouts, RefOf, enter, alloc_all, lent_out, Stays, stay_dropped, walk_of, Goes-dropped, shr_bor-open, tokens_halve}
+use Rattle.counted_cell.proofs.Names.{◌≡◌, ℕ, [], ◌∷◌, proved, named, vptr, shr_vals, shr_Tells, pass_all, a_type, Val, inst_fn, SProp, fact, Lft, Fml, ftrue, fsep, fhide, flft, ‵, raw, ◌⊛◌, ◌$◌, ◌∵◌, !, qed, by, move, keep, split, fsplit, use1, rewrite, refl, tables, yes, RattleType, owns, types_at, plain, Ptr, block_of, count_of, heard, unhide, hidden_shr, param, layouts, RefOf, enter, alloc_all, lent_out, Stays, stay_dropped, walk_of, Goes-dropped, shr_bor-open, tokens_halve}
 use base.Fml.{fdead}
 use base.Logic.{all_e}
 use denote.Sharing.{one}

@@ -1,28 +1,27 @@
 -- `fill` writes the value into its room.
-use Rattle.std.proofs.Common.{◌≡◌, ℕ, List, [], ◌∷◌, ◌++◌, sym, refl, ap, ◌∙◌}
+use Rattle.std.proofs.Common.{◌≡◌, List, [], ◌∷◌, ◌++◌, sym, refl, ap, ◌∙◌}
 use mir.Syntax.{a_type}
-use mir.Val.{Val, vptr}
+use mir.Val.{Val}
 use mir.MapTy.{inst_fn}
 use base.Logic.{SProp, emp, never, id⊢}
-use base.Fml.{Lft, Share, Fml, ftrue, fsep, fex, flft}
+use base.Fml.{Lft, Share, ftrue, flft}
 use base.Fraction.{full_share}
-use prog.Wp.{Env, WpFn}
+use prog.Wp.{WpFn}
 use contract.BorrowLft.{◌⊑◌}
 use contract.Monad.{fact, fact_i}
 use contract.Running.{tables}
-use types.Kit.{‵, raw, ◌⊛◌, prop, at_ret, ◌$◌, ◌∵◌, !, qed, by, move, keep, drop, use0, use2, split, join, regoal, fsplit, fjoin, fpack, rewrite}
+use types.Kit.{‵, raw, ◌⊛◌, prop, at_ret, ◌$◌, ◌∵◌, !, qed, by, move, keep, use0, use2, split, join, regoal, fsplit, fjoin, fpack}
 use types.Part.{whole, sub, agg}
 use types.Run.{stop, fld, init, of_opd, assigns_last, first, blocks, exec, no_more, and_then, returns, enter}
 use types.ByLocal.{alloc_all, pass_all, free_all, look_at, get, get_in, through, sets, env}
 use denote.Exit.{no}
 use denote.RattleType.{RattleType, owns}
-use denote.RawPtr.{Ptr, InBlock, block_ptr, in_a_block, lies_at}
+use denote.RawPtr.{Ptr, InBlock, block_ptr, in_a_block}
 use denote.Memory.{part_at}
 use denote.Param.{param, layout, layouts}
 use denote.Signature.{types_at, plain}
 use denote.Steps.{nothing}
 use denote.Triple.Walked.{Stays, stay_dropped, walk_of, Goes-dropped}
-use Rattle.core.proofs.alloc.Calls.{Goes-blank}
 use Rattle.std.proofs.raw_atomic.Walks.{proved_at, leaves}
 use Rattle.std_alloc.proofs.VecSteps.Shapes.{after}
 use Rattle.std_alloc.proofs.RcSteps.{word}

@@ -1,23 +1,22 @@
 -- `take` reads the value, and its place is room.
-use Rattle.std.proofs.Common.{◌≡◌, ℕ, List, [], ◌∷◌, ◌++◌, sym, refl, ap, ◌∙◌}
+use Rattle.std.proofs.Common.{◌≡◌, List, [], ◌∷◌, ◌++◌, sym, refl, ap, ◌∙◌}
 use mir.Syntax.{a_type}
-use mir.Val.{Val, vptr}
+use mir.Val.{Val}
 use mir.MapTy.{inst_fn}
 use base.Logic.{SProp, emp, never, id⊢}
-use base.Fml.{Lft, Share, Fml, ftrue, fsep, fat, froom, fex, flft}
+use base.Fml.{Lft, Share, ftrue, fat, froom, flft}
 use base.Fraction.{full_share}
-use prog.Wp.{Env, WpFn}
+use prog.Wp.{WpFn}
 use contract.BorrowLft.{◌⊑◌}
 use contract.Monad.{fact, fact_i}
 use contract.Running.{tables}
-use types.Kit.{‵, raw, ◌⊛◌, some, given, pick, learn, prop, at_ret, ◌$◌, ◌∵◌, !, qed, by, move, keep, drop, use0, use1, use2, split, join, regoal, fsplit, fjoin, fpick, rewrite}
+use types.Kit.{‵, raw, ◌⊛◌, some, given, pick, learn, prop, at_ret, ◌$◌, ◌∵◌, !, qed, by, move, keep, drop, use0, use1, use2, split, join, regoal, fsplit, fjoin}
 use types.Part.{whole, sub, agg}
-use types.Run.{look, load, stop, fld, init, of_opd, first, blocks, exec, no_more, and_then, returns, enter}
+use types.Run.{look, load, stop, fld, of_opd, first, blocks, exec, no_more, and_then, returns, enter}
 use types.ByLocal.{alloc_all, pass_all, free_all, look_at, get, get_in, through, sets, sets_last, env}
 use denote.Exit.{no}
 use denote.RattleType.{RattleType, owns}
-use denote.RawPtr.{Ptr, InBlock, block_ptr, in_a_block, lies_at}
-use denote.Memory.{part_at}
+use denote.RawPtr.{Ptr, block_ptr, in_a_block, lies_at}
 use denote.Param.{param, layout, layouts}
 use denote.Signature.{types_at, plain}
 use denote.Steps.{nothing}
@@ -28,7 +27,6 @@ use Rattle.std_alloc.proofs.VecSteps.Shapes.{after}
 use Rattle.std_alloc.proofs.RcSteps.{Good, word}
 use Rattle.std_alloc.proofs.RawLayout.{as_raw}
 use Rattle.std_alloc.proofs.Pairs.{pair_of, pair_val, pair_Typed}
-use Rattle.counted_cell.specs.Block.{room_owns}
 use Rattle.counted_cell.proofs.PlacesSteps.{word_had, word_made, value_out}
 use Rattle.counted_cell.specs.contracts.placed.Room as room
 use Rattle.counted_cell.specs.contracts.placed.Placed as placed

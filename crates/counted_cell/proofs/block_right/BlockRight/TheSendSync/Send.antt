@@ -1,4 +1,4 @@
-use Rattle.std.proofs.Common.{ℕ, ◌+◌}
+use Rattle.std.proofs.Common.{◌+◌}
 use base.Fraction.{full_share}
 use base.Shift.{Keyless}
 use denote.RattleType.{RattleType}

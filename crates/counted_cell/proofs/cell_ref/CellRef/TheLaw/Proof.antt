@@ -1,4 +1,4 @@
--- A `&` to a hold has what every holder has. Assumes `Logic`.
+-- A `&` to a reference has what every holder has. Assumes `Logic`.
 use denote.RattleType.{RattleType}
 use denote.Param.Laws.{Laws}
 use denote.Param.Shared.{copy_shared}

@@ -1,11 +1,11 @@
 -- `close` is one load, which gains the whole cell where it found 0.
-use Rattle.counted_cell.proofs.Names.{◌≡◌, ℕ, ◌+◌, ◌<◌, ◌^◌, List, [], ◌∷◌, sym, refl, ap, lit<, w64, proved, leaves, a_type, named, Val, vint, vptr, inst_fn, SProp, emp, via, fact, fact_i, Lft, Fml, ftrue, fsep, fex, flft, sem, ‵, raw, ◌⊛◌, given, mean, at_ret, ◌$◌, ◌∵◌, !, qed, by, move, keep, drop, split, join, fsplit, fsplit3, fjoin, fpick, learn, use0, use1, use3, rewrite, feq_i, flt_i, stop, fld, addr, lit, of_opd, no_more, and_then, first, blocks, exec, Calls-last, returns, enter, alloc_all, pass_all, free_all, look_at, get, get_in, through, sets, lands_last, is, env, agg, sub, whole, tables, no, RattleType, owns, types_at, plain, Ptr, InBlock, block_ptr, ptr_val, block_of, count_of, at_block, nothing, heard, param, layouts, u64, Stays, stay_dropped, walk_of, Goes-dropped, after, fm, seq_cst, found, finds, loads, Valss, feq, vstruct, vcons, vnil, of_list, ◌++◌, Bool, ◌≢◌, fpack, use2, fjoin3}
+use Rattle.counted_cell.proofs.Names.{◌≡◌, ℕ, ◌+◌, ◌^◌, List, [], ◌∷◌, sym, refl, ap, lit<, w64, proved, leaves, a_type, Val, vint, vptr, inst_fn, SProp, emp, via, fact, fact_i, Fml, ftrue, fsep, flft, ‵, raw, ◌⊛◌, given, mean, at_ret, ◌$◌, ◌∵◌, !, qed, by, move, keep, split, join, fsplit, fsplit3, fjoin, fpick, learn, use0, use1, rewrite, feq_i, flt_i, stop, fld, addr, lit, of_opd, no_more, and_then, first, blocks, exec, Calls-last, returns, enter, alloc_all, pass_all, free_all, look_at, get, get_in, through, sets, lands_last, is, env, agg, sub, whole, tables, no, RattleType, owns, types_at, plain, Ptr, InBlock, block_ptr, ptr_val, block_of, count_of, at_block, nothing, heard, param, layouts, u64, Stays, stay_dropped, walk_of, Goes-dropped, after, fm, seq_cst, found, finds, loads, Valss, feq, vstruct, vcons, vnil, of_list, ◌++◌, ◌≢◌, fpack, use2}
 use Rattle.counted_cell.specs.Counting.{Right, no_right, owner_right, sole_right, right_to}
 use Rattle.counted_cell.specs.contracts.cell_ref.CellRef as cell_ref
 use Rattle.counted_cell.specs.contracts.cell_ref.Reading as reading
 use Rattle.counted_cell.proofs.CellRefFields.{word_of, Data, told, made, typed, owned_in, reading_word, Marks, marked}
 use Rattle.counted_cell.proofs.Gains.{rank, ended as gains}
-use Rattle.counted_cell.proofs.Steps.{Closed, over, closes_it}
+use Rattle.counted_cell.proofs.Steps.{Closed, closes_it}
 use Rattle.counted_cell.specs.contracts.cell_ref.CellRef.close.{ended, clauses}
 use Rattle.counted_cell.specs.contracts.cell_ref.CellRef.close.Key.{name as #self}
 use Rattle.counted_cell.proofs.cell_ref.CellRef.close.Statement.{statement}

@@ -1,11 +1,11 @@
 -- `decrement` gives a share's parts back.
 use Rattle.std.proofs.Common.{◌-◌}
-use Rattle.counted_cell.proofs.Names.{◌≡◌, ℕ, ◌+◌, ◌<◌, ◌^◌, List, [], ◌∷◌, sym, refl, ap, lit<, w64, proved, leaves, a_type, named, Val, vint, vptr, inst_fn, SProp, emp, via, fact, fact_i, Lft, Fml, ftrue, fsep, fex, flft, sem, ‵, raw, ◌⊛◌, given, mean, at_ret, ◌$◌, ◌∵◌, !, qed, by, move, keep, drop, split, join, fsplit, fsplit3, fjoin, fpick, learn, use0, use1, use3, rewrite, feq_i, flt_i, stop, fld, addr, lit, of_opd, no_more, and_then, first, blocks, exec, Calls-last, returns, enter, alloc_all, pass_all, free_all, look_at, get, get_in, through, sets, lands_last, is, env, agg, sub, whole, tables, no, RattleType, owns, types_at, plain, Ptr, InBlock, block_ptr, ptr_val, block_of, count_of, at_block, nothing, heard, param, layouts, Stays, stay_dropped, walk_of, Goes-dropped, after, fm, seq_cst, found, finds, subs, ◌≢◌, Bool, ◌++◌, ◌∙◌, arith, vstruct, vcons, vnil, of_list, Share, feq, fhide, finv, fjoin3, fpack, use2, load, bin, look_in, yes, Valss, peeks, looks, shuts, unhide, Is, shows, cell_at, hidden_shr, param_laws, RefOf, u64, shr_vals, shr_Tells, uint_vals, uint_Tells, lent_out, contraction, loads, exchanges, shr_bor-open, obor_close, tokens_halve}
+use Rattle.counted_cell.proofs.Names.{◌≡◌, ℕ, ◌+◌, ◌<◌, ◌^◌, List, [], ◌∷◌, refl, ap, lit<, w64, proved, leaves, a_type, Val, vint, vptr, inst_fn, SProp, emp, via, fact, fact_i, Fml, ftrue, fsep, flft, ‵, raw, ◌⊛◌, given, mean, at_ret, ◌$◌, ◌∵◌, !, qed, by, move, keep, drop, split, join, fsplit, fsplit3, fjoin, fpick, learn, use0, use1, use3, rewrite, feq_i, flt_i, stop, fld, addr, lit, of_opd, no_more, and_then, first, blocks, exec, Calls-last, returns, enter, alloc_all, pass_all, free_all, look_at, get, get_in, through, sets, lands_last, is, env, agg, sub, whole, tables, no, RattleType, owns, types_at, plain, Ptr, InBlock, block_ptr, ptr_val, block_of, count_of, at_block, nothing, heard, param, layouts, Stays, stay_dropped, walk_of, Goes-dropped, after, fm, seq_cst, found, finds, subs, ◌++◌, arith, vstruct, vcons, vnil, of_list, feq, fjoin3, fpack, Valss, u64}
 use Rattle.counted_cell.specs.Counting.{Right, share_right, right_to}
 use Rattle.counted_cell.specs.contracts.cell_ref.CellRef as cell_ref
 use Rattle.counted_cell.specs.contracts.cell_ref.Reading as reading
 use Rattle.counted_cell.proofs.CellRefFields.{word_of, told, typed, owned_in, reading_word, Marks, marked}
-use Rattle.counted_cell.proofs.Steps.{Left, less, leaves_one}
+use Rattle.counted_cell.proofs.Steps.{Left, leaves_one}
 use Rattle.counted_cell.specs.contracts.cell_ref.CellRef.decrement.{ended, clauses}
 use Rattle.counted_cell.specs.contracts.cell_ref.CellRef.decrement.Key.{name as #self}
 use Rattle.counted_cell.proofs.cell_ref.CellRef.decrement.Statement.{statement}

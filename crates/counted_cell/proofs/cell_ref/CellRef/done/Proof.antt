@@ -1,5 +1,5 @@
 -- `done` lets go of a reference that owns nothing.
-use Rattle.counted_cell.proofs.Names.{◌≡◌, List, [], ◌∷◌, refl, proved, leaves, a_type, Val, inst_fn, SProp, fact, Lft, ftrue, fsep, flft, sem, ‵, raw, ◌⊛◌, ◌$◌, ◌∵◌, !, qed, by, move, keep, drop, split, join, fjoin, feq_i, of_opd, returns, enter, alloc_all, pass_all, free_all, look_at, sets, tables, no, RattleType, owns, types_at, plain, Ptr, nothing, param, layouts, Stays, stay_dropped, walk_of, Goes-dropped}
+use Rattle.counted_cell.proofs.Names.{◌≡◌, List, [], ◌∷◌, refl, proved, leaves, a_type, Val, inst_fn, SProp, fact, ftrue, flft, ‵, raw, ◌⊛◌, ◌$◌, ◌∵◌, !, qed, by, move, keep, split, fjoin, feq_i, of_opd, returns, enter, alloc_all, pass_all, free_all, look_at, sets, tables, no, RattleType, owns, types_at, plain, Ptr, nothing, param, layouts, Stays, stay_dropped, walk_of, Goes-dropped}
 use mir.Val.{vunit}
 use types.Run.{unit_lit}
 use Rattle.std_alloc.proofs.RcSteps.{word-Good}

@@ -1,5 +1,5 @@
 -- `get` lends the value through the pointer.
-use Rattle.counted_cell.proofs.Names.{◌≡◌, ℕ, ◌+◌, ◌<◌, List, [], ◌∷◌, sym, refl, ap, ◌∙◌, proved, leaves, a_type, named, Val, vptr, inst_fn, SProp, emp, fact, fact_i, Lft, Fml, ftrue, fsep, fhide, flft, sem, ‵, raw, ◌⊛◌, given, at_ret, ◌$◌, ◌∵◌, !, qed, by, move, keep, drop, split, join, fsplit, fjoin, learn, use0, use1, rewrite, feq_i, stop, fld, hop, addr, of_opd, first, blocks, exec, returns, enter, alloc_all, pass_all, free_all, look_at, get, through, sets, sets_last, env, sub, whole, look_in, tables, yes, RattleType, owns, types_at, plain, Ptr, InBlock, block_ptr, block_of, count_of, at_block, nothing, peeks, heard, looks, shuts, unhide, hide, Is, shows, cell_at, hidden_shr, param, layouts, param_laws, RefOf, shr_vals, shr_Tells, lent_at, lent_out, in_block_says, Stays, stay_dropped, walk_of, Goes-dropped, after}
+use Rattle.counted_cell.proofs.Names.{◌≡◌, ℕ, ◌+◌, List, [], ◌∷◌, sym, refl, ap, ◌∙◌, proved, leaves, a_type, named, Val, vptr, inst_fn, SProp, emp, fact, fact_i, Lft, Fml, ftrue, fsep, fhide, flft, ‵, raw, ◌⊛◌, given, at_ret, ◌$◌, ◌∵◌, !, qed, by, move, keep, drop, split, join, fsplit, fjoin, learn, use0, use1, rewrite, feq_i, stop, fld, hop, addr, of_opd, first, blocks, exec, returns, enter, alloc_all, pass_all, free_all, look_at, get, through, sets, sets_last, env, sub, whole, look_in, tables, yes, RattleType, owns, types_at, plain, Ptr, InBlock, block_ptr, block_of, count_of, at_block, nothing, peeks, heard, looks, shuts, unhide, hide, Is, shows, cell_at, hidden_shr, param, layouts, param_laws, RefOf, shr_vals, shr_Tells, lent_at, lent_out, Stays, stay_dropped, walk_of, Goes-dropped, after}
 use Rattle.counted_cell.specs.Counting.{CanRead, offset, seen_by, ref_shares}
 use Rattle.counted_cell.specs.contracts.cell_ref.CellRef as cell_ref
 use Rattle.counted_cell.proofs.CellRefFields.{word_of, Data, told, opened, seen_in}

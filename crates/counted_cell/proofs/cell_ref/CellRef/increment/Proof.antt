@@ -1,12 +1,12 @@
 -- `increment` is one compare-exchange, which gains a share where it found what it expected.
-use Rattle.counted_cell.proofs.Names.{◌≡◌, ◌≢◌, ℕ, ◌+◌, ◌<◌, ◌^◌, Bool, List, [], ◌∷◌, ◌++◌, sym, refl, ap, ◌∙◌, lit<, w64, arith, proved, leaves, a_type, named, Val, vint, vptr, vstruct, vcons, vnil, of_list, inst_fn, SProp, emp, via, fact, fact_i, Lft, Share, Fml, ftrue, fsep, fex, feq, fhide, flft, finv, sem, ‵, raw, ◌⊛◌, given, mean, at_ret, ◌$◌, ◌∵◌, !, qed, by, move, keep, drop, split, join, fsplit, fsplit3, fjoin, fjoin3, fpick, fpack, learn, use0, use1, use2, use3, rewrite, feq_i, flt_i, stop, fld, load, addr, lit, of_opd, bin, no_more, and_then, first, blocks, exec, Calls-last, returns, enter, alloc_all, pass_all, free_all, look_at, get, through, sets, lands_last, env, agg, sub, whole, look_in, tables, yes, RattleType, Valss, owns, types_at, plain, Ptr, InBlock, block_ptr, block_of, count_of, at_block, nothing, peeks, heard, looks, shuts, unhide, Is, shows, cell_at, hidden_shr, param, layouts, param_laws, RefOf, u64, shr_vals, shr_Tells, uint_vals, uint_Tells, lent_out, contraction, Stays, stay_dropped, walk_of, Goes-dropped, after, fm, seq_cst, found, finds, loads, exchanges, shr_bor-open, obor_close, tokens_halve}
+use Rattle.counted_cell.proofs.Names.{◌≡◌, ◌≢◌, ℕ, ◌+◌, ◌<◌, ◌^◌, List, [], ◌∷◌, ◌++◌, sym, refl, ap, ◌∙◌, w64, arith, proved, leaves, a_type, named, Val, vint, vptr, vstruct, vcons, vnil, of_list, inst_fn, SProp, emp, via, fact, fact_i, Lft, Fml, ftrue, fsep, feq, fhide, flft, finv, ‵, raw, ◌⊛◌, given, mean, at_ret, ◌$◌, ◌∵◌, !, qed, by, move, keep, drop, split, join, fsplit, fsplit3, fjoin, fpick, fpack, learn, use0, use1, use2, use3, rewrite, feq_i, flt_i, stop, fld, load, addr, lit, of_opd, bin, no_more, and_then, first, blocks, exec, Calls-last, returns, enter, alloc_all, pass_all, free_all, look_at, get, through, sets, lands_last, env, agg, sub, whole, look_in, tables, yes, RattleType, Valss, owns, types_at, plain, Ptr, InBlock, block_ptr, block_of, count_of, at_block, nothing, peeks, heard, looks, shuts, unhide, Is, shows, cell_at, hidden_shr, param, layouts, param_laws, RefOf, u64, shr_vals, shr_Tells, uint_vals, uint_Tells, lent_out, Stays, stay_dropped, walk_of, Goes-dropped, after, fm, found, finds, exchanges, shr_bor-open, obor_close, tokens_halve}
 use base.Share
-use Rattle.counted_cell.specs.Counting.{Right, CanRead, no_right, share_right, Inv, shown, right_to, seen_by, ref_shares, reading_owns}
+use Rattle.counted_cell.specs.Counting.{Right, CanRead, no_right, share_right, Inv, right_to, seen_by, ref_shares}
 use Rattle.counted_cell.specs.contracts.cell_ref.CellRef as cell_ref
-use Rattle.counted_cell.proofs.CellRefFields.{word_of, Data, told, made, opened, seen_in}
-use Rattle.counted_cell.proofs.CellRefLent.{shown_laws}
+use Rattle.counted_cell.specs.contracts.cell_ref.Reading as reading
+use Rattle.counted_cell.proofs.CellRefFields.{word_of, Data, told, made, opened, seen_in, reading_word, Marks, marked}
 use Rattle.counted_cell.proofs.Gains.{rank, raised as gains}
-use Rattle.counted_cell.proofs.Steps.{Raised, won, raises}
+use Rattle.counted_cell.proofs.Steps.{Raised, raises}
 use Rattle.counted_cell.specs.contracts.cell_ref.CellRef.increment.{ended, clauses}
 use Rattle.counted_cell.specs.contracts.cell_ref.CellRef.increment.Key.{name as #self}
 use Rattle.counted_cell.proofs.cell_ref.CellRef.increment.Statement.{statement}
@@ -15,7 +15,7 @@ use Rattle.counted_cell.proofs.cell_ref.CellRef.increment.Code as code
 pub increment_spec : {M : Type 1} → statement M
 increment_spec 𝓤 𝓛 𝓜 𝓡 wired X L =
     let H = 𝓛.H in let 𝓣 = tables 𝓤 H 𝓜 𝓡 𝓡.env in let R : RattleType = param 0 X in let En = ended X in let inst = layouts (a_type ∷ []) (X, tt) in let fn = inst_fn inst code.function in
-    let Row : RattleType = cell_ref.the_row R in let D : RattleType = Data R in let c = clauses X 𝓛 𝓜.mem 𝓡.returns in let laws = (param_laws 0 X L).shr_laws in
+    let Row : RattleType = cell_ref.the_row R in let Seen : RattleType = reading.the_row in let D : RattleType = Data R in let c = clauses X 𝓛 𝓜.mem 𝓡.returns in let laws = (param_laws 0 X L).shr_laws in
     let self = RefOf (0 ∷ []) tt (plain (λ _. Row)) (λ _. tt) in let number = plain (λ _. u64) in let hs : Stays En.signature.params En.kept = (stay_dropped self yes, (stay_dropped number yes, tt)) in
     proved 𝓛 En hs c 𝓜 𝓡 (Goes-dropped 𝓛 2 self yes (λ κs x f. refl), (Goes-dropped 𝓛 2 number yes (λ κs x f. refl), tt)) (#self inst) fn (code.unfolded 𝓤 H 𝓜 𝓡 wired (X, tt))
     (λ κs. (shr_vals, (uint_vals w64, tt))) (λ κs. (shr_Tells (named 0) κs.0 Row, (uint_Tells w64, tt))) (λ κs qs bounds a gh are.
@@ -41,16 +41,18 @@ increment_spec 𝓤 𝓛 𝓜 𝓡 wired X L =
     (via 𝓤 _ (raises 𝓛 pb (po + 0) t s seen room.0 fit room.1) (exchanges 𝓛 𝓜 𝓡 (code.calls-atomic_table::exchange 𝓡.env wired) (block_ptr pb (po + 0)) seen (seen + 1) are.1.0.1 fits-more after')) $
     Calls-last ! (fm 𝓛 𝓜 𝓡) (found after') (and_then ! (get ! refl) (and_then ! (get ! refl) (and_then ! (get ! refl) (no_more !)))) (λ r. finds ! after' (λ n fits.
     lands_last ! refl (tt, record { fits = fits }) $ exec ! 𝓣.C 𝓣.Λ Ev (after 3 fn.body) (at_ret Ev Post) $ sets ! (of_opd ! (get ! refl)) refl (tt, record { fits = fits }) $
-    sets ! (agg ! (and_then ! (get ! refl) (no_more !))) refl (tt, (tt, tt)) $ sets ! (agg ! (and_then ! (get ! refl) (and_then ! (get ! refl) (no_more !)))) refl (tt, (record { fits = fits }, ((tt, tt), tt))) $
+    sets ! (agg ! (no_more !)) refl (tt, tt) $ sets ! (agg ! (and_then ! (get ! refl) (no_more !))) refl (tt, (tt, tt)) $ sets ! (agg ! (and_then ! (get ! refl) (no_more !))) refl (tt, (tt, tt)) $
+    sets ! (agg ! (and_then ! (get ! refl) (and_then ! (get ! refl) (and_then ! (get ! refl) (no_more !))))) refl (tt, (record { fits = fits }, ((tt, tt), ((tt, tt), tt)))) $
     -- [what was won; the invariant; the open share; the right half; the fields; what is shown; others]
     fsplit ! $ move ! (3 ∷ 0 ∷ []) $ obor_close ! tt $ drop ! $ move ! (0 ∷ 3 ∷ []) $ use2 𝓛 (‵ (flft κ qs.0)) (𝓛.lfts.lft_join κ qs.0) $
     -- [the token; what was won; the invariant; the fields; what is shown; others]
-    move ! (0 ∷ 5 ∷ []) $ join ! $ move ! (1 ∷ []) $ fpick ! (λ w. let k : Right = rank share_right w in let Told : Type 0 = (n ≡ seen → k ≡ share_right) × (n ≢ seen → k ≡ no_right) in move ! (0 ∷ 2 ∷ 4 ∷ []) $
-    use3 𝓛 (given Told (‵ (right_to R pb po x t k))) (gains 𝓛 R pb po x t seen room.0 fit room.1 s n w) $ learn ! (λ told'. nothing ! $ nothing ! $ fjoin ! $ nothing ! $ fjoin ! $ move ! (1 ∷ []) $
-    -- [the right; nothing; the tokens]
-    let z : Ptr = block_ptr pb po in let h : Row.Denot = record { ptr = z; value = x; name = t; right = k } in let u : Val = vstruct (vcons (vint w64 n) (vcons (word_of z) vnil)) in let Same : Type 0 = (x ≡ x) × (t ≡ t) in
-    use0 𝓛 (‵ (D.own_val (z, tt) (word_of z ∷ []))) (made R 𝓛 z) $ fjoin ! $ nothing ! $ flt_i ! n (2 ^ 64) fits $ feq_i ! (List Val) (vint w64 n ∷ []) (vint w64 n ∷ []) refl $ fjoin ! $
-    move ! (0 ∷ 2 ∷ 1 ∷ []) $ fjoin3 ! $ feq_i ! (List Val) (u ∷ []) (u ∷ []) refl $ fjoin ! $
-    fpack ! (Valss (u64 ∷ Row ∷ [])) (λ uss. fsep (feq (List Val) (u ∷ []) (vstruct (of_list (uss.0 ++ (uss.1.0 ++ []))) ∷ [])) (owns (u64 ∷ Row ∷ []) (n, (h, tt)) uss)) (vint w64 n ∷ [], (word_of z ∷ [], tt)) $
-    use0 𝓛 (raw (fact 𝓤 Told)) (fact_i 𝓤 Told (emp 𝓤) told') $ use0 𝓛 (raw (fact 𝓤 Same)) (fact_i 𝓤 Same (emp 𝓤) (refl, refl)) $ join ! $
-    returns ! (look_at ! 0 refl) $ free_all ! refl $ keep ! (3 ∷ 2 ∷ 1 ∷ 0 ∷ []) $ by ! (leaves 𝓛 En hs c y u (n, h) (tt, (tt, tt)) (tt, (tt, tt)))))))))))))))
+    move ! (0 ∷ 5 ∷ []) $ join ! $ move ! (1 ∷ []) $ fsplit ! $ move ! (1 ∷ []) $ fpick ! (λ w. let k : Right = rank share_right w in let Told : Type 0 = (n ≡ seen → k ≡ share_right) × (n ≢ seen → k ≡ no_right) in move ! (0 ∷ 3 ∷ 5 ∷ []) $
+    use3 𝓛 (given Told (‵ (right_to R pb po x t k))) (gains 𝓛 R pb po x t seen room.0 fit room.1 s n w) $ learn ! (λ told'. nothing ! $ nothing ! $ fjoin ! $ nothing ! $ fjoin ! $ move ! (1 ∷ 2 ∷ []) $
+    -- [the right; the reading; nothing; the tokens]
+    let z : Ptr = block_ptr pb po in let h : Row.Denot = record { ptr = z; value = x; name = t; right = k } in let r : Seen.Denot = record { marker = record {}; name = t; count = n } in let u : Val = vstruct (vcons (vint w64 n) (vcons reading_word (vcons (word_of z) vnil))) in let Same : Type 0 = (t ≡ t) × (n ≡ n) × (x ≡ x) × (t ≡ t) in
+    use0 𝓛 (‵ (D.own_val (z, tt) (word_of z ∷ []))) (made R 𝓛 z) $ fjoin ! $ move ! (1 ∷ []) $ use0 𝓛 (‵ (Marks.own_val (tt, tt) (reading_word ∷ []))) (marked 𝓛) $ fjoin ! $
+    nothing ! $ move ! (2 ∷ 0 ∷ []) $ fjoin ! $ move ! (1 ∷ 0 ∷ []) $ fjoin ! $ flt_i ! n (2 ^ 64) fits $ feq_i ! (List Val) (vint w64 n ∷ []) (vint w64 n ∷ []) refl $ fjoin ! $
+    fjoin ! $ feq_i ! (List Val) (u ∷ []) (u ∷ []) refl $ fjoin ! $
+    fpack ! (Valss (u64 ∷ Seen ∷ Row ∷ [])) (λ uss. fsep (feq (List Val) (u ∷ []) (vstruct (of_list (uss.0 ++ (uss.1.0 ++ (uss.1.1.0 ++ [])))) ∷ [])) (owns (u64 ∷ Seen ∷ Row ∷ []) (n, (r, (h, tt))) uss)) (vint w64 n ∷ [], (reading_word ∷ [], (word_of z ∷ [], tt))) $
+    use0 𝓛 (raw (fact 𝓤 Told)) (fact_i 𝓤 Told (emp 𝓤) told') $ use0 𝓛 (raw (fact 𝓤 Same)) (fact_i 𝓤 Same (emp 𝓤) (refl, refl, refl, refl)) $ join ! $
+    returns ! (look_at ! 0 refl) $ free_all ! refl $ keep ! (3 ∷ 2 ∷ 1 ∷ 0 ∷ []) $ by ! (leaves 𝓛 En hs c y u (n, r, h) (tt, (tt, tt)) (tt, (tt, tt)))))))))))))))

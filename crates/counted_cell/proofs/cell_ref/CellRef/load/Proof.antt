@@ -1,7 +1,7 @@
 -- `load` is one load.
-use Rattle.counted_cell.proofs.Names.{◌≡◌, ◌≢◌, ℕ, ◌+◌, ◌<◌, ◌^◌, Bool, List, [], ◌∷◌, ◌++◌, sym, refl, ap, ◌∙◌, lit<, w64, arith, proved, leaves, a_type, named, Val, vint, vptr, vstruct, vcons, vnil, of_list, inst_fn, SProp, emp, via, fact, fact_i, Lft, Share, Fml, ftrue, fsep, fex, feq, fhide, flft, finv, sem, ‵, raw, ◌⊛◌, given, mean, at_ret, ◌$◌, ◌∵◌, !, qed, by, move, keep, drop, split, join, fsplit, fsplit3, fjoin, fjoin3, fpick, fpack, learn, use0, use1, use2, use3, rewrite, feq_i, flt_i, stop, fld, load, addr, lit, of_opd, bin, no_more, and_then, first, blocks, exec, Calls-last, returns, enter, alloc_all, pass_all, free_all, look_at, get, through, sets, lands_last, env, agg, sub, whole, look_in, tables, yes, RattleType, Valss, owns, types_at, plain, Ptr, InBlock, block_ptr, block_of, count_of, at_block, nothing, peeks, heard, looks, shuts, unhide, Is, shows, cell_at, hidden_shr, param, layouts, param_laws, RefOf, u64, shr_vals, shr_Tells, uint_vals, uint_Tells, lent_out, contraction, Stays, stay_dropped, walk_of, Goes-dropped, after, fm, seq_cst, found, finds, loads, exchanges, shr_bor-open, obor_close, tokens_halve}
+use Rattle.counted_cell.proofs.Names.{◌≡◌, ℕ, ◌+◌, ◌^◌, List, [], ◌∷◌, ◌++◌, sym, refl, ap, ◌∙◌, lit<, w64, proved, leaves, a_type, named, Val, vint, vptr, vstruct, vcons, vnil, of_list, inst_fn, SProp, emp, via, fact, fact_i, Lft, Fml, ftrue, fsep, feq, fhide, flft, ‵, raw, ◌⊛◌, given, mean, at_ret, ◌$◌, ◌∵◌, !, qed, by, move, keep, drop, split, join, fsplit, fsplit3, fjoin, fjoin3, fpack, learn, use0, use1, use2, rewrite, feq_i, flt_i, stop, fld, load, addr, lit, of_opd, no_more, and_then, first, blocks, exec, Calls-last, returns, enter, alloc_all, pass_all, free_all, look_at, get, through, sets, lands_last, env, agg, sub, whole, look_in, tables, yes, RattleType, Valss, owns, types_at, plain, Ptr, InBlock, block_ptr, block_of, count_of, at_block, nothing, peeks, heard, looks, shuts, unhide, Is, shows, cell_at, hidden_shr, param, layouts, param_laws, RefOf, u64, shr_vals, shr_Tells, lent_out, Stays, stay_dropped, walk_of, Goes-dropped, after, fm, seq_cst, found, finds, loads, shr_bor-open, obor_close, tokens_halve}
 use base.Share
-use Rattle.counted_cell.specs.Counting.{CanRead, Inv, shown, right_to, seen_by, ref_shares, reading_owns}
+use Rattle.counted_cell.specs.Counting.{CanRead, seen_by, ref_shares}
 use Rattle.counted_cell.specs.contracts.cell_ref.CellRef as cell_ref
 use Rattle.counted_cell.specs.contracts.cell_ref.Reading as reading
 use Rattle.counted_cell.proofs.CellRefFields.{word_of, Data, told, opened, seen_in, reading_word, Marks, marked}

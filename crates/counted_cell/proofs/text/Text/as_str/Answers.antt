@@ -1,4 +1,4 @@
-use Rattle.std.proofs.Common.{◌≡◌, ℕ, List, take, drop, length, map, sym, ap, ◌∙◌, subst}
+use Rattle.std.proofs.Common.{◌≡◌, ℕ, List, take, drop, map, sym, ap, ◌∙◌, subst}
 use Rattle.std.specs.Prelude.{Some, IsUtf8}
 use Rattle.counted_cell.specs.Text.{somes}
 use Rattle.counted_cell.specs.declared.text.Text.{Text}

@@ -1,4 +1,4 @@
-use Rattle.std.proofs.Common.{◌≡◌, ℕ, suc, ◌+◌, ◌<◌, List, length, map, replicate, sym, refl, ap, ◌∙◌, subst, arith, slice_index_or, slice_set}
+use Rattle.std.proofs.Common.{◌≡◌, ℕ, suc, ◌+◌, List, length, map, replicate, sym, refl, ap, ◌∙◌, subst, arith, slice_index_or, slice_set}
 use Rattle.std.specs.Prelude.{Option, None, Some, IsUtf8}
 use Rattle.counted_cell.specs.Text.{somes, begun}
 use Rattle.counted_cell.proofs.Begun.{begun-none, begun-all, begun-length, begun-next, begun-more, somes-map}
