@@ -1,10 +1,5 @@
-use Rattle.std.proofs.Common.{◌≡◌, ◌∙◌, ap, sym, subst, arith, ◌+◌, ◌∷◌, [], ◌++◌, take, List}
-use Rattle.std.proofs.lemmas.List.{take_more}
-use Rattle.string_cache_core.specs.declared.table.call.Call.{Call}
-use Rattle.string_cache_core.specs.declared.table.call.TableReply.{TableReply}
-use Rattle.string_cache_core.specs.Bounds.{Bounds}
+use Rattle.std.proofs.Common.{◌∙◌, arith, take}
 use Rattle.string_cache_core.specs.Kept.{map_of}
-use Rattle.string_cache_core.specs.Calls.{Answers, AnswersAll}
 use Rattle.string_cache_core.proofs.CallsKeep.{answers-fresh, fresh-more, held-given}
 use Rattle.string_cache_core.proofs.Runs.{replays-more, replays-grow}
 use Rattle.string_cache_core.proofs.WordsApart.{one-text-each}

@@ -1,7 +1,6 @@
-use Rattle.std.proofs.Common.{◌≡◌, Some, ◌∙◌, ap, sym, arith, ℕ, ◌+◌}
+use Rattle.std.proofs.Common.{◌≡◌, ◌∙◌, ap, sym, arith, ℕ, ◌+◌}
 use Rattle.std.specs.Prelude.{is_some}
 use Rattle.string_cache_core.specs.World.{Pass}
-use Rattle.string_cache_core.specs.Steps.{pass_of}
 use Rattle.string_cache_core.proofs.StepApart.{placed_in}
 use Rattle.string_cache_core.proofs.StepPlaces.{within}
 use Rattle.string_cache_core.proofs.StepLists.{at_one}
