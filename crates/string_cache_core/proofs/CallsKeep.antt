@@ -469,9 +469,6 @@ answers-fresh t limits m new (call.Clone word) answer sound (inr x) = fresh-same
 answers-fresh t limits m new (call.Give word) answer sound (inl x) = gives-fresh t limits m new word x.0
 answers-fresh t limits m new (call.Give word) answer sound (inr x) = fresh-same m new x.2
 
-pub fresh-start : (m : InternMap) → IsFresh m m
-fresh-start m ticket k = inl k
-
 -- one call after another
 pub fresh-more : (m mid new : InternMap) → ((bucket : ℕ) → m.last bucket ≤ mid.last bucket) → IsFresh m mid → IsFresh mid new → IsFresh m new
 fresh-more m mid new grow first second ticket k = elim (second ticket k) [
