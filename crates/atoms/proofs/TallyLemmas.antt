@@ -118,9 +118,6 @@ module _ {rest es : List (Bor (List ℕ) × (AtomValue × ℕ))} {e : Bor (List 
   pub own_rest : All IsOwn rest → All IsOwn es
   own_rest own = All-tail IsOwn e es (subst (All IsOwn) steps own)
 
-pub no_more : (word : List ℕ) (es : List (Bor (List ℕ) × (AtomValue × ℕ))) → es ≡ [] → amount word es ≡ 0
-no_more word es none = ap (amount word) none
-
 -- ---- the pieces joined are the words
 
 pub joined : (words : List (Bor (List ℕ))) (start : ℕ) (word : List ℕ)
