@@ -2,9 +2,9 @@
 use Rattle.std.proofs.Common.{◌≡◌, ℕ, ◌+◌, ◌/◌, ◌%◌, ◌^◌, ◌<◌, ◌≤◌, ◌==◌, Bool, true, false, List, [], ◌∷◌, ◌++◌, length, drop, sym, refl, ap, ◌∙◌, suc, zero, append_assoc, append-nil, arith, add-one}
 use Rattle.std.specs.Prelude.{Option, None, Some, slice_get, if◌then◌else◌}
 use Rattle.std.specs.Option.{option_map}
-use Rattle.std.proofs.lemmas.Bool.{eq-eqb, ne_eqb, eqb-true}
+use Rattle.std.proofs.lemmas.Bool.{eqb-true}
 use Rattle.string_cache.specs.Layout.{ticket_unit}
-use Rattle.string_cache.specs.Word.{IsTicket, IsTicketWord, ticket_of}
+use Rattle.string_cache.specs.Word.{IsTicketWord}
 use Rattle.string_cache.specs.World.{Entry, World}
 use Rattle.string_cache.specs.Steps.{entry_at}
 use Rattle.atoms.specs.Replay.{held_line, held_lines_from, serial_in}

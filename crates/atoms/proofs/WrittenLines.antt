@@ -1,5 +1,5 @@
 -- Lines that are written piece by piece.
-use Rattle.std.proofs.Common.{◌≡◌, ℕ, ◌+◌, ◌<◌, List, [], ◌∷◌, ◌++◌, length, drop, get_or, Option, sym, refl, ap, ◌∙◌, subst, append_assoc, append-nil, map}
+use Rattle.std.proofs.Common.{◌≡◌, ℕ, ◌+◌, ◌<◌, List, [], ◌∷◌, ◌++◌, length, drop, get_or, Option, sym, ap, ◌∙◌, append_assoc, append-nil}
 use Rattle.std.specs.List.{flat_map}
 use Rattle.std.specs.Io.KnownBytes.{Appends}
 use Rattle.std.proofs.lemmas.List.{drop_more}
@@ -7,7 +7,7 @@ use Rattle.string_cache.specs.AtomValue.{AtomValue}
 use Rattle.atoms.specs.CountLines.{count_line}
 use Rattle.atoms.specs.Streams.{AppendsBeginning}
 use Rattle.atoms.specs.WordCounts.{counted_texts}
-use Rattle.atoms.proofs.StreamLemmas.{appends_then, appends_nothing, keeps_same, beginning_then}
+use Rattle.atoms.proofs.StreamLemmas.{appends_then, beginning_then}
 
 -- of all lines some are written, some are pending, and the rest is to come
 pub record Written (old new : Option (List ℕ)) (all pending rest : List ℕ) : Type 0 where

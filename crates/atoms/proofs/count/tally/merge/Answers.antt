@@ -1,4 +1,4 @@
-use Rattle.std.proofs.Common.{arith, ap, sym, ◌∙◌, ◌+◌, ℕ, subst}
+use Rattle.std.proofs.Common.{ap, sym, ◌∙◌, ◌+◌, subst}
 use Rattle.std.specs.List.{All}
 use Rattle.atoms.specs.Tally.{number_of}
 use Rattle.atoms.proofs.TallyLemmas.{IsOwn, amount, amount_is_number, merge_fits, merge_step, own_first, own_rest}
