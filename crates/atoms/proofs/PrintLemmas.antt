@@ -2,22 +2,14 @@
 use Rattle.std.proofs.Common.{◌≡◌, ℕ, ◌+◌, ◌/◌, ◌%◌, ◌^◌, ◌<◌, ◌≤◌, ◌==◌, Bool, true, false, List, [], ◌∷◌, ◌++◌, length, drop, sym, refl, ap, ◌∙◌, suc, zero, append_assoc, append-nil, arith, add-one}
 use Rattle.std.specs.Prelude.{Option, None, Some, slice_get, if◌then◌else◌}
 use Rattle.std.specs.Option.{option_map}
-use Rattle.std.proofs.lemmas.Bool.{eq-eqb, ne_eqb, eqb-true}
+use Rattle.std.proofs.lemmas.Bool.{eqb-true}
 use Rattle.string_cache.specs.Layout.{ticket_unit}
-use Rattle.string_cache.specs.Word.{IsTicket, IsTicketWord, ticket_of}
+use Rattle.string_cache.specs.Word.{IsTicketWord}
 use Rattle.string_cache.specs.World.{Entry, World}
 use Rattle.string_cache.specs.Steps.{entry_at}
 use Rattle.atoms.specs.Replay.{held_line, held_lines_from, serial_in}
 
--- a ticket has its serial
-pub serial_in-ticket : (word serial bucket : ℕ) → IsTicket serial bucket → ticket_of serial bucket ≡ word → serial ≡ serial_in word
-serial_in-ticket word serial bucket range is = rw (eq-eqb (word % 4) 0 (omega (arith, is))) (omega (arith, is, range.2))
-
--- a word of another tag has none
-pub serial_in-tagged : (word : ℕ) → (word % 4 ≡ 0 → ⊥) → 0 ≡ serial_in word
-serial_in-tagged word other = rw (ne_eqb (word % 4) 0 other) refl
-
--- nor has a word that is no ticket
+-- a word that is no ticket has no serial
 pub serial_in-none : (word : ℕ) → word < 2 ^ 64 → ¬ (IsTicketWord word) → 0 ≡ serial_in word
 serial_in-none word small none = by_tag (word % 4 == 0) (λ e. no_serial (eqb-true (word % 4) 0 e) (word / ticket_unit) refl)
   where

@@ -1,11 +1,10 @@
 -- A tally after a word is counted, and two tallies merged.
-use Rattle.std.proofs.Common.{◌≡◌, ℕ, ◌+◌, ◌<◌, ◌≤◌, Bool, true, false, cond, List, [], ◌∷◌, ◌++◌, length, take, drop, map, ◌^◌, refl, sym, ap, ◌∙◌, subst, add-zero, arith, HashMap, get_or}
+use Rattle.std.proofs.Common.{◌≡◌, ℕ, ◌+◌, ◌<◌, Bool, true, false, cond, List, [], ◌∷◌, length, take, drop, ◌^◌, refl, sym, ap, ◌∙◌, subst, add-zero, arith, HashMap, get_or}
 use Rattle.std.specs.Prelude.{Option, Some, None}
 use Rattle.std.specs.Option.{option_map_or}
 use Rattle.std.specs.HashMap.{UpdatesBy, PutsEntry, get_by}
 use Rattle.std.specs.Cmp.Lexicographic.{bytes_decides, nat_list_eq_equiv}
-use Rattle.std.specs.List.{All, AllByRecursion, IsDistinct, sum_by, count_by}
-use Rattle.std.specs.List.Sorted.{IsPermutation}
+use Rattle.std.specs.List.{All, AllByRecursion, IsDistinct, sum_by}
 use Rattle.std.specs.Map.{keys_of, lookup, set_value}
 use Rattle.std.specs.Str.{bytes_eq}
 use Rattle.std.proofs.lemmas.List.{map-append, take-append-drop, take_more, length-map}
@@ -117,9 +116,6 @@ module _ {rest es : List (Bor (List ℕ) × (AtomValue × ℕ))} {e : Bor (List 
 
   pub own_rest : All IsOwn rest → All IsOwn es
   own_rest own = All-tail IsOwn e es (subst (All IsOwn) steps own)
-
-pub no_more : (word : List ℕ) (es : List (Bor (List ℕ) × (AtomValue × ℕ))) → es ≡ [] → amount word es ≡ 0
-no_more word es none = ap (amount word) none
 
 -- ---- the pieces joined are the words
 

@@ -1,17 +1,16 @@
 -- The counts of words: their order, their members and their total; and what determines them.
 use Rattle.std.proofs.Common.{◌≡◌, ℕ, ◌+◌, ◌<◌, Bool, T, true, false, cond, ◌||◌, ◌&&◌, List, [], ◌∷◌, length, map, refl, sym, ap, ◌∙◌, subst, arith, ◌↔◌, BTreeMap, HashMap, is_eq, is_lt, Ordering, Less, Equal, Greater}
 use Rattle.std.specs.Prelude.{Option, Some, None, Result, Ok, Err, IfOk, unwrap_or}
-use Rattle.std.specs.BTreeMap.{get, IsFromIterResult}
+use Rattle.std.specs.BTreeMap.{IsFromIterResult}
 use Rattle.std.specs.FinMap.Entries.{same_entries, find, is_sorted, below_all}
 use Rattle.std.specs.BTreeSet.{insert_key}
 use Rattle.std.specs.Cmp.{eq_by_cmp_equiv, IsTotalOrder}
 use Rattle.std.specs.Cmp.Lexicographic.{slice_cmp, bytes_decides, nat_list_eq_equiv, nat_list_cmp_total, on_texts}
-use Rattle.std.specs.List.{All, AllByRecursion, Contains, IsDistinct, list_any, sum, sum_by, count_by}
+use Rattle.std.specs.List.{All, AllByRecursion, Contains, IsDistinct, list_any, sum, sum_by}
 use Rattle.std.specs.List.Sorted.{IsStrictlySortedBy}
 use Rattle.std.specs.Map.{keys_of, values_of, lookup}
-use Rattle.std.specs.Option.{option_map_or, option_map, IfSome}
+use Rattle.std.specs.Option.{option_map, IfSome}
 use Rattle.std.specs.Ordering.{nat_cmp, match_ordering, eq_by_cmp, ordering_reverse}
-use Rattle.std.specs.Set.{is_member}
 use Rattle.std.specs.Str.{bytes_eq}
 use Rattle.std.proofs.lemmas.List.Elements.{All-head, All-tail, All-cons, All-nil}
 use Rattle.std.proofs.lemmas.List.Sums.{sum_by-cons}

@@ -1,5 +1,5 @@
 -- Lines that are written piece by piece.
-use Rattle.std.proofs.Common.{◌≡◌, ℕ, ◌+◌, ◌<◌, List, [], ◌∷◌, ◌++◌, length, drop, get_or, Option, sym, refl, ap, ◌∙◌, subst, append_assoc, append-nil, map}
+use Rattle.std.proofs.Common.{◌≡◌, ℕ, ◌+◌, ◌<◌, List, [], ◌∷◌, ◌++◌, length, drop, get_or, Option, sym, ap, ◌∙◌, append_assoc, append-nil}
 use Rattle.std.specs.List.{flat_map}
 use Rattle.std.specs.Io.KnownBytes.{Appends}
 use Rattle.std.proofs.lemmas.List.{drop_more}
@@ -7,16 +7,13 @@ use Rattle.string_cache.specs.AtomValue.{AtomValue}
 use Rattle.atoms.specs.CountLines.{count_line}
 use Rattle.atoms.specs.Streams.{AppendsBeginning}
 use Rattle.atoms.specs.WordCounts.{counted_texts}
-use Rattle.atoms.proofs.StreamLemmas.{appends_then, appends_nothing, keeps_same, beginning_then}
+use Rattle.atoms.proofs.StreamLemmas.{appends_then, beginning_then}
 
 -- of all lines some are written, some are pending, and the rest is to come
 pub record Written (old new : Option (List ℕ)) (all pending rest : List ℕ) : Type 0 where
   pub written : List ℕ
   pub appended : Appends old new written
   pub whole : all ≡ (written ++ pending) ++ rest
-
-pub written_begins : (old : Option (List ℕ)) (all : List ℕ) → Written old old all [] all
-written_begins old all = record { written = []; appended = appends_nothing old old (keeps_same old); whole = refl }
 
 module _ {old new : Option (List ℕ)} {all pending rest : List ℕ} (p : Written old new all pending rest) where
   -- one more line is pending
@@ -40,12 +37,6 @@ module _ {old new : Option (List ℕ)} {all pending rest : List ℕ} (p : Writte
   -- what was written is a beginning, also with a beginning of what is pending
   pub lines_begun : (new' : Option (List ℕ)) → AppendsBeginning new new' pending → AppendsBeginning old new' all
   lines_begun new' more = beginning_then old new new' p.written pending rest all p.appended more p.whole
-
-  -- the last of them
-  pub lines_written : (new' : Option (List ℕ)) → rest ≡ [] → Appends new new' pending → Appends old new' all
-  lines_written new' none more =
-      subst (λ v. Appends old new' v) (sym (p.whole ∙ ap (λ v. (p.written ++ pending) ++ v) none ∙ append-nil (p.written ++ pending)))
-      (appends_then old new new' p.written pending p.appended more)
 
 -- the lines from a place on
 pub line_at : (counts : List (AtomValue × ℕ)) (i : ℕ) (item : AtomValue × ℕ) → i < length counts → item ≡ get_or counts i item

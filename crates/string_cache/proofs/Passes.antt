@@ -1,5 +1,5 @@
 -- How a pass goes on by one entry.
-use Rattle.std.proofs.Common.{◌≡◌, ◌≢◌, ℕ, ◌<◌, List, [], ◌∷◌, ◌++◌, map, Bool, true, false, length, refl, sym, ◌∙◌, ap, subst, arith, append_assoc}
+use Rattle.std.proofs.Common.{◌≡◌, ◌≢◌, ℕ, List, [], ◌∷◌, ◌++◌, map, Bool, true, false, refl, sym, ◌∙◌, ap, subst, append_assoc}
 use Rattle.std.proofs.lemmas.List.{append-nil}
 use Rattle.std.specs.List.{AllByRecursion}
 use Rattle.std.specs.Prelude.{Option, Some, None}
@@ -23,12 +23,6 @@ kept_next w u e rest at is = is ∙ ap (passed_by w) at
 pub out_next : (w u : Walked Linked) (e : Linked) (rest : List Linked) → w.left ≡ e ∷ rest → u ≡ taken_out w w.left → u ≡ record { passed = w.passed; left = rest }
 out_next w u e rest at is = is ∙ ap (taken_out w) at
 
-pub shorter_kept : (w u : Walked Linked) (e : Linked) (rest : List Linked) → w.left ≡ e ∷ rest → u ≡ passed_by w w.left → length u.left < length w.left
-shorter_kept w u e rest at is = rw (kept_next w u e rest at is, at) (omega arith)
-
-pub shorter_out : (w u : Walked Linked) (e : Linked) (rest : List Linked) → w.left ≡ e ∷ rest → u ≡ taken_out w w.left → length u.left < length w.left
-shorter_out w u e rest at is = rw (out_next w u e rest at is, at) (omega arith)
-
 -- what holds of all that is left
 pub all_first : (P : Linked → Type 0) (w : Walked Linked) (e : Linked) (rest : List Linked) → w.left ≡ e ∷ rest → AllByRecursion P w.left → P e
 all_first P w e rest at all = let both : AllByRecursion P (e ∷ rest) = subst (AllByRecursion P) at all in both.0
@@ -47,21 +41,6 @@ module _ {C S : Type 0} (adds : C → Linked → CountReply S → C → Type 0) 
   -- whatever a pass answers and leaves from here on, it does from the start on
   abbrev pub Goes : Option (List ℕ) → C → Walked Linked → C → Walked Linked → Type 0
   Goes wanted c w m u = (answer : Pass S) (d : C) (v : Walked Linked) → IsPassLeft adds dies wanted m u answer d v → IsPassLeft adds dies wanted c w answer d v
-
-  -- no entry is left
-  pub pass_ends : (wanted : Option (List ℕ)) (c : C) (w : Walked Linked) → w.left ≡ [] → IsPassLeft adds dies wanted c w pass.Absent c w
-  pass_ends wanted c w at = record {
-    after = [];
-    pass = record {
-      replies = [];
-      given = subst (λ l. Replied adds dies c l [] c) (sym at) refl;
-      asked = subst (λ l. Asked {S = S} wanted (texts_of l) []) (sym at) tt;
-      answers = refl;
-      left = ap (λ l. kept {S = S} l []) (sym at);
-    };
-    passed = sym (append-nil w.passed);
-    none = at;
-  }
 
   -- one reply more at the front
   module _ (wanted then : Option (List ℕ)) (c m : C) (w u : Walked Linked) (e : Linked) (rest : List Linked) (r : Reply S) (answer after_it : Pass S) where

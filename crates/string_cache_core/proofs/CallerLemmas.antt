@@ -1,5 +1,5 @@
 -- What callers of a table cite beside its contracts.
-use Rattle.std.proofs.Common.{◌≡◌, ◌∙◌, sym, subst, refl, ℕ, ◌≤◌, inl, inr, List, [], ◌∷◌, ◌++◌, length, nat_lt, false}
+use Rattle.std.proofs.Common.{◌≡◌, sym, subst, refl, ℕ, inl, inr, List, [], ◌∷◌, ◌++◌, length, nat_lt, false}
 use Rattle.std.specs.Str.{IsUtf8}
 use Rattle.std.proofs.lemmas.Bool.{le-ltb}
 use Rattle.string_cache_core.specs.declared.static_sets.TextForm.{TextForm}

@@ -1,5 +1,5 @@
 -- What the calls of a table keep of its words, and what they add.
-use Rattle.std.proofs.Common.{◌≡◌, ◌∙◌, ap, sym, subst, refl, arith, ℕ, zero, suc, ◌+◌, ◌-◌, ◌%◌, ◌<◌, ◌≤◌, ◌≢◌, ◌⊎◌, inl, inr, Bool, true, false, cond, List, [], ◌∷◌, ◌++◌, length, Option, None, Some, Result, Ok, Err, true≢false, nat_lt, unwrap_or}
+use Rattle.std.proofs.Common.{◌≡◌, ◌∙◌, ap, sym, subst, refl, arith, ℕ, zero, suc, ◌+◌, ◌-◌, ◌%◌, ◌<◌, ◌≤◌, ◌≢◌, ◌⊎◌, inl, inr, false, cond, List, [], ◌∷◌, ◌++◌, length, Option, None, Some, Result, Ok, Err, true≢false, nat_lt}
 use Rattle.std.specs.Prelude.{◌==◌, count_by, IfOk, string_bytes}
 use Rattle.std.specs.Str.{IsUtf8, bytes_eq}
 use Rattle.std.proofs.lemmas.Bool.{cases_Bool, eqb-true, eq-eqb, le-ltb, ltb-false}
@@ -13,7 +13,7 @@ use Rattle.string_cache_core.specs.declared.table.call.Call.TheVariants as call
 use Rattle.string_cache_core.specs.declared.table.call.TableReply.{TableReply}
 use Rattle.string_cache_core.specs.Calls.{Answers}
 use Rattle.string_cache_core.specs.declared.static_sets.TextForm.TheVariants as form
-use Rattle.string_cache_core.specs.Map.{Holding, InternMap, IsHeldTicket, MapReply, MayAdd, MayIntern, with_held, with_last, one_less, unless_given_up, bucket_in}
+use Rattle.string_cache_core.specs.Map.{Holding, InternMap, IsHeldTicket, MapReply, MayIntern, with_held, with_last, one_less, unless_given_up, bucket_in}
 use Rattle.string_cache_core.specs.Kept.{IsSoundMap}
 use Rattle.string_cache_core.specs.Table.{as_word, InternsBy, Interns, Clones, Gives, IsTextOf, IsFixedWord, IsHeld, IsHeldBy, AreHeld, HasWordBy, HasWord, KeepsWord, IsGivenTicket, IsNewTicket}
 use Rattle.string_cache_core.specs.Tables.{Tables, form_of_text, fixed_word, entry_hash, place_in, text_at}
@@ -468,9 +468,6 @@ answers-fresh t limits m new (call.Clone word) answer sound (inl x) = clones-fre
 answers-fresh t limits m new (call.Clone word) answer sound (inr x) = fresh-same m new x.2
 answers-fresh t limits m new (call.Give word) answer sound (inl x) = gives-fresh t limits m new word x.0
 answers-fresh t limits m new (call.Give word) answer sound (inr x) = fresh-same m new x.2
-
-pub fresh-start : (m : InternMap) → IsFresh m m
-fresh-start m ticket k = inl k
 
 -- one call after another
 pub fresh-more : (m mid new : InternMap) → ((bucket : ℕ) → m.last bucket ≤ mid.last bucket) → IsFresh m mid → IsFresh mid new → IsFresh m new

@@ -36,14 +36,14 @@ fresh t lasts pairs bucket given below at h =
     let upto = g.given in
     omega (arith, last, upto, same.1)
 
-module _ {Y S : Type 0} (m r n : HashMap (String Y) Holding S) (key : String Y) (text : List ℕ) (v : Holding)
+module _ {Y S : Type 0} (m r n : HashMap (String Y) Holding S) (key : String Y) (text : List ℕ) (new v : Holding) (is : new ≡ v)
     (reserved : r.entries ≡ m.entries) (spells : string_bytes key ≡ text) (absent : lookup (bytes_eq text) (pairs_of m.entries) ≡ None)
-    (inserted : n.entries ≡ insert_entry string_eq r.entries key v) where
+    (inserted : n.entries ≡ insert_entry string_eq r.entries key new) where
   pub pairs-pushed : pairs_of n.entries ≡ pairs_of m.entries ++ (text, v) ∷ []
   pairs-pushed =
       let none : get string_eq r key ≡ None =
       ap (λ (es : List (String Y × Holding)). lookup (string_eq key) es) reserved ∙ sym (lookup-pairs (string_bytes key) m.entries) ∙ ap (λ t. lookup (bytes_eq t) (pairs_of m.entries)) spells ∙ absent in
-      ap pairs_of (inserted ∙ insert_entry-new string_eq r key v none ∙ ap (λ (es : List (String Y × Holding)). es ++ (key, v) ∷ []) reserved)
+      ap pairs_of (inserted ∙ ap (insert_entry string_eq r.entries key) is ∙ insert_entry-new string_eq r key v none ∙ ap (λ (es : List (String Y × Holding)). es ++ (key, v) ∷ []) reserved)
       ∙ map-append (λ (e : String Y × Holding). (string_bytes e.0, e.1)) m.entries ((key, v) ∷ [])
       ∙ ap (λ t. pairs_of m.entries ++ (t, v) ∷ []) spells
 

@@ -40,7 +40,7 @@ is-nowhere (x ∷ xs) ticket none = elim (cases_Bool (nat_eq ticket x)) [
 ]
 
 -- the ticket that a look-up finds is the one that was looked for
-pub found-ticket : (tickets : List ℕ) (ticket stored : ℕ) → find (nat_eq ticket) tickets ≡ Some stored → stored ≡ ticket
+found-ticket : (tickets : List ℕ) (ticket stored : ℕ) → find (nat_eq ticket) tickets ≡ Some stored → stored ≡ ticket
 found-ticket [] ticket stored e = absurd (none_some e)
 found-ticket (x ∷ xs) ticket stored e = elim (cases_Bool (nat_eq ticket x)) [
   | inl same ↦ sym (the_same _ _ (sym (ap (λ b. cond b (Some x) (find (nat_eq ticket) xs)) same) ∙ e)) ∙ sym (eqb-true ticket x same)
@@ -85,8 +85,9 @@ module _ (t : Tables) (lasts : List ℕ) (pairs : List Pair) (tickets : List ℕ
   }
 
 module _ {Y : Type 0} (t : Tables) (limits : Bounds) (lasts : List ℕ) (es : List (String Y × Holding)) (tickets : List ℕ) (bytes : ℕ) (kept : IsKeptTable t lasts (pairs_of es) tickets bytes) (distinct : IsDistinct string_eq (keys_of es)) where
-  pub is-placed : (ticket at : ℕ) → slice_get tickets at ≡ Some ticket → IsPlace (record { limits = limits; lasts = lasts; pairs = pairs_of es }) ticket at
-  is-placed ticket at h =
+  pub is-placed : (ticket at stored : ℕ) → slice_get tickets at ≡ Some stored → Some stored ≡ find (nat_eq ticket) tickets → IsPlace (record { limits = limits; lasts = lasts; pairs = pairs_of es }) ticket at
+  is-placed ticket at stored there found =
+      let h : slice_get tickets at ≡ Some ticket = there ∙ ap (λ (n : ℕ). Some n) (found-ticket tickets ticket stored (sym found)) in
       let p = pair_of_ticket (pairs_of es) at ticket (ap (λ ts. slice_get ts at) (sym kept.index) ∙ h) in
       record {
         text = p.0;

@@ -1,7 +1,8 @@
 -- A run, call by call.
-use Rattle.std.proofs.Common.{◌≡◌, ◌∙◌, ap, subst, refl, List, [], ◌∷◌, ◌++◌, ℕ, ◌+◌, ◌≤◌, ◌⊎◌, inl, inr, true, false, cond, Option, None, Some, Result, arith}
+use Rattle.std.proofs.Common.{◌≡◌, ◌∙◌, ap, sym, subst, refl, List, [], ◌∷◌, ◌++◌, length, take, get_or, ℕ, ◌+◌, ◌<◌, ◌≤◌, ◌⊎◌, inl, inr, true, false, cond, Option, None, Some, Result, arith}
 use Rattle.std.specs.Prelude.{◌==◌, if◌then◌else◌, string_bytes}
 use Rattle.std.proofs.lemmas.Bool.{cases_Bool, eqb-true}
+use Rattle.std.proofs.lemmas.List.{take_more}
 use Rattle.string_cache_core.specs.declared.faults.Fault.{Fault}
 use Rattle.string_cache_core.specs.declared.table.call.Call.{Call}
 use Rattle.string_cache_core.specs.declared.table.call.Call.TheVariants as call
@@ -13,12 +14,22 @@ use Rattle.string_cache_core.specs.Table.{InternsBy, Clones, Gives}
 use Rattle.string_cache_core.specs.Tables.{Tables, form_of_text, fixed_word}
 
 -- one call more, at the end
-pub replays-push : (t : Tables) (limits : Bounds) (m mid new : InternMap) (calls : List Call) (answers : List TableReply) (c : Call) (answer : TableReply)
+replays-push : (t : Tables) (limits : Bounds) (m mid new : InternMap) (calls : List Call) (answers : List TableReply) (c : Call) (answer : TableReply)
     → AnswersAll t limits m calls answers mid → Answers t limits mid c answer new → AnswersAll t limits m (calls ++ c ∷ []) (answers ++ answer ∷ []) new
 replays-push t limits m mid new [] [] c answer h a = (new, subst (λ (k : InternMap). Answers t limits k c answer new) h a, refl)
 replays-push t limits m mid new [] (r ∷ rs) c answer h a = absurd h
 replays-push t limits m mid new (d ∷ ds) [] c answer h a = absurd h
 replays-push t limits m mid new (d ∷ ds) (r ∷ rs) c answer h a = (h.0, h.1, replays-push t limits h.0 mid new ds rs c answer h.2 a)
+
+-- the calls so far, and the next
+pub replays-more : (t : Tables) (limits own : Bounds) (m mid new : InternMap) (calls : List Call) (i : ℕ) (answers after : List TableReply) (c : Call) (answer : TableReply)
+    → i < length calls → c ≡ get_or calls i c → after ≡ answers ++ answer ∷ [] → own ≡ limits → AnswersAll t limits m (take i calls) answers mid → Answers t own mid c answer new
+    → AnswersAll t limits m (take (i + 1) calls) after new
+replays-more t limits own m mid new calls i answers after c answer within is pushed same so_far a =
+    let step : take (i + 1) calls ≡ take i calls ++ c ∷ [] = take_more calls i c within ∙ ap (λ (x : Call). take i calls ++ x ∷ []) (sym is) in
+    let next = replays-push t limits m mid new (take i calls) answers c answer so_far (subst (λ (l : Bounds). Answers t l mid c answer new) same a) in
+    subst (λ (rs : List TableReply). AnswersAll t limits m (take (i + 1) calls) rs new) (sym pushed)
+    (subst (λ (cs : List Call). AnswersAll t limits m cs (answers ++ answer ∷ []) new) (sym step) next)
 
 -- ---- no call takes a last serial back
 

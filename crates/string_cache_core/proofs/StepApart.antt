@@ -267,9 +267,11 @@ module _ (tables : Tables) where
     ]
 
   -- an entry of the text that a pass wants stands in the pass's bucket
-  pub placed_in : (w : World) → SoundWorld tables w → (party : ℕ) (pass : Pass) (text : List ℕ) → pass_of w party ≡ Some pass → pass.wanted ≡ Some text
+  pub placed_in : (w : World) → SoundWorld tables w → (party : ℕ) (pass found : Pass) (text : List ℕ) → pass_of w party ≡ Some found → pass ≡ found → pass.wanted ≡ Some text
       → (k : ℕ) (x : Entry) → At w.entries k x → x.text ≡ text → x.bucket ≡ pass.bucket
-  placed_in w held party pass text found wanted k x at is = held.placed k x at ∙ ap (bucket_of tables (length w.lasts)) is ∙ sym (right_pass w held party pass text found wanted)
+  placed_in w held party pass found text there same wanted k x at is =
+      let at_place : pass_of w party ≡ Some pass = there ∙ ap (λ (q : Pass). Some q) (sym same) in
+      held.placed k x at ∙ ap (bucket_of tables (length w.lasts)) is ∙ sym (right_pass w held party pass text at_place wanted)
 
   pub held_by : (w : World) → SoundWorld tables w → (e : Event) (mid : World) → step tables w e.party e.does ≡ (e.reply, mid) → SoundWorld tables mid
   held_by w held e mid does =

@@ -86,11 +86,11 @@ module _ (tables : Tables) (w : World) (party : ℕ) (text : List ℕ) where
     bucket_is : bucket ≡ bucket_of tables (length w.lasts) text
     bucket_is = right ∙ ap (λ (n : ℕ). n % length w.lasts) (hash_is tables text hash is)
 
-    pub intern_taken : (is_none (pass_of w party) && is_free w bucket) ≡ true → (wanted : Option (List ℕ)) → wanted ≡ Some text → (new : World) → new ≡ (take_bucket w party bucket wanted).1 → Intern reply.Taken new
+    pub intern_taken : (idle : Bool) → idle ≡ (is_none (pass_of w party) && is_free w bucket) → idle ≡ true → (wanted : Option (List ℕ)) → wanted ≡ Some text → (new : World) → new ≡ (take_bucket w party bucket wanted).1 → Intern reply.Taken new
     unfolding take_bucket
-    intern_taken h wanted same new e =
+    intern_taken idle told holds wanted same new e =
         test_holds _ _ _ (and_three (is_none (pass_of w party)) (is_dynamic tables text) (is_free w (bucket_of tables (length w.lasts) text)) (ap is_dynamic_form is)
-        (ap (λ (m : ℕ). is_none (pass_of w party) && is_free w m) (sym bucket_is) ∙ h))
+        (ap (λ (m : ℕ). is_none (pass_of w party) && is_free w m) (sym bucket_is) ∙ sym told ∙ holds))
         ∙ replied reply.Taken _ new (ap (λ (m : ℕ). (take_bucket w party m (Some text)).1) (sym bucket_is) ∙ ap (λ (o : Option (List ℕ)). (take_bucket w party bucket o).1) (sym same) ∙ sym e)
 
 -- ---- a step whose reply doesn't depend on the tables

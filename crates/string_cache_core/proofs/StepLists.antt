@@ -1,7 +1,7 @@
 -- Facts about lists and tests that the proofs on steps use.
 use Rattle.std.proofs.Common.{◌≡◌, ℕ, ◌+◌, ◌<◌, ◌≢◌, ◌⊎◌, inl, inr, Bool, true, false, cond, not, List, [], ◌∷◌, ◌++◌, length, get_or, Option, None, Some, refl, sym, ap, ◌∙◌, subst, arith, zero, suc}
 use Rattle.std.specs.Prelude.{slice_set, ◌==◌, ◌||◌}
-use Rattle.std.specs.List.{find, filter, list_all, enumerate_from, AllByRecursion}
+use Rattle.std.specs.List.{find, list_all, enumerate_from, AllByRecursion}
 use Rattle.std.specs.Option.{unwrap_or}
 use Rattle.std.proofs.lemmas.Bool.{and_parts, and_from, or_cases, false_from_ne_true, eqb-true, eq-eqb, cases_Bool}
 use Rattle.std.proofs.lemmas.List.Sums.{sum_by-cons}
@@ -105,13 +105,6 @@ module _ {X : Type 0} where
   pub all_push : (P : X → Type 0) (xs : List X) (y : X) → AllByRecursion P xs → P y → AllByRecursion P (xs ++ y ∷ [])
   all_push P [] y all py = (py, tt)
   all_push P (z ∷ xs) y all py = (all.0, all_push P xs y all.1 py)
-
-  pub all_filter : (P : X → Type 0) (p : X → Bool) (xs : List X) → AllByRecursion P xs → AllByRecursion P (filter p xs)
-  all_filter P p [] all = all
-  all_filter P p (z ∷ xs) all =
-      if_case (λ ys. AllByRecursion P ys) (p z) (z ∷ filter p xs) (filter p xs)
-      (λ pz. (all.0, all_filter P p xs all.1))
-      (λ pz. all_filter P p xs all.1)
 
   pub all_weaker : (P Q : X → Type 0) → ((x : X) → P x → Q x) → (xs : List X) → AllByRecursion P xs → AllByRecursion Q xs
   all_weaker P Q h [] all = all

@@ -57,15 +57,15 @@ module _ (tables : Tables) where
   events_lead w (s ∷ script) zero = refl
   events_lead w (s ∷ script) (suc i) = ((step tables w s.0 s.1).1, refl, events_lead (step tables w s.0 s.1).1 script i)
 
-  pub has_run : (w : World) (script : Script) (before after : List StepReply) (new : World) (i : ℕ) → i ≤ length script → after ≡ before ++ replies_of tables w (take i script) → new ≡ world_after tables w (take i script)
-      → HasRun tables w script before after new
-  has_run w script before after new i h e r =
+  pub has_run : (w : World) (script : Script) (before out after : List StepReply) (mid new : World) (i : ℕ) → i ≤ length script
+      → after ≡ out → out ≡ before ++ replies_of tables w (take i script) → new ≡ mid → mid ≡ world_after tables w (take i script) → HasRun tables w script before after new
+  has_run w script before out after mid new i h same e still r =
       let events = events_of script (replies_of tables w (take i script)) in
-      let leads : Leads tables w events new = subst (λ (v : World). Leads tables w events v) (sym r) (events_lead w script i) in
+      let leads : Leads tables w events new = subst (λ (v : World). Leads tables w events v) (sym (still ∙ r)) (events_lead w script i) in
       let count = length-replies_of w (take i script) ∙ length-take-le i script h in
       record {
         appended = replies_of tables w (take i script);
-        is = e;
+        is = same ∙ e;
         one_each = omega (arith, count, h);
         leads = leads;
         sound = λ limits n earlier some few came. every_run tables limits n (earlier ++ events) new some few (leads-join tables (opening limits n) w new earlier events came leads);
@@ -82,8 +82,8 @@ module _ (tables : Tables) where
     pub reached_more : new ≡ world_after tables w (take (i + 1) script)
     reached_more = sym (ap (world_after tables w) (next script i s h is) ∙ world_after-append w (take i script) (s ∷ []) ∙ ap (λ (o : StepReply × World). o.1) made)
 
-    pub replied_more : (before out after : List StepReply) → out ≡ before ++ replies_of tables w (take i script) → after ≡ out ++ reply ∷ [] → after ≡ before ++ replies_of tables w (take (i + 1) script)
-    replied_more before out after e f =
-        f ∙ ap (λ (rs : List StepReply). rs ++ reply ∷ []) e ∙ append_assoc before (replies_of tables w (take i script)) (reply ∷ [])
+    pub replied_more : (before out reserved after : List StepReply) → out ≡ before ++ replies_of tables w (take i script) → reserved ≡ out → after ≡ reserved ++ reply ∷ [] → after ≡ before ++ replies_of tables w (take (i + 1) script)
+    replied_more before out reserved after e same f =
+        f ∙ ap (λ (rs : List StepReply). rs ++ reply ∷ []) (same ∙ e) ∙ append_assoc before (replies_of tables w (take i script)) (reply ∷ [])
         ∙ ap (λ (rs : List StepReply). before ++ rs)
         (sym (ap (replies_of tables w) (next script i s h is) ∙ replies_of-append w (take i script) (s ∷ []) ∙ ap (λ (o : StepReply × World). replies_of tables w (take i script) ++ o.0 ∷ []) made))

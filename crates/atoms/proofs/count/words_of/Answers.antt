@@ -1,7 +1,6 @@
-use Rattle.std.proofs.Common.{ap, sym, ◌∙◌, ◌≡◌, ◌∷◌, ◌++◌, []}
+use Rattle.std.proofs.Common.{ap, ◌∙◌}
 use Rattle.std.proofs.lemmas.List.{map-append}
 use Rattle.std.specs.Str.Iter.{split_whitespace_rest}
-use Rattle.atoms.specs.WordCounts.{word_texts}
 use Rattle.atoms.proofs.CutWords.{cutting_begins, cut_next, cut_ends}
 use Rattle.atoms.proofs.WordLemmas.{word_comes_off}
 use Rattle.atoms.proofs.count.words_of.Goals as goal

@@ -1,4 +1,4 @@
-use Rattle.std.proofs.Common.{◌≡◌, ◌∙◌, length, refl, arith}
+use Rattle.std.proofs.Common.{◌∙◌, length, refl}
 use Rattle.string_cache_core.proofs.SipWords.{last_word}
 use Rattle.string_cache_core.proofs.phf.short_word.Goals as goal
 

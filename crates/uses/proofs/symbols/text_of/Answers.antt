@@ -1,4 +1,4 @@
-use Rattle.std.proofs.Common.{◌≡◌, ℕ, List, inl, inr, sym}
+use Rattle.std.proofs.Common.{ℕ, List, inl, inr, sym}
 use Rattle.std.proofs.lemmas.Bool.{false≢true}
 use Rattle.string_cache_core.specs.Kept.{map_of}
 use Rattle.string_cache_core.specs.Map.{InternMap}

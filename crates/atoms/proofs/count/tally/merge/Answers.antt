@@ -1,7 +1,7 @@
-use Rattle.std.proofs.Common.{arith, ap, sym, ◌∙◌, ◌+◌, ℕ, subst}
+use Rattle.std.proofs.Common.{ap, sym, ◌∙◌, ◌+◌, subst}
 use Rattle.std.specs.List.{All}
 use Rattle.atoms.specs.Tally.{number_of}
-use Rattle.atoms.proofs.TallyLemmas.{IsOwn, amount, amount_is_number, merge_fits, merge_step, own_first, own_rest, no_more}
+use Rattle.atoms.proofs.TallyLemmas.{IsOwn, amount, amount_is_number, merge_fits, merge_step, own_first, own_rest}
 use Rattle.atoms.proofs.count.tally.merge.Goals as goal
 
 pub loop-word-init : goal.loop-word-init

@@ -1,4 +1,4 @@
-use Rattle.std.proofs.Common.{arith, rules, ap, sym, ◌∙◌, ◌≡◌, ◌+◌, ◌*◌, ◌/◌, ◌<◌, ◌^◌, ℕ, drop, take, length, subst}
+use Rattle.std.proofs.Common.{arith, rules, ap, sym, ◌∙◌, ◌≡◌, ◌*◌, ◌/◌, drop, take, length, subst}
 use Rattle.std.proofs.lemmas.Grind.{common_steps}
 use Rattle.atoms.specs.Tally.{IsTallyOf}
 use Rattle.atoms.specs.WordCounts.{word_texts}

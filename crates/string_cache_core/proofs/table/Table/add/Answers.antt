@@ -3,9 +3,7 @@ use Rattle.std.specs.Prelude.{slice_set, string_bytes}
 use Rattle.std.specs.Bool.{nat_eq}
 use Rattle.std.specs.Map.{lookup}
 use Rattle.std.specs.Str.{bytes_eq}
-use Rattle.std.specs.String.{string_eq}
 use Rattle.std.proofs.lemmas.List.{length-map}
-use Rattle.indexmap.specs.IndexMap.{insert_entry}
 use Rattle.indexmap.specs.IndexSet.{insert_key}
 use Rattle.string_cache_core.specs.Map.{Holding, with_held, with_last}
 use Rattle.string_cache_core.specs.Tables.{entry_hash}
@@ -41,8 +39,8 @@ invariant_of-self-2 g c =
     let first : Holding = record { ticket = ticket_of c.args.serial c.args.bucket; holders = 1 } in
     let is : c.new.result ≡ first = c.new.ensures ∙ ap (λ (t : ℕ). let h : Holding = record { ticket = t; holders = 1 } in h) c.ticket_word-ticket.ensures in
     let absent = ap (λ (kept : Kept). lookup (bytes_eq c.args.text.now) kept.pairs) c.self.view_is ∙ c.requires.absent in
-    let pushed = pairs-pushed c.self.inside.entries c.reserve.new.self c.insert.new.self c.in_ok-key.key c.args.text.now first
-    c.in_ok-reserve.ensures.entries c.in_ok-key.ensures.ok absent (c.in-Ok.ensures.entries ∙ ap (insert_entry string_eq c.reserve.new.self.entries c.in_ok-key.key) is) in
+    let pushed = pairs-pushed c.self.inside.entries c.reserve.new.self c.insert.new.self c.in_ok-key.key c.args.text.now c.new.result first is
+    c.in_ok-reserve.ensures.entries c.in_ok-key.ensures.ok absent c.in-Ok.ensures.entries in
     let small = text-fits c.in_ok-key.key c.args.text.now c.in_ok-key.ensures.ok in
     let inserted = c.in-Ok-insert.ensures.keys ∙ ap (λ ks. insert_key nat_eq ks c.ticket_word-ticket.result) c.in_ok-reserve-2.ensures.keys
     ∙ ap (insert_key nat_eq c.self.inside.tickets.keys) c.ticket_word-ticket.ensures in

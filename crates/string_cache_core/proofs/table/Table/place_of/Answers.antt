@@ -1,8 +1,8 @@
-use Rattle.std.proofs.Common.{◌∙◌, ap, sym, subst, rules, ℕ, Some}
+use Rattle.std.proofs.Common.{sym, subst, rules}
 use Rattle.string_cache_core.specs.Map.{IsHeldTicket}
 use Rattle.string_cache_core.specs.Kept.{Kept, map_of}
 use Rattle.string_cache_core.specs.Places.{IsPlace}
-use Rattle.string_cache_core.proofs.KeptTickets.{found-ticket, not-placed, is-placed}
+use Rattle.string_cache_core.proofs.KeptTickets.{not-placed, is-placed}
 use Rattle.string_cache_core.proofs.table.Table.place_of.Goals as goal
 
 pub returns-in_err-at : goal.returns-in_err-at
@@ -14,7 +14,5 @@ returns-in_err-at g c =
 
 pub returns : goal.returns
 returns g c =
-    let stored = c.in_ok-at.field-0-1.now in
-    let there = c.in_ok-at.ensures.stored ∙ ap (λ (n : ℕ). Some n) (found-ticket c.self.inside.tickets.keys c.args.ticket stored (sym c.in_ok-at.ensures.key)) in
     subst (λ (kept : Kept). IsPlace kept c.args.ticket c.in_ok-at.at) c.self.view_is
-    (is-placed g.S.StaticAtomSet.tables c.self.inside.limits c.self.inside.lasts.items c.self.inside.entries.entries c.self.inside.tickets.keys c.self.inside.bytes c.self.invariant c.len.ensures.unique c.args.ticket c.in_ok-at.at there)
+    (is-placed g.S.StaticAtomSet.tables c.self.inside.limits c.self.inside.lasts.items c.self.inside.entries.entries c.self.inside.tickets.keys c.self.inside.bytes c.self.invariant c.len.ensures.unique c.args.ticket c.in_ok-at.at c.in_ok-at.field-0-1.now c.in_ok-at.ensures.stored c.in_ok-at.ensures.key)

@@ -1,12 +1,7 @@
-use Rattle.std.proofs.Common.{◌≡◌, ◌∙◌, ap, sym, subst, arith, ◌+◌, ◌∷◌, [], ◌++◌, take, List}
-use Rattle.std.proofs.lemmas.List.{take_more}
-use Rattle.string_cache_core.specs.declared.table.call.Call.{Call}
-use Rattle.string_cache_core.specs.declared.table.call.TableReply.{TableReply}
-use Rattle.string_cache_core.specs.Bounds.{Bounds}
+use Rattle.std.proofs.Common.{◌∙◌, arith, take}
 use Rattle.string_cache_core.specs.Kept.{map_of}
-use Rattle.string_cache_core.specs.Calls.{Answers, AnswersAll}
 use Rattle.string_cache_core.proofs.CallsKeep.{answers-fresh, fresh-more, held-given}
-use Rattle.string_cache_core.proofs.Runs.{replays-push, replays-grow}
+use Rattle.string_cache_core.proofs.Runs.{replays-more, replays-grow}
 use Rattle.string_cache_core.proofs.WordsApart.{one-text-each}
 use Rattle.string_cache_core.proofs.table.Table.run.Goals as goal
 
@@ -14,20 +9,15 @@ pub loop-call-preserved : goal.loop-call-preserved
 loop-call-preserved g c =
     let t = g.S.StaticAtomSet.tables in
     let i = c.loop-call.invariant in
-    let within = c.loop-call-test.true in
     let n = i.1 in
     let room = i.2 in
     let len = c.push_reserved.ensures.len in
-    let capacity = c.push_reserved.ensures.capacity in
-    let step : take (c.loop-call.call-index + 1) c.args.calls.now ≡ take c.loop-call.call-index c.args.calls.now ++ c.call-item.result ∷ [] =
-    take_more c.args.calls.now c.loop-call.call-index c.call-item.result within ∙ ap (λ (x : Call). take c.loop-call.call-index c.args.calls.now ++ x ∷ []) (sym c.call-item.is) in (
+    let capacity = c.push_reserved.ensures.capacity in (
       c.call-reply.ensures.limits ∙ i.0,
       omega (arith, len, n),
       omega (arith, capacity, room),
-      subst (λ (rs : List TableReply). AnswersAll t c.args.self.now.limits (map_of c.args.self.now) (take (c.loop-call.call-index + 1) c.args.calls.now) rs (map_of c.call-reply.new.self)) (sym c.push_reserved.ensures.items)
-          (subst (λ (cs : List Call). AnswersAll t c.args.self.now.limits (map_of c.args.self.now) cs (c.loop-call.replies.items ++ c.call-reply.result ∷ []) (map_of c.call-reply.new.self)) (sym step)
-          (replays-push t c.args.self.now.limits (map_of c.args.self.now) (map_of c.loop-call.self) (map_of c.call-reply.new.self) (take c.loop-call.call-index c.args.calls.now) c.loop-call.replies.items c.call-item.result c.call-reply.result
-          i.3 (subst (λ (limits : Bounds). Answers t limits (map_of c.loop-call.self) c.call-item.result c.call-reply.result (map_of c.call-reply.new.self)) i.0 c.call-reply.ensures.answers))),
+      replays-more t c.args.self.now.limits _ (map_of c.args.self.now) (map_of c.loop-call.self) (map_of c.call-reply.new.self) c.args.calls.now c.loop-call.call-index c.loop-call.replies.items c.push_reserved.new.self.items c.call-item.result c.call-reply.result
+          c.loop-call-test.true c.call-item.is c.push_reserved.ensures.items i.0 i.3 c.call-reply.ensures.answers,
       fresh-more (map_of c.args.self.now) (map_of c.loop-call.self) (map_of c.call-reply.new.self)
           (λ bucket. replays-grow t c.args.self.now.limits (map_of c.args.self.now) (map_of c.loop-call.self) (take c.loop-call.call-index c.args.calls.now) c.loop-call.replies.items bucket i.3)
           i.4 (answers-fresh t c.loop-call.self.limits (map_of c.loop-call.self) (map_of c.call-reply.new.self) c.call-item.result c.call-reply.result c.is_sound.ensures c.call-reply.ensures.answers),

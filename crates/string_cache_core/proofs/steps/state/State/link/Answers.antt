@@ -1,7 +1,6 @@
-use Rattle.std.proofs.Common.{◌≡◌, Some, ◌∙◌, ap, sym, arith, ℕ, ◌+◌}
+use Rattle.std.proofs.Common.{◌≡◌, ◌∙◌, ap, sym, arith, ℕ, ◌+◌}
 use Rattle.std.specs.Prelude.{is_some}
 use Rattle.string_cache_core.specs.World.{Pass}
-use Rattle.string_cache_core.specs.Steps.{pass_of}
 use Rattle.string_cache_core.proofs.StepApart.{placed_in}
 use Rattle.string_cache_core.proofs.StepPlaces.{within}
 use Rattle.string_cache_core.proofs.StepLists.{at_one}
@@ -65,8 +64,7 @@ pub may_link-requires-clause-placed : goal.may_link-requires-clause-placed
 may_link-requires-clause-placed g c = λ pass text k entry there wanted at is.
     let p = c.in-Some.ensures in
     let same : pass ≡ p.pass = at_one c.args.self.now.passes c.in-Some.at pass p.pass there p.there in
-    let found : pass_of c.args.self.now c.args.party ≡ Some pass = p.found ∙ ap (λ (q : Pass). Some q) (sym same) in
-    placed_in g.S.StaticAtomSet.tables c.args.self.now c.requires c.args.party pass text found wanted k entry at is
+    placed_in g.S.StaticAtomSet.tables c.args.self.now c.requires c.args.party pass p.pass text p.found same wanted k entry at is
 
 pub link_entry-requires-clause-sound : goal.link_entry-requires-clause-sound
 link_entry-requires-clause-sound g c = c.requires.sound.table

@@ -11,5 +11,5 @@ returns-clause-ok g c =
     let text = string_bytes c.args.text.now in
     let is : form_of_text tables text ≡ form.Dynamic c.in-Dynamic.hash = ap (form_of_text tables) (sym c.as_str.ensures.value) ∙ sym c.in-Dynamic.ensures in
     let same : string_bytes c.in_ok-text.text ≡ text = c.in_ok-text.ensures.cases in
-    intern_taken tables c.args.self.now c.args.party text c.in-Dynamic.hash c.bucket_of-bucket.result is c.bucket_of-bucket.ensures.value (sym c.is_idle_and_free.ensures ∙ c.if-not-is_idle_and_free.false)
+    intern_taken tables c.args.self.now c.args.party text c.in-Dynamic.hash c.bucket_of-bucket.result is c.bucket_of-bucket.ensures.value _ c.is_idle_and_free.ensures c.if-not-is_idle_and_free.false
     _ (ap (λ (t : List ℕ). Some t) same) _ c.in_ok-start_pass.ensures.ok
