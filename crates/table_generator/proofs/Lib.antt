@@ -1,2 +1,4 @@
 pub mod Fitting
+pub mod Placing
+pub mod Ranking
 pub mod Settling

@@ -1,2 +1,4 @@
+pub mod Assembled
+pub mod Generated
 pub mod Grouped
 pub mod Places

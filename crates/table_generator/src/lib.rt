@@ -9,8 +9,8 @@
 
 mod displace;
 //pub mod generate;
-//mod items;
+mod items;
 mod search;
-//pub mod tables;
+pub mod tables;
 //#[cfg(test)]
 //mod tests;
