@@ -54,11 +54,11 @@ map_map f g (x ∷ xs) = ap (λ ys. f (g x) ∷ ys) (map_map f g xs)
 eqb_flips : (x y : ℕ) → eqb x y ≡ eqb y x
 eqb_flips x y = grind arith
 
-differ_permuted : (xs ys : List ℕ) → IsPermutation xs ys → AllPairs (λ x y. x ≢ y) xs → IsDistinct eqb ys
+pub eqb_decides : (a b : ℕ) → (eqb a b ≡ true → a ≡ b) × (a ≡ b → eqb a b ≡ true)
+eqb_decides a b = (search rules, eq-eqb a b)
+
+pub differ_permuted : (xs ys : List ℕ) → IsPermutation xs ys → AllPairs (λ x y. x ≢ y) xs → IsDistinct eqb ys
 differ_permuted xs ys moved apart = IsDistinct-IsPermutation eqb eqb_flips xs ys moved (IsDistinct-from_AllPairs eqb_decides xs apart)
-  where
-    eqb_decides : (a b : ℕ) → (eqb a b ≡ true → a ≡ b) × (a ≡ b → eqb a b ≡ true)
-    eqb_decides a b = (search rules, eq-eqb a b)
 
 -- ---- the tables
 
@@ -106,7 +106,7 @@ module _ (key n : ℕ) (disps : List (ℕ × ℕ)) where
 
 -- ---- read from items, and sorted by place
 
-pairs_map : {X Y : Type 0} (R : Y → Y → Type 0) (g : X → Y) (xs : List X) → AllPairs (λ x y. R (g x) (g y)) xs → AllPairs R (map g xs)
+pub pairs_map : {X Y : Type 0} (R : Y → Y → Type 0) (g : X → Y) (xs : List X) → AllPairs (λ x y. R (g x) (g y)) xs → AllPairs R (map g xs)
 pairs_map R g [] apart i j d low h = absurd (omega (arith, h))
 pairs_map R g (x ∷ xs) apart i j d low h =
     let below : j < length (x ∷ xs) = omega (arith, h, length-map (x ∷ xs) g) in

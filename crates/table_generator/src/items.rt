@@ -80,6 +80,7 @@ pub fn items_of<'t>(
     requires pairs { 1 ≤ pairs }
     requires few_pairs { pairs < 2 ^ 31 }
     requires few { length list.now < 2 ^ 32 }
+    ensures count { IfOk result (λ items. length items.items ≡ length list.now) }
     ensures texts { IfOk result (λ items. IsPermutation (texts_of list.now) (map (λ item. item.text.now) items.items)) }
     ensures hashed { IfOk result (λ items. All (λ item. item.hashes ≡ hashes_of item.text.now key) items.items) }
     ensures grouped { IfOk result (λ items. AreGrouped pairs (map (λ item. item.hashes) items.items)) }

@@ -8,7 +8,7 @@
 #![tactic(auto)]
 
 mod displace;
-//pub mod generate;
+pub mod generate;
 mod items;
 mod search;
 pub mod tables;
