@@ -1,6 +1,10 @@
+pub mod Cuts
 pub mod Fitting
+pub mod HexLemmas
 pub mod ListedTexts
 pub mod Making
+pub mod NumberLemmas
 pub mod Placing
+pub mod PrintLemmas
 pub mod Ranking
 pub mod Settling

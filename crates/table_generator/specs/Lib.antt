@@ -2,3 +2,4 @@ pub mod Assembled
 pub mod Generated
 pub mod Grouped
 pub mod Places
+pub mod TableText

@@ -10,6 +10,7 @@
 mod displace;
 pub mod generate;
 mod items;
+pub mod numbers;
 mod search;
 pub mod tables;
 //#[cfg(test)]

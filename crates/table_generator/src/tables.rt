@@ -4,6 +4,7 @@
 ghost use Rattle.std.specs.Prelude.{◌≡◌};
 
 use std::alloc::{AllocError, AllocFailed};
+use std::fmt;
 use thiserror::Error;
 
 /// Static tables of one's own: what a `PhfStrSet` lends.
@@ -56,5 +57,26 @@ impl<T: Drop> From<AllocFailed<T>> for GenFault {
 
     fn from(_: AllocFailed<T>) -> GenFault {
         GenFault::Memory
+    }
+}
+/// A line for the key, one for each pair of displacements, and one for each text, with its hash number in 16 digits.
+impl fmt::Display for Tables {
+    ghost use Rattle.std.specs.Prelude.{Some};
+    ghost use Rattle.table_generator.specs.Generated.{tables_of};
+    ghost use Rattle.table_generator.specs.TableText.{table_text};
+
+    ghost output = { λ tables. Some (table_text (tables_of tables)) };
+
+    fn fmt<W: fmt::Write>(&self, f: &mut fmt::Formatter<W>) -> fmt::Result {
+        writeln!(f, "key {}", self.key)?;
+        for (d1, d2) in &self.disps {
+            writeln!(f, "disp {d1} {d2}")?;
+        }
+        for (i, hash) in self.hashes.iter().enumerate() {
+            if let Some(text) = self.atoms.get(i) {
+                writeln!(f, "atom {hash:016x} {text}")?;
+            }
+        }
+        Ok(())
     }
 }
