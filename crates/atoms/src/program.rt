@@ -16,7 +16,7 @@ pub mod tests;
 
 use crate::count::tell_counts;
 use crate::faults::AppFault;
-use crate::replay::{number_of, replay};
+use crate::replay::replay;
 use crate::streams::{Sink, Source, write_whole};
 use crate::words::words;
 use std::alloc::Global;
@@ -28,6 +28,7 @@ use std::thread::Threads;
 use std::{env, fmt};
 use string_cache::dynamic_set::Set;
 use string_cache::{EmptyStaticAtomSet, Fault};
+use table_generator::numbers::number_of;
 
 const USAGE: &str = "usage: atoms words | count N | replay\n";
 

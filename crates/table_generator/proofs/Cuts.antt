@@ -32,8 +32,12 @@ module _ (byte : ℕ) where
   pub cut_before : (bs a xs b ys : List ℕ) → Lacks a → Lacks b → bs ≡ a ++ (byte ∷ xs) → bs ≡ b ++ (byte ∷ ys) → (a ≡ b) × (xs ≡ ys)
   cut_before bs a xs b ys p q d e = first_byte a b xs ys p q (sym d ∙ e)
 
+  pub lacks_cons : (b : ℕ) (bs : List ℕ) → b ≢ byte → Lacks bs → Lacks (b ∷ bs)
+  lacks_cons b bs other rest zero h = other
+  lacks_cons b bs other rest (suc i) h = rest i (omega (arith, h))
+
   pub lacks_append : (a b : List ℕ) → Lacks a → Lacks b → Lacks (a ++ b)
-  lacks_append [] b p q = q
+  lacks_append [] b p q i h = q i h
   lacks_append (x ∷ a) b p q zero h = p 0 (omega arith)
   lacks_append (x ∷ a) b p q (suc i) h = lacks_append a b (λ j l. p (suc j) (omega (arith, l))) q i (omega (arith, h))
 

@@ -1,5 +1,5 @@
 -- The printed form of tables: a line for the key, one for each pair of displacements, and one for each text.
-use Rattle.std.specs.Prelude.{◌≡◌, ℕ, zero, suc, ◌+◌, ◌/◌, ◌%◌, ◌^◌, ◌<◌, List, [], ◌∷◌, ◌++◌, length, nat_lt, if◌then◌else◌, codes, decimal}
+use Rattle.std.specs.Prelude.{◌≡◌, ◌≢◌, ℕ, zero, suc, ◌+◌, ◌/◌, ◌%◌, ◌^◌, ◌<◌, List, [], ◌∷◌, ◌++◌, length, nat_lt, if◌then◌else◌, codes, decimal}
 use Rattle.std.specs.List.{All, flat_map}
 use Rattle.string_cache_core.specs.Tables.{Tables, IsPerfectTable}
 
@@ -8,7 +8,7 @@ abbrev pub hex_digit : ℕ → ℕ
 hex_digit d = if nat_lt d 10 then 48 + d else 87 + d
 
 -- the lowest `count` hexadecimal digits of n, the highest of them first
-abbrev pub hex_digits : ℕ → ℕ → List ℕ
+unfoldable pub hex_digits : ℕ → ℕ → List ℕ
 hex_digits zero n = []
 hex_digits (suc count) n = hex_digits count (n / 16) ++ (hex_digit (n % 16) ∷ [])
 
@@ -51,3 +51,19 @@ SpellsTables text t = ArePrintable t × (text ≡ table_text t)
 -- the text is the printed form of perfect tables
 abbrev pub SpellsPerfectTables : List ℕ → Type 0
 SpellsPerfectTables text = (t : Tables) × SpellsTables text t × IsPerfectTable t
+
+-- ---- reading
+
+-- The text begins with the lines of these displacements, and what is left begins with no such line.
+pub record ReadsDisps (text : List ℕ) (disps : List (ℕ × ℕ)) (rest : List ℕ) : Type 0 where
+  pub is : text ≡ flat_map disp_line disps ++ rest
+  pub small : All (λ pair. (pair.0 < 2 ^ 32) × (pair.1 < 2 ^ 32)) disps
+  pub ends : (pair : ℕ × ℕ) (more : List ℕ) → pair.0 < 2 ^ 32 → pair.1 < 2 ^ 32 → rest ≢ disp_line pair ++ more
+
+-- The text begins with the lines of these texts, and what is left begins with no such line.
+pub record ReadsAtoms (text : List ℕ) (hashes : List ℕ) (atoms : List (List ℕ)) (rest : List ℕ) : Type 0 where
+  pub is : text ≡ atom_lines hashes atoms ++ rest
+  pub count : length hashes ≡ length atoms
+  pub small : All (λ hash. hash < 2 ^ 64) hashes
+  pub one_line : All HasNoFeed atoms
+  pub ends : (hash : ℕ) (atom more : List ℕ) → hash < 2 ^ 64 → HasNoFeed atom → rest ≢ atom_line hash atom ++ more

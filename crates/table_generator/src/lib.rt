@@ -7,6 +7,7 @@
 //! ```
 #![tactic(auto)]
 
+pub mod check;
 mod displace;
 pub mod generate;
 mod items;

@@ -1,7 +1,7 @@
 //! Numbers as scripts and table texts spell them: decimal, without sign or leading zeros.
 #![tactic(auto)]
 
-ghost use Rattle.std.specs.Prelude.{◌≡◌, ◌≢◌, ℕ, ◌^◌, ◌<◌, ◌≤◌, length, slice_index, decimal, MatchOption};
+ghost use Rattle.std.specs.Prelude.{◌≡◌, ◌≢◌, ℕ, ◌^◌, ◌<◌, ◌≤◌, ◌++◌, length, slice_index, decimal, MatchOption};
 ghost use Rattle.std.specs.Bool.{OnTrue, OnFalse};
 
 /// Whether neither a plus nor a zero too many stands in front of what may be a number.
@@ -29,6 +29,14 @@ pub fn number_of(text: &str) -> Option<u64>
         return None;
     }
     text.parse::<u64>().ok()
+}
+
+/// The number that stands behind `words`, to the end of the text.
+pub fn number_after(text: &str, words: &str) -> Option<u64>
+    ensures { MatchOption result ((n : ℕ) → n < 2 ^ 64 → text.now ≢ words.now ++ decimal n)
+        (λ n. text.now ≡ words.now ++ decimal n) }
+{
+    number_of(text.strip_prefix(words)?)
 }
 
 /// As `number_of`, below 2^32.
