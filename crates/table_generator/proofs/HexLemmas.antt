@@ -40,7 +40,7 @@ padded_digits c (suc k) n acc low small = ⊎_elim
     (λ none. (
       c,
       last_digit c n acc ∙ ap (λ m. hex_digits c m ++ (hex_digit (n % 16) ∷ acc)) none ∙ ap (λ (ds : List ℕ). ds ++ (hex_digit (n % 16) ∷ acc)) (hex_zero c)
-      ∙ ap (λ (ds : List ℕ). replicate c 48 ++ ds) (sym (onto_if k n acc true (eq-eqb (n / 16) 0 none))),
+          ∙ ap (λ (ds : List ℕ). replicate c 48 ++ ds) (sym (onto_if k n acc true (eq-eqb (n / 16) 0 none))),
     ))
     (λ some. more c (λ c' low' small'. padded_digits c' k (n / 16) (hex_digit (n % 16) ∷ acc) low' small') low small some)
     (cases_eq (n / 16) 0)

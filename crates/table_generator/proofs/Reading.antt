@@ -20,7 +20,7 @@ pub disp_once : (a b : ℕ × ℕ) (rest more : List ℕ) → a.0 < 2 ^ 32 → a
 disp_once a b rest more p q r s e =
     let line = first_byte 10 (disp_words a) (disp_words b) rest more (disp_lacks a p q) (disp_lacks b r s) (sym (disp_flat a rest) ∙ e ∙ disp_flat b more) in
     let cut = first_byte 32 (decimal a.0) (decimal b.0) (decimal a.1) (decimal b.1) (decimal_lacks 32 a.0 (omega arith) (omega (arith, p))) (decimal_lacks 32 b.0 (omega arith) (omega (arith, r)))
-      (append_cancel_left (codes "disp ") _ _ line.0) in
+    (append_cancel_left (codes "disp ") _ _ line.0) in
     let first : a.0 ≡ b.0 = decimal_injective a.0 b.0 (omega (arith, p)) (omega (arith, r)) cut.0 in
     let second : a.1 ≡ b.1 = decimal_injective a.1 b.1 (omega (arith, q)) (omega (arith, s)) cut.1 in
     (ap (λ n. (n, a.1)) first ∙ ap (λ n. (b.0, n)) second, line.1)
@@ -52,7 +52,7 @@ disps_once (r ∷ read) (d ∷ disps) rest hashes atoms p q ends e =
     let a = p 0 r (omega arith) in
     let b = q 0 d (omega arith) in
     let first = disp_once r d (flat_map disp_line read ++ rest) (flat_map disp_line disps ++ atom_lines hashes atoms) a.0 a.1 b.0 b.1
-      (sym (append_assoc (disp_line r) (flat_map disp_line read) rest) ∙ e ∙ append_assoc (disp_line d) (flat_map disp_line disps) (atom_lines hashes atoms)) in
+    (sym (append_assoc (disp_line r) (flat_map disp_line read) rest) ∙ e ∙ append_assoc (disp_line d) (flat_map disp_line disps) (atom_lines hashes atoms)) in
     let more = disps_once read disps rest hashes atoms (λ k x h. p (suc k) x (omega (arith, h))) (λ k x h. q (suc k) x (omega (arith, h))) ends first.1 in
     (ap (λ v. v ∷ read) first.0 ∙ ap (λ v. d ∷ v) more.0, more.1)
 
@@ -71,9 +71,9 @@ atoms_once (h ∷ hs) (t ∷ ts) [] atoms rest c d p q none lone ends e = absurd
 atoms_once (h ∷ hs) (t ∷ ts) (g ∷ hashes) [] rest c d p q none lone ends e = absurd (omega (arith, d))
 atoms_once (h ∷ hs) (t ∷ ts) (g ∷ hashes) (a ∷ atoms) rest c d p q none lone ends e =
     let first = atom_once h g t a (atom_lines hs ts ++ rest) (atom_lines hashes atoms) (p 0 h (omega arith)) (q 0 g (omega arith)) (none 0 t (omega arith)) (lone 0 a (omega arith))
-      (sym (append_assoc (atom_line h t) (atom_lines hs ts) rest) ∙ e) in
+    (sym (append_assoc (atom_line h t) (atom_lines hs ts) rest) ∙ e) in
     let more = atoms_once hs ts hashes atoms rest (omega (arith, c)) (omega (arith, d)) (λ k x l. p (suc k) x (omega (arith, l))) (λ k x l. q (suc k) x (omega (arith, l)))
-      (λ k x l. none (suc k) x (omega (arith, l))) (λ k x l. lone (suc k) x (omega (arith, l))) ends first.2 in
+    (λ k x l. none (suc k) x (omega (arith, l))) (λ k x l. lone (suc k) x (omega (arith, l))) ends first.2 in
     (ap (λ v. v ∷ hs) first.0 ∙ ap (λ v. g ∷ v) more.0, ap (λ v. v ∷ ts) first.1 ∙ ap (λ v. a ∷ v) more.1, more.2)
 
 -- ---- the whole text
@@ -85,10 +85,9 @@ read_tables text rest behind end t read small key disps atoms spelled =
     let printed = spelled.0 in
     let first = key_once read.key t.key rest (flat_map disp_line t.disps ++ atom_lines t.hashes t.atoms) small printed.key (sym key ∙ spelled.1) in
     let second = disps_once read.disps t.disps behind t.hashes t.atoms disps.small printed.displacements disps.ends (sym disps.is ∙ first.1) in
-    let third = atoms_once read.hashes read.atoms t.hashes t.atoms end atoms.count printed.hashed atoms.small printed.hashes atoms.one_line printed.texts atoms.ends (sym atoms.is ∙ second.1) in
-    (
+    let third = atoms_once read.hashes read.atoms t.hashes t.atoms end atoms.count printed.hashed atoms.small printed.hashes atoms.one_line printed.texts atoms.ends (sym atoms.is ∙ second.1) in (
       ap (λ k. tables k read.disps read.atoms read.hashes) first.0 ∙ ap (λ d. tables t.key d read.atoms read.hashes) second.0
-      ∙ ap (λ a. tables t.key t.disps a read.hashes) third.1 ∙ ap (tables t.key t.disps t.atoms) third.0,
+          ∙ ap (λ a. tables t.key t.disps a read.hashes) third.1 ∙ ap (tables t.key t.disps t.atoms) third.0,
       third.2,
     )
   where

@@ -86,9 +86,9 @@ module _ (pairs bound : ℕ) (hashes : List Hashes) (disps : List (ℕ × ℕ)) 
     apart_more i j d low high same = ⊎_elim
         (λ h. s.apart i j d low h (sym (place_before i d (omega arith)) ∙ same ∙ place_before j d h))
         (λ here. ⊎_elim
-          (λ h. false≢true (sym (free_in_run j d here high) ∙ ap (is_taken taken) (sym same ∙ place_before i d h) ∙ s.marked i d h))
-          (λ there. fits.differ (i - start) (j - start) d (omega arith) (omega (arith, members_count)) (sym (place_in_run i d there (omega arith)) ∙ same ∙ place_in_run j d here high))
-          (cases_lt i start))
+        (λ h. false≢true (sym (free_in_run j d here high) ∙ ap (is_taken taken) (sym same ∙ place_before i d h) ∙ s.marked i d h))
+        (λ there. fits.differ (i - start) (j - start) d (omega arith) (omega (arith, members_count)) (sym (place_in_run i d there (omega arith)) ∙ same ∙ place_in_run j d here high))
+        (cases_lt i start))
         (cases_lt j start)
 
     marked_more : (i : ℕ) (d : Hashes) → i < end → is_taken marked (place_of (get_or hashes i d) (set disps index pair) (length hashes)) ≡ true
@@ -107,8 +107,8 @@ module _ (pairs bound : ℕ) (hashes : List Hashes) (disps : List (ℕ × ℕ)) 
     others_more grouped i j d high low within same = ⊎_elim
         (λ h. s.others i j d h (omega (arith, run.some)) within same)
         (λ here.
-          let own = run.same i d here high in
-          run.stops d (omega arith) (grouped start end j d (omega (arith, run.some)) low within (sym own ∙ same)))
+        let own = run.same i d here high in
+        run.stops d (omega arith) (grouped start end j d (omega (arith, run.some)) low within (sym own ∙ same)))
         (cases_lt i start)
 
     -- with this pair the run is settled too

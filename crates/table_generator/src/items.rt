@@ -23,12 +23,7 @@ pub struct Item<'t> {
 }
 
 /// For each pair of displacements, how many of the texts belong to another one.
-fn others_of(
-    alloc: Global,
-    list: &[&str],
-    key: u64,
-    pairs: usize,
-) -> Result<Vec<u64>, AllocError>
+fn others_of(alloc: Global, list: &[&str], key: u64, pairs: usize) -> Result<Vec<u64>, AllocError>
     requires { 1 ≤ pairs }
     ensures count { IfOk result (λ others. length others.items ≡ pairs) }
     ensures most { IfOk result (λ others. All (λ n. n ≤ length list.now) others.items) }

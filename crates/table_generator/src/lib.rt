@@ -14,5 +14,5 @@ mod items;
 pub mod numbers;
 mod search;
 pub mod tables;
-//#[cfg(test)]
-//mod tests;
+#[cfg(test)]
+mod tests;

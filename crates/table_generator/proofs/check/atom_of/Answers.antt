@@ -20,8 +20,8 @@ returns-in_default-hash_of c = λ hash text small is.
     let cut = found_first 32 body c.in-Some.digits c.in-Some.text (omega arith) c.in-Some.ensures.cases in
     c.in_default-hash_of.ensures hash small
     (c.as_bytes.ensures.value
-      ∙ (cut_before 32 body c.in-Some.digits.now c.in-Some.text.now (hex_digits 16 hash) text cut.0 (hex_lacks 32 16 hash (omega arith)) cut.1
-        (append_cancel_left (codes "atom ") _ _ (sym front ∙ is))).0)
+    ∙ (cut_before 32 body c.in-Some.digits.now c.in-Some.text.now (hex_digits 16 hash) text cut.0 (hex_lacks 32 16 hash (omega arith)) cut.1
+    (append_cancel_left (codes "atom ") _ _ (sym front ∙ is))).0)
 
 pub returns : goal.returns
 returns c =

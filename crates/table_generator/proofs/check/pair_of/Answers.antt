@@ -20,7 +20,7 @@ returns-in_default-short_number_of c = λ pair p q is.
     let cut = found_first 32 body c.in-Some.first c.in-Some.second (omega arith) c.in-Some.ensures.cases in
     c.in_default-short_number_of.ensures pair.0 p
     (cut_before 32 body c.in-Some.first.now c.in-Some.second.now (decimal pair.0) (decimal pair.1) cut.0 (decimal_lacks 32 pair.0 (omega arith) (omega (arith, p))) cut.1
-      (append_cancel_left (codes "disp ") _ _ (sym front ∙ is))).0
+    (append_cancel_left (codes "disp ") _ _ (sym front ∙ is))).0
 
 pub returns-in_default-short_number_of-2 : goal.returns-in_default-short_number_of-2
 returns-in_default-short_number_of-2 c = λ pair p q is.
@@ -30,4 +30,4 @@ returns-in_default-short_number_of-2 c = λ pair p q is.
     let cut = found_first 32 body c.in-Some.first c.in-Some.second (omega arith) c.in-Some.ensures.cases in
     c.in_default-short_number_of-2.ensures pair.1 q
     (cut_before 32 body c.in-Some.first.now c.in-Some.second.now (decimal pair.0) (decimal pair.1) cut.0 (decimal_lacks 32 pair.0 (omega arith) (omega (arith, p))) cut.1
-      (append_cancel_left (codes "disp ") _ _ (sym front ∙ is))).1
+    (append_cancel_left (codes "disp ") _ _ (sym front ∙ is))).1

@@ -19,9 +19,9 @@ loop-start-preserved c =
     let below : own < c.args.pairs = omega (arith, c.requires.pairs) in
     let pair : (c.in-Some.pair.0 < c.args.bound) × (c.in-Some.pair.1 < c.args.bound) × Fits old members c.in-Some.pair = search (rules, c.in-Some.ensures) in
     rw new (
-      settled_more c.args.pairs c.args.bound c.args.hashes.now c.loop-start.disps.items old c.loop-start.start c.run_end-end.result c.loop-start.invariant c.run_end-end.ensures
-      members refl c.in-Some.pair own (λ d. ap (pair_of c.args.pairs) (get_or_default c.args.hashes.now c.loop-start.start _ d c.loop-start-test.true))
-      below pair.2 c.mark.new.taken (rw c.deref_mut.ensures.value at c.mark.ensures) (pair.0, pair.1) c.requires.grouped
+    settled_more c.args.pairs c.args.bound c.args.hashes.now c.loop-start.disps.items old c.loop-start.start c.run_end-end.result c.loop-start.invariant c.run_end-end.ensures
+    members refl c.in-Some.pair own (λ d. ap (pair_of c.args.pairs) (get_or_default c.args.hashes.now c.loop-start.start _ d c.loop-start-test.true))
+    below pair.2 c.mark.new.taken (rw c.deref_mut.ensures.value at c.mark.ensures) (pair.0, pair.1) c.requires.grouped
     )
 
 pub returns-in_default-clause-unplaced : goal.returns-in_default-clause-unplaced

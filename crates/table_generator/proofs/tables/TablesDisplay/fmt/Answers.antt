@@ -28,9 +28,9 @@ loop-i-preserved g c = λ plain.
           let line : HasWritten g.W.Write.write_str_gives c.loop-i.f (atom_line hash text) w.writeln-in-Some.new.self = rw (hex_printed hash small) at one in
           let more : atom_lines (take (i + 1) hashes) texts ≡ atom_lines (take i hashes) texts ++ atom_line hash text = rw written (atom_lines_more hashes texts i (rw c.deref-hash-items.ensures.value at c.loop-i-test.true) listed) in
           rw w.f-is (
-            subst (λ all. HasWritten g.W.Write.write_str_gives c.args.f.now all w.writeln-in-Some.new.self)
-            (line_behind (key_line tables.key) (flat_map disp_line tables.disps.items) (atom_lines (take i hashes) texts) (atom_line hash text) _ more)
-            (has_written_append _ _ _ _ _ _ done line)
+          subst (λ all. HasWritten g.W.Write.write_str_gives c.args.f.now all w.writeln-in-Some.new.self)
+          (line_behind (key_line tables.key) (flat_map disp_line tables.disps.items) (atom_lines (take i hashes) texts) (atom_line hash text) _ more)
+          (has_written_append _ _ _ _ _ _ done line)
           )
       | in_default w ↦
           let past : length texts ≤ i = grind (arith, common_steps, w.in_default.ensures.lookup) in
