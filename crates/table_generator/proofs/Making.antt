@@ -1,10 +1,10 @@
 -- From the search to the tables of a list, or to none.
 use Rattle.std.proofs.Common.{◌≡◌, ◌≢◌, ℕ, ◌+◌, ◌*◌, ◌%◌, ◌^◌, ◌<◌, ◌≤◌, ◌⊎◌, min, zero, suc, List, [], ◌∷◌, length, map, get_or, sym, refl, ap, ◌∙◌, arith, subst}
 use mathlib.Core.Logic.{⊎_elim}
-use Rattle.std.specs.List.{All, AllPairs}
+use Rattle.std.specs.List.{All, AllPairs, Contains}
 use Rattle.std.specs.List.Sorted.{IsPermutation}
-use Rattle.std.proofs.lemmas.List.{get_or-map, length-map}
-use Rattle.std.proofs.lemmas.List.Sorted.{IsPermutation-map, IsPermutation-trans, length_permutation}
+use Rattle.std.proofs.lemmas.List.{get_or-map, get_or_default, length-map}
+use Rattle.std.proofs.lemmas.List.Sorted.{All-permutation, IsPermutation-map, IsPermutation-trans, length_permutation}
 use Rattle.std.proofs.lemmas.Map.Made.{AllPairs-from_IsDistinct}
 use Rattle.std.proofs.lemmas.Nat.{mod_below, mul-mod_second}
 use Rattle.std.proofs.lemmas.Nat.Gcd.{dvd_of_mod-eq-zero}
@@ -13,8 +13,9 @@ use Rattle.string_cache_core.specs.declared.phf.Hashes.{Hashes}
 use Rattle.string_cache_core.specs.Phf.{hashes_of, place_of}
 use Rattle.string_cache_core.specs.Tables as core
 use Rattle.table_generator.specs.Assembled.{Assembles}
-use Rattle.table_generator.specs.Generated.{IsTablesOf, IsUnplaceable, pairs_for}
+use Rattle.table_generator.specs.Generated.{HasFeed, IsTablesOf, IsUnplaceable, pairs_for}
 use Rattle.table_generator.specs.Places.{AreApart, place_by}
+use Rattle.table_generator.specs.TableText.{table_text, HasNoFeed, SpellsPerfectTables}
 use Rattle.table_generator.proofs.Placing.{differ_permuted, eqb_decides, map_map, map_same, pairs_map}
 
 -- tables of the texts in some order are tables of the texts
@@ -97,3 +98,32 @@ none_placeable text hashes items texts key bound tried order hashed reached none
     (λ all. refused d1 d2 (omega (arith, p, all)) (omega (arith, q, all)) (apart_permuted ((d1, d2) ∷ []) n (map by_text texts) (map hashes items) moved apart))
     (λ rest. refused (d1 % n) (d2 % n) (rest.1 d1 p) (rest.1 d2 q) (apart_rest n d1 d2 (map hashes items) rest.0 (apart_permuted ((d1, d2) ∷ []) n (map by_text texts) (map hashes items) moved apart)))
     reached
+
+-- ---- what tables print
+
+no_feed_listed : (texts : List (List ℕ)) → (HasFeed texts → ⊥) → All HasNoFeed texts
+no_feed_listed texts none k d h i e below same =
+    let text = get_or texts k d in
+    none (k, h, subst (λ t. Contains t 10) (get_or_default texts k d [] h) (contains_at text i e below same))
+  where
+    contains_at : (text : List ℕ) (i e : ℕ) → i < length text → get_or text i e ≡ 10 → Contains text 10
+    contains_at text i e below same = (i, below, get_or_default text i 10 e below ∙ same)
+
+pub printed_tables : (texts : List (List ℕ)) (key bound : ℕ) (t : core.Tables) → (HasFeed texts → ⊥) → key < 2 ^ 64 → bound < 2 ^ 32 → IsTablesOf texts key bound t → All (λ hash. hash < 2 ^ 64) t.hashes
+    → SpellsPerfectTables (table_text t)
+printed_tables texts key bound t none small_key small_bound made small = (
+  t,
+  (
+    record {
+      key = omega (arith, made.key_is, small_key);
+      displaced = made.perfect.usable.displaced;
+      displacements = λ k d h. let low = made.bounded k d h in (omega (arith, low.0, small_bound), omega (arith, low.1, small_bound));
+      listed = made.perfect.usable.listed;
+      texts = All-permutation HasNoFeed texts t.atoms made.listed (no_feed_listed texts none);
+      hashed = made.perfect.usable.hashed;
+      hashes = small;
+    },
+    refl,
+  ),
+  made.perfect,
+)

@@ -49,6 +49,12 @@ pub map_map : {X Y Z : Type 0} (f : Y → Z) (g : X → Y) (xs : List X) → map
 map_map f g [] = refl
 map_map f g (x ∷ xs) = ap (λ ys. f (g x) ∷ ys) (map_map f g xs)
 
+pub all_map : {X Y : Type 0} (f : X → Y) (P : Y → Type 0) (xs : List X) → All (λ x. P (f x)) xs → All P (map f xs)
+all_map f P [] h k d below = absurd (omega (arith, below))
+all_map f P (x ∷ xs) h k d below =
+    let inside : k < length (x ∷ xs) = omega (arith, below, length-map (x ∷ xs) f) in
+    subst P (sym (get_or-map f (x ∷ xs) k x d inside)) (h k x inside)
+
 -- ---- differing places, whatever the order
 
 eqb_flips : (x y : ℕ) → eqb x y ≡ eqb y x
@@ -79,10 +85,10 @@ module _ (key n : ℕ) (disps : List (ℕ × ℕ)) where
 
   assembled : (texts atoms : List (List ℕ)) (hashes : List ℕ) → length texts ≡ n → 1 ≤ n → n < 2 ^ 32 → 1 ≤ length disps → length disps < 2 ^ 32
       → IsPermutation texts atoms → AllPairs (λ x y. x ≢ y) (map place texts) → IsNonDecreasing (map place atoms)
-      → hashes ≡ map (λ text. hash_of_hashes (hashes_of text key)) atoms
+      → hashes ≡ map (λ text. hash_of_hashes (hashes_of text key)) atoms → All (λ hash. hash < 2 ^ 64) hashes
       → Assembles key disps texts (record { key = key; disps = disps; atoms = atoms; hashes = hashes })
   unfolding place core.place_in core.entry_hash
-  assembled texts atoms hashes count some few displaced few_disps moved apart rise hashed =
+  assembled texts atoms hashes count some few displaced few_disps moved apart rise hashed small =
       let many : length atoms ≡ n = length_permutation texts atoms moved ∙ count in
       let at : (i : ℕ) → i < length atoms → place (get_or atoms i []) ≡ i =
       placed atoms many some rise (differ_permuted (map place texts) (map place atoms) (IsPermutation-map place texts atoms moved) apart) in
@@ -91,6 +97,7 @@ module _ (key n : ℕ) (disps : List (ℕ × ℕ)) where
         disps_are = refl;
         listed = moved;
         hashed = hashed;
+        small = small;
         perfect = record {
           usable = record {
             displaced = displaced;
@@ -148,12 +155,13 @@ module _ {X Y : Type 0} (key n : ℕ) (disps : List (ℕ × ℕ)) (text : X → 
   pub assembled_items : length items ≡ n → 1 ≤ n → n < 2 ^ 32 → 1 ≤ length disps → length disps < 2 ^ 32
       → map place' before ≡ map (λ x. place_of (hashes x) disps n) items → map hash' before ≡ map (λ x. hash_of_hashes (hashes x)) items
       → AllPairs (λ x y. place_of x disps n ≢ place_of y disps n) (map hashes items) → IsNonDecreasingBy place' after
-      → (atoms : List (List ℕ)) (numbers : List ℕ) → atoms ≡ map text' after → numbers ≡ map hash' after
+      → (atoms : List (List ℕ)) (numbers : List ℕ) → atoms ≡ map text' after → numbers ≡ map hash' after → All (λ y. hash' y < 2 ^ 64) before
       → Assembles key disps (map text items) (record { key = key; disps = disps; atoms = atoms; hashes = numbers })
   unfolding place
-  assembled_items count some few displaced few_disps places numbers_same apart rise atoms numbers atoms_are numbers_are =
+  assembled_items count some few displaced few_disps places numbers_same apart rise atoms numbers atoms_are numbers_are small =
       let perm : IsPermutation (map text items) atoms = subst (λ ts. IsPermutation ts atoms) texts_same (subst (IsPermutation (map text' before)) (sym atoms_are) (IsPermutation-map text' before after moved)) in
       let risen : IsNonDecreasing (map (place key n disps) atoms) =
       subst (λ ts. IsNonDecreasing (map (λ t. place_of (hashes_of t key) disps n) ts)) (sym atoms_are) (subst IsNonDecreasing (read (λ h. place_of h disps n) place' places) (rise_map place' after rise)) in
       assembled key n disps (map text items) atoms numbers (length-map items text ∙ count) some few displaced few_disps perm (apart_texts apart) risen
       (numbers_are ∙ read hash_of_hashes hash' numbers_same ∙ ap (map (λ t. hash_of_hashes (hashes_of t key))) (sym atoms_are))
+      (subst (All (λ n. n < 2 ^ 64)) (sym numbers_are) (all_map hash' (λ n. n < 2 ^ 64) after (All-permutation (λ y. hash' y < 2 ^ 64) before after moved small)))

@@ -9,6 +9,7 @@ use Rattle.table_generator.specs.declared.tables.Tables.{Tables}
 use Rattle.table_generator.specs.declared.tables.GenFault.{GenFault}
 use Rattle.table_generator.specs.declared.tables.GenFault.TheVariants as fault
 use Rattle.table_generator.specs.Places.{AreApart}
+use Rattle.table_generator.specs.TableText.{table_text, SpellsPerfectTables}
 
 -- the texts where they lie
 abbrev pub texts_of : List (Bor (List ℕ)) → List (List ℕ)
@@ -49,6 +50,8 @@ IsUnplaceable texts key bound =
 -- What making tables of the texts answers.
 pub record TellsTables (texts : List (List ℕ)) (key bound : ℕ) (result : Result Tables GenFault) : Type 0 where
   pub ok : IfOk result (λ t. IsTablesOf texts key bound (tables_of t))
+  -- What they print is the printed form of perfect tables.
+  pub printed : IfOk result (λ t. SpellsPerfectTables (table_text (tables_of t)))
   -- Three faults are exact, in this order, and so come before any other.
   pub empty : (result ≡ Err fault.EmptyList) ↔ (texts ≡ [])
   pub feed : (result ≡ Err fault.LineFeed) ↔ HasFeed texts

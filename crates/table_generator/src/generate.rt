@@ -6,6 +6,7 @@
 
 ghost use Rattle.std.specs.Prelude.{◌≡◌, ◌<◌, ◌≤◌, ◌%◌, ◌^◌, ◌⊎◌, ℕ, IfOk, IfSome, length};
 ghost use Rattle.std.specs.Bool.{OnTrue, OnFalse};
+ghost use Rattle.std.specs.List.{All};
 ghost use Rattle.table_generator.specs.Generated.{tables_of, texts_of, HasDouble, HasFeed, IsTablesOf, IsUnplaceable, TellsTables};
 
 use crate::displace::displace;
@@ -69,6 +70,7 @@ fn tables_in(
     requires few { length list.now < 2 ^ 32 }
     requires bound { 1 ≤ bound }
     ensures made { IfOk result (λ found. IfSome found (λ t. IsTablesOf (texts_of list.now) key bound (tables_of t))) }
+    ensures small { IfOk result (λ found. IfSome found (λ t. All (λ hash. hash < 2 ^ 64) t.hashes.items)) }
     ensures unplaced { IfOk result (λ found. found ≡ None → length list.now ≤ 5 → IsUnplaceable (texts_of list.now) key bound) }
 {
     let pairs = (list.len() + 4) / 5;

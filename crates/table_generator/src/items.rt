@@ -118,6 +118,7 @@ fn placed_by<'t>(
         ≡ map (λ item. place_of item.hashes disps.now (length items.now)) items.now) }
     ensures hashes { IfOk result (λ placed. map (λ text. text.hash) placed.items
         ≡ map (λ item. hash_of_hashes item.hashes) items.now) }
+    ensures small { IfOk result (λ placed. All (λ text. text.hash < 2 ^ 64) placed.items) }
 {
     let len = items.len() as u32;
     let mut placed = Vec::with_capacity(alloc, items.len())?;

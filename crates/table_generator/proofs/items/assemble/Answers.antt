@@ -16,4 +16,4 @@ returns c =
     (rw c.deref.ensures.value at c.in_ok-placed.ensures.places) c.in_ok-placed.ensures.hashes c.requires.apart
     (IsNonDecreasingBy-from_sort_by_key (λ text. text.place) _ c.sort_unstable_by_key.ensures.sorted (λ a r q k. search rules))
     (map string_bytes c.loop-text.atoms.items) c.loop-text.hashes.items
-    (c.loop-text.invariant.texts ∙ ap (map (λ text. text.text.now)) whole) (c.loop-text.invariant.hashes ∙ ap (map (λ text. text.hash)) whole)
+    (c.loop-text.invariant.texts ∙ ap (map (λ text. text.text.now)) whole) (c.loop-text.invariant.hashes ∙ ap (map (λ text. text.hash)) whole) c.in_ok-placed.ensures.small
