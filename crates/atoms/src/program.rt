@@ -1,7 +1,7 @@
 // All that the program does, over any reader and writers.
 #![tactic(auto)]
 
-ghost use Rattle.std.specs.Prelude.{◌≡◌, ℕ, ◌≤◌, List, false, IfSome, IsErr, IfErr, MatchOption, OnOk, OnErr};
+ghost use Rattle.std.specs.Prelude.{◌≡◌, ◌≢◌, ℕ, ◌≤◌, List, codes, false, IfSome, IsErr, IfErr, MatchOption, OnOk, OnErr};
 ghost use Rattle.std.specs.Str.{IsUtf8};
 ghost use Rattle.std.specs.Io.KnownBytes.{Appends};
 ghost use Rattle.atoms.specs.Streams.{AppendsBeginning};
@@ -95,6 +95,52 @@ fn request_of(key: &str, bound: &str) -> Option<(u64, u32)>
     Some((key, bound))
 }
 
+/// The command that one word asks for.
+fn alone(word: &str) -> Option<Command>
+    ensures words { word.now ≡ codes "words" → result ≡ Some Command.Words }
+    ensures replay { word.now ≡ codes "replay" → result ≡ Some Command.Replay }
+    ensures check { word.now ≡ codes "check" → result ≡ Some Command.Check }
+    ensures workers { (n : ℕ) → result ≡ Some (Command.Count n) → ⊥ }
+    ensures other { word.now ≢ codes "words" → word.now ≢ codes "replay" → word.now ≢ codes "check" → result ≡ None }
+{
+    match word {
+        "words" => Some(Command::Words),
+        "replay" => Some(Command::Replay),
+        "check" => Some(Command::Check),
+        _ => None,
+    }
+}
+
+/// The command that a word with a number asks for.
+fn counting(word: &str, number: &str) -> Option<Command>
+    ensures count { word.now ≡ codes "count" → (n : ℕ) → IsWorkers number.now n → (m : ℕ) × (result ≡ Some (Command.Count m)) }
+    ensures workers { (n : ℕ) → result ≡ Some (Command.Count n) → (1 ≤ n) × (n ≤ 64) }
+    ensures other { (word.now ≡ codes "count" → (n : ℕ) → ¬ (IsWorkers number.now n)) → result ≡ None }
+{
+    if word != "count" {
+        return None;
+    }
+    let Some(n) = workers_of(number) else {
+        return None;
+    };
+    Some(Command::Count(n))
+}
+
+/// The command that a word with two numbers asks for.
+fn making(word: &str, key: &str, bound: &str) -> Option<Command>
+    ensures generate { word.now ≡ codes "generate" → (k b : ℕ) → IsRequest key.now bound.now k b → result ≡ Some (Command.Generate k b) }
+    ensures workers { (n : ℕ) → result ≡ Some (Command.Count n) → ⊥ }
+    ensures other { (word.now ≡ codes "generate" → (k b : ℕ) → ¬ (IsRequest key.now bound.now k b)) → result ≡ None }
+{
+    if word != "generate" {
+        return None;
+    }
+    let Some((key, bound)) = request_of(key, bound) else {
+        return None;
+    };
+    Some(Command::Generate(key, bound))
+}
+
 /// `None` where the arguments aren't those of a command.
 fn command_of(args: &[String]) -> Option<Command>
     ensures words { AreWords args.now → result ≡ Some Command.Words }
@@ -107,21 +153,9 @@ fn command_of(args: &[String]) -> Option<Command>
         → ((key bound : ℕ) → ¬ (AreGenerate args.now key bound)) → ¬ (AreCheck args.now) → result ≡ None }
 {
     match args {
-        [word] if word.as_str() == "words" => Some(Command::Words),
-        [word] if word.as_str() == "replay" => Some(Command::Replay),
-        [word, number] if word.as_str() == "count" => {
-            let Some(n) = workers_of(number.as_str()) else {
-                return None;
-            };
-            Some(Command::Count(n))
-        }
-        [word] if word.as_str() == "check" => Some(Command::Check),
-        [word, key, bound] if word.as_str() == "generate" => {
-            let Some((key, bound)) = request_of(key.as_str(), bound.as_str()) else {
-                return None;
-            };
-            Some(Command::Generate(key, bound))
-        }
+        [word] => alone(word.as_str()),
+        [word, number] => counting(word.as_str(), number.as_str()),
+        [word, key, bound] => making(word.as_str(), key.as_str(), bound.as_str()),
         _ => None,
     }
 }
