@@ -1,6 +1,6 @@
 -- Where a text is cut at a byte, it is cut in one way.
 use Rattle.std.proofs.Common.{◌≡◌, ◌≢◌, ℕ, ◌<◌, List, [], ◌∷◌, ◌++◌, length, get_or, sym, refl, ap, ◌∙◌, arith, suc, zero, drop, length-append}
-use Rattle.std.specs.Prelude.{Option, None, Some}
+use Rattle.std.specs.Prelude.{None, Some}
 use Rattle.std.specs.Str.Pattern.{FindsChar, SplitsAroundMatch}
 use Rattle.std.proofs.lemmas.Str.Pattern.{split_parts, NoCharPasses-char}
 use denote.Ref.{Bor}

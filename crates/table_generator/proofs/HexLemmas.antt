@@ -1,5 +1,5 @@
 -- Sixteen hexadecimal digits: what is printed of a number, and what is read of one.
-use Rattle.std.proofs.Common.{◌≡◌, ◌≢◌, ℕ, ◌+◌, ◌*◌, ◌-◌, ◌/◌, ◌%◌, ◌^◌, ◌<◌, ◌≤◌, ◌⊎◌, inl, inr, zero, suc, true, false, Bool, List, [], ◌∷◌, ◌++◌, length, get_or, replicate, sym, refl, ap, ◌∙◌, arith, subst, eq-eqb, length-append, append_assoc}
+use Rattle.std.proofs.Common.{◌≡◌, ℕ, ◌+◌, ◌*◌, ◌-◌, ◌/◌, ◌%◌, ◌^◌, ◌<◌, ◌≤◌, ◌⊎◌, inl, inr, zero, suc, true, false, Bool, List, [], ◌∷◌, ◌++◌, length, get_or, replicate, sym, refl, ap, ◌∙◌, arith, subst, eq-eqb, length-append, append_assoc}
 use mathlib.Core.Logic.{⊎_elim}
 use Rattle.std.specs.Fmt.{digits, digits_onto, digit_glyph, format_spec, padded_integral, char_count}
 use Rattle.std.specs.Prelude.{if◌then◌else◌, ◌==◌, nat_lt}

@@ -1,12 +1,10 @@
 -- A line of a table text stands at the front of a text in one way.
-use Rattle.std.proofs.Common.{◌≡◌, ◌≢◌, ℕ, ◌+◌, ◌^◌, ◌<◌, ◌≤◌, Bool, true, false, nat_lt, length-append, List, [], ◌∷◌, ◌++◌, length, get_or, sym, refl, ap, ◌∙◌, arith, suc, zero, drop, codes, decimal, append_assoc}
+use Rattle.std.proofs.Common.{◌≡◌, ◌≢◌, ℕ, ◌+◌, ◌^◌, ◌<◌, Bool, true, false, nat_lt, length-append, List, [], ◌∷◌, ◌++◌, length, get_or, sym, refl, ap, ◌∙◌, arith, codes, decimal, append_assoc}
 use Rattle.std.specs.Prelude.{if◌then◌else◌}
 use Rattle.std.proofs.lemmas.Bool.{false≢true, ltb-true}
-use Rattle.std.specs.List.{All}
-use Rattle.std.proofs.lemmas.Fmt.{decimal_injective}
-use Rattle.std.proofs.lemmas.List.{append_cancel_left, get_or_default, get_or-append-add}
+use Rattle.std.proofs.lemmas.List.{get_or_default, get_or-append-add}
 use Rattle.table_generator.specs.TableText.{key_line, disp_line, atom_line, hex_digits, HasNoFeed}
-use Rattle.table_generator.proofs.Cuts.{Lacks, cut_before, first_byte, lacks_append, lacks_cons, no_cut}
+use Rattle.table_generator.proofs.Cuts.{Lacks, cut_before, lacks_append, lacks_cons}
 use Rattle.table_generator.proofs.HexLemmas.{hex_count, hex_lacks}
 use Rattle.table_generator.proofs.NumberLemmas.{decimal_byte}
 

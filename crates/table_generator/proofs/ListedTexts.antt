@@ -1,5 +1,5 @@
 -- Texts in a list of texts where they lie.
-use Rattle.std.proofs.Common.{◌≡◌, ℕ, ◌<◌, zero, suc, eq-eqb, Bool, true, false, List, [], ◌∷◌, length, get_or, take, sym, refl, ap, ◌∙◌, arith, length-take}
+use Rattle.std.proofs.Common.{◌≡◌, ℕ, ◌<◌, zero, suc, eq-eqb, Bool, true, false, List, [], ◌∷◌, length, get_or, take, sym, refl, ap, ◌∙◌, arith}
 use Rattle.std.proofs.lemmas.Bool.{false≢true}
 use Rattle.std.proofs.lemmas.List.{get_or-take, get_or-map}
 use denote.Ref.{Bor}

@@ -1,12 +1,12 @@
 -- Texts that are sorted by their places: each stands at its place.
 use Rattle.std.proofs.Common.{◌≡◌, ◌≢◌, ℕ, ◌+◌, ◌-◌, ◌<◌, ◌≤◌, zero, suc, true, ◌^◌, rules, List, [], ◌∷◌, length, map, get_or, sym, refl, ap, ◌∙◌, arith, subst, eq-eqb}
 use Rattle.std.specs.List.{All, AllPairs, IsDistinct}
-use Rattle.std.specs.List.Sorted.{IsNonDecreasing, IsNonDecreasingBy, IsPermutation, IsStrictlyIncreasing}
-use Rattle.std.proofs.lemmas.List.{get_or-map, length-map, get_or_default}
+use Rattle.std.specs.List.Sorted.{IsNonDecreasing, IsNonDecreasingBy, IsPermutation}
+use Rattle.std.proofs.lemmas.List.{get_or-map, length-map}
 use Rattle.std.proofs.lemmas.List.Kept.{AllPairs-from_increasing}
 use Rattle.std.proofs.lemmas.List.Sorted.{All-permutation, IsPermutation-map, length_permutation}
 use Rattle.std.proofs.lemmas.Map.Keys.{IsDistinct-IsPermutation, IsStrictlyIncreasing-from_distinct}
-use Rattle.std.proofs.lemmas.Map.Made.{AllPairs-from_IsDistinct, IsDistinct-from_AllPairs}
+use Rattle.std.proofs.lemmas.Map.Made.{IsDistinct-from_AllPairs}
 use lib.Dec.{eqb}
 use Rattle.string_cache_core.specs.declared.phf.Hashes.{Hashes}
 use Rattle.string_cache_core.specs.Phf.{hashes_of, hash_of_hashes, place_of}

@@ -1,10 +1,10 @@
 -- A table text is read in one way.
-use Rattle.std.proofs.Common.{◌≡◌, ◌≢◌, ℕ, ◌^◌, ◌<◌, List, [], ◌∷◌, ◌++◌, length, sym, refl, ap, ◌∙◌, arith, suc, zero, get_or, codes, decimal, append_assoc}
+use Rattle.std.proofs.Common.{◌≡◌, ◌≢◌, ℕ, ◌^◌, ◌<◌, List, [], ◌∷◌, ◌++◌, length, sym, refl, ap, ◌∙◌, arith, suc, get_or, codes, decimal, append_assoc}
 use Rattle.std.specs.List.{All, flat_map}
 use Rattle.std.proofs.lemmas.Fmt.{decimal_injective}
 use Rattle.std.proofs.lemmas.List.{append_cancel_left, append-nil}
 use Rattle.string_cache_core.specs.Tables.{Tables, IsPerfectTable}
-use Rattle.table_generator.specs.TableText.{key_line, disp_line, atom_line, atom_lines, table_text, hex_digits, HasNoFeed, ArePrintable, ReadsDisps, ReadsAtoms, SpellsTables, SpellsPerfectTables}
+use Rattle.table_generator.specs.TableText.{key_line, disp_line, atom_line, atom_lines, hex_digits, HasNoFeed, ReadsDisps, ReadsAtoms, SpellsTables, SpellsPerfectTables}
 use Rattle.table_generator.proofs.Cuts.{first_byte}
 use Rattle.table_generator.proofs.HexLemmas.{hex_lacks, hex_injective}
 use Rattle.table_generator.proofs.LineLemmas.{key_words, disp_words, atom_words, key_flat, disp_flat, atom_flat, key_lacks, disp_lacks, atom_lacks, decimal_lacks}

@@ -1,12 +1,12 @@
 -- How one pair of displacements after another is settled.
-use Rattle.std.proofs.Common.{◌≡◌, ◌≢◌, ℕ, ◌+◌, ◌*◌, ◌-◌, ◌%◌, ◌^◌, ◌<◌, ◌≤◌, Bool, true, false, List, [], ◌∷◌, length, get_or, take, drop, set, replicate, sym, refl, ap, ◌∙◌, arith, subst, length-take, length-drop}
+use Rattle.std.proofs.Common.{◌≡◌, ◌≢◌, ℕ, ◌+◌, ◌*◌, ◌-◌, ◌%◌, ◌^◌, ◌<◌, ◌≤◌, Bool, true, false, List, [], ◌∷◌, length, get_or, take, drop, set, replicate, sym, ap, ◌∙◌, arith, subst, length-take, length-drop}
 use mathlib.Core.Logic.{⊎_elim}
 use Rattle.std.proofs.lemmas.Bool.{false≢true, cases_lt, cases_eq}
-use Rattle.std.proofs.lemmas.List.{get_or-take, get_or-drop, get_or_default, get_or-set_same, get_or-set_other, get_or-replicate, get_or_past, length-set, length-replicate}
+use Rattle.std.proofs.lemmas.List.{get_or-take, get_or-drop, get_or-set_same, get_or-set_other, get_or-replicate, get_or_past, length-set, length-replicate}
 use Rattle.string_cache_core.specs.declared.phf.Hashes.{Hashes}
 use Rattle.string_cache_core.specs.Phf.{place_of}
 use Rattle.table_generator.specs.Grouped.{pair_of, AreGrouped, IsRunEnd}
-use Rattle.table_generator.specs.Places.{place_by, is_taken, Fits, Marks, AreApart, Places}
+use Rattle.table_generator.specs.Places.{place_by, is_taken, Fits, Marks, AreApart}
 
 -- what is settled once the texts before `start` are
 pub record Settled (pairs bound : ℕ) (hashes : List Hashes) (disps : List (ℕ × ℕ)) (taken : List Bool) (start : ℕ) : Type 0 where

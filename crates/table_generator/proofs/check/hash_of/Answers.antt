@@ -1,6 +1,6 @@
-use Rattle.std.proofs.Common.{◌≡◌, ◌<◌, ◌^◌, ◌+◌, ◌*◌, [], ◌∷◌, ◌++◌, ap, arith, get_or, length, sym, subst, ◌∙◌, take}
+use Rattle.std.proofs.Common.{◌<◌, ◌^◌, ◌+◌, ◌*◌, [], ◌∷◌, ◌++◌, ap, arith, get_or, length, sym, subst, ◌∙◌, take}
 use Rattle.std.proofs.lemmas.List.{take_more}
-use Rattle.table_generator.specs.TableText.{hex_digit, hex_digits}
+use Rattle.table_generator.specs.TableText.{hex_digits}
 use Rattle.table_generator.proofs.HexLemmas.{hex_at, hex_bound, hex_count, hex_fits, hex_more, hex_none}
 use Rattle.table_generator.proofs.check.hash_of.Goals as goal
 

@@ -1,7 +1,6 @@
 use Rattle.std.proofs.Common.{◌≡◌, ◌-◌, ◌<◌, ◌++◌, ap, arith, drop, get_or, length, refl, rules, take}
 use Rattle.std.proofs.lemmas.Grind.{common_steps}
 use Rattle.std.proofs.lemmas.List.{get_or_default}
-use Rattle.string_cache_core.specs.declared.phf.Hashes.{Hashes}
 use Rattle.table_generator.specs.Grouped.{pair_of}
 use Rattle.table_generator.specs.Places.{Fits}
 use Rattle.table_generator.proofs.Settling.{settled_none, settled_more, none_places}

@@ -1,5 +1,4 @@
 use Rattle.std.proofs.Common.{rules, ◌<◌, ◌^◌}
-use Rattle.std.proofs.lemmas.Grind.{common_steps}
 use Rattle.table_generator.specs.Generated.{tables_of, texts_of}
 use Rattle.table_generator.proofs.Making.{printed_tables}
 use Rattle.table_generator.proofs.generate.generate.Goals as goal

@@ -1,4 +1,4 @@
-use Rattle.std.proofs.Common.{◌≡◌, ℕ, ◌<◌, List, length, get_or, [], true, arith, ap, sym, ◌∙◌, subst}
+use Rattle.std.proofs.Common.{ℕ, List, get_or, [], arith, sym, ◌∙◌, subst}
 use denote.Ref.{Bor}
 use Rattle.std.proofs.lemmas.List.{length-map}
 use borrow.Author.Count.{below_more}

@@ -1,4 +1,4 @@
-use Rattle.std.proofs.Common.{◌≡◌, ◌∙◌, ap, map, length, refl, rules, string_bytes}
+use Rattle.std.proofs.Common.{◌∙◌, ap, map, length, refl, rules, string_bytes}
 use Rattle.std.proofs.lemmas.List.{take_all}
 use Rattle.std.proofs.lemmas.List.Sorted.{IsNonDecreasingBy-from_sort_by_key}
 use Rattle.table_generator.proofs.Placing.{assembled_items}

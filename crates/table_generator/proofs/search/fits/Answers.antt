@@ -1,8 +1,6 @@
-use Rattle.std.proofs.Common.{◌≡◌, ℕ, ◌<◌, ◌≤◌, length, get_or, take, false, true, arith, ap, sym, ◌∙◌, subst, rules, nat_lt}
+use Rattle.std.proofs.Common.{length, take, arith, sym, ◌∙◌, rules}
 use Rattle.std.proofs.lemmas.Bool.{false≢true}
-use Rattle.std.proofs.lemmas.List.{get_or-take, get_or_default}
-use borrow.Author.Count.{below_more}
-use Rattle.table_generator.specs.Places.{place_by, is_taken, Fits, IsPlaceOf}
+use Rattle.table_generator.specs.Places.{IsPlaceOf}
 use Rattle.table_generator.proofs.Fitting.{not_free, not_apart, free_more, differ_more}
 use Rattle.table_generator.proofs.search.fits.Goals as goal
 use Rattle.table_generator.proofs.search.fits.Goals.{then-taken-place-via-then-taken-place, then-taken-place-via-else-taken-place+then-is_place_of}

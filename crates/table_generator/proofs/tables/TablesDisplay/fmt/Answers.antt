@@ -1,6 +1,5 @@
-use Rattle.std.proofs.Common.{◌≡◌, ◌≤◌, ◌<◌, ◌+◌, ◌-◌, ◌^◌, ◌∙◌, ◌++◌, [], false, ap, arith, codes, get_or, length, map, rules, string_bytes, subst, sym, take}
+use Rattle.std.proofs.Common.{◌≡◌, ◌≤◌, ◌<◌, ◌+◌, ◌-◌, ◌^◌, ◌++◌, [], false, arith, codes, get_or, length, map, rules, string_bytes, subst, take}
 use Rattle.std.proofs.lemmas.Grind.{common_steps}
-use Rattle.std.proofs.lemmas.List.{get_or-map, length-map}
 use Rattle.std.proofs.Output.{has_written_append}
 use Rattle.std.specs.Fmt.{HasWritten, digits, format_spec, padded_integral}
 use Rattle.std.specs.List.{flat_map}
