@@ -9,6 +9,9 @@ ghost use Rattle.atoms.specs.Faults.{IsCheckFault, IsGenerateFault};
 ghost use Rattle.atoms.specs.Script.{script_lines};
 ghost use Rattle.atoms.specs.TableCommands.{IsTableOutput, IsAnswer, WritesTables, BeginsTables, WritesAnswer, BeginsAnswer};
 
+#[cfg(test)]
+mod tests;
+
 use crate::faults::AppFault;
 use crate::replay::next_line;
 use crate::streams::{Sink, Source, read_all, write_whole};
