@@ -1,15 +1,18 @@
 // What no contract says: lists that are placed, and texts that come from outside.
 #![tactic(auto)]
 
+mod static_names;
+
 use crate::check::check_tables;
 use crate::generate::generate;
 use crate::numbers::{number_after, number_of, short_number_of};
 use crate::tables::{GenFault, Tables};
+use static_names::Names;
 use std::alloc::Global;
 use std::test::Fail;
 use string_cache_core::Fault;
 use string_cache_core::phf::hash;
-use string_cache_core::static_sets::check_parts;
+use string_cache_core::static_sets::{StaticAtomSet, TextForm, check_parts, form_of_text};
 
 /// As `generate`. Where memory was refused, the call is made once more.
 fn tables_of(alloc: Global, list: &[&str], key: u64, bound: u32) -> Result<Tables, GenFault> {
@@ -117,25 +120,29 @@ fn two_texts(rt: HostRuntime) -> Result<(), Fail> {
     Ok(())
 }
 
+/// The tables of the names, under the first of a hundred keys that has some.
+fn tables_of_names(alloc: Global, names: &[&str]) -> Result<Tables, GenFault> {
+    for key in 0..99u64 {
+        match tables_of(alloc, names, key, 1024) {
+            Err(GenFault::NotPlaced) => {}
+            answer => return answer,
+        }
+    }
+    tables_of(alloc, names, 99, 1024)
+}
+
 /// A list of more than five texts is placed by one of the first keys.
 #[test]
 fn sixty_one_texts(rt: HostRuntime) -> Result<(), Fail> {
     let alloc = rt.alloc();
     let texts = numbered(alloc, 61)?;
     let list = lent(alloc, &texts)?;
-    let mut placed = 0;
-    for key in 0..100u64 {
-        if placed == 0 {
-            if let Ok(tables) = tables_of(alloc, &list, key, 1024) {
-                placed = tables.atoms.len();
-                assert_eq!(rt; tables.disps.len(), 13);
-                let atoms = lent(alloc, &tables.atoms)?;
-                assert!(rt; check_parts(key, &tables.disps, &atoms, &tables.hashes));
-                assert!(rt; checked(alloc, &format!(in alloc; "{tables}")?)?);
-            }
-        }
-    }
-    assert_eq!(rt; placed, 61);
+    let tables = tables_of_names(alloc, &list)?;
+    assert_eq!(rt; tables.disps.len(), 13);
+    assert_eq!(rt; tables.atoms.len(), 61);
+    let atoms = lent(alloc, &tables.atoms)?;
+    assert!(rt; check_parts(tables.key, &tables.disps, &atoms, &tables.hashes));
+    assert!(rt; checked(alloc, &format!(in alloc; "{tables}")?)?);
     Ok(())
 }
 
@@ -144,17 +151,17 @@ fn sixty_one_texts(rt: HostRuntime) -> Result<(), Fail> {
 fn hopeless_search(rt: HostRuntime) -> Result<(), Fail> {
     let alloc = rt.alloc();
     let texts = numbered(alloc, 100)?;
-    let mut refused = 0;
+    let mut is_refused = false;
     for (i, text) in texts.iter().enumerate() {
         let (one, other) = (hash(&texts[0], 0), hash(text, 0));
         let is_even = (one.f1 ^ other.f1) & 1 == 0 && (one.f2 ^ other.f2) & 1 == 0;
         if i > 0 && is_even {
             let found = tables_of(alloc, &[texts[0].as_str(), text.as_str()], 0, u32::MAX);
             assert!(rt; found.err() == Some(GenFault::NotPlaced));
-            refused += 1;
+            is_refused = true;
         }
     }
-    assert!(rt; refused > 0);
+    assert!(rt; is_refused);
     Ok(())
 }
 
@@ -258,4 +265,20 @@ fn spelled_numbers(rt: HostRuntime) {
     assert_eq!(rt; short_number_of("4294967296"), None);
     assert_eq!(rt; number_after("key 5", "key "), Some(5));
     assert_eq!(rt; number_after("key5", "key "), None);
+}
+
+/// Each long name is static under the tables that were generated of several hundred names.
+#[test]
+fn long_names_are_static(rt: HostRuntime) {
+    let names = Names::get();
+    assert!(rt; names.check() && names.atoms.len() > 300);
+    for (i, name) in names.atoms.iter().enumerate() {
+        if name.len() > 7 {
+            assert_eq!(rt;
+                form_of_text::<Names>(name),
+                TextForm::Static(i as u32),
+                "of {name}"
+            );
+        }
+    }
 }
