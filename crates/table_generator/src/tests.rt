@@ -1,18 +1,15 @@
 // What no contract says: lists that are placed, and texts that come from outside.
 #![tactic(auto)]
 
-mod static_names;
-
 use crate::check::check_tables;
 use crate::generate::generate;
 use crate::numbers::{number_after, number_of, short_number_of};
 use crate::tables::{GenFault, Tables};
-use static_names::Names;
 use std::alloc::Global;
 use std::test::Fail;
 use string_cache_core::Fault;
 use string_cache_core::phf::hash;
-use string_cache_core::static_sets::{StaticAtomSet, TextForm, check_parts, form_of_text};
+use string_cache_core::static_sets::check_parts;
 
 /// As `generate`. Where memory was refused, the call is made once more.
 fn tables_of(alloc: Global, list: &[&str], key: u64, bound: u32) -> Result<Tables, GenFault> {
@@ -265,20 +262,4 @@ fn spelled_numbers(rt: HostRuntime) {
     assert_eq!(rt; short_number_of("4294967296"), None);
     assert_eq!(rt; number_after("key 5", "key "), Some(5));
     assert_eq!(rt; number_after("key5", "key "), None);
-}
-
-/// Each long name is static under the tables that were generated of several hundred names.
-#[test]
-fn long_names_are_static(rt: HostRuntime) {
-    let names = Names::get();
-    assert!(rt; names.check() && names.atoms.len() > 300);
-    for (i, name) in names.atoms.iter().enumerate() {
-        if name.len() > 7 {
-            assert_eq!(rt;
-                form_of_text::<Names>(name),
-                TextForm::Static(i as u32),
-                "of {name}"
-            );
-        }
-    }
 }
