@@ -9,7 +9,7 @@ use Rattle.std.proofs.lemmas.List.{append_cancel_left}
 use Rattle.string_cache.specs.Bounds.{Bounds, AreBounds}
 use Rattle.string_cache.specs.declared.steps.Step.{Step}
 use Rattle.atoms.specs.Script.{HasWords, step_words, Spells, SpellsLimits}
-use Rattle.atoms.proofs.NumberLemmas.{decimal_byte}
+use Rattle.table_generator.proofs.NumberLemmas.{decimal_byte}
 
 -- no space is in the bytes
 abbrev pub NoSpace : List ℕ → Type 0

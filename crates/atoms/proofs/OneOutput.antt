@@ -17,7 +17,7 @@ use Rattle.string_cache.specs.Steps.{step, step_if, take_intern_if, opening}
 use Rattle.string_cache.specs.Runs.{Leads, Script, events_of}
 use Rattle.atoms.specs.Script.{script_lines, step_words, HasWords, Spells, SpellsLimits, SpellSteps, SpellScript}
 use Rattle.atoms.specs.Replay.{output_of, IsOutput, IsReplay}
-use Rattle.atoms.proofs.NumberLemmas.{decimal_byte}
+use Rattle.table_generator.proofs.NumberLemmas.{decimal_byte}
 use Rattle.atoms.proofs.CutLemmas.{cut_once, limits_cut}
 
 value_of : (n : ℕ) → n < 2 ^ 64 → digits_value 10 (decimal n) ≡ n

@@ -1,7 +1,7 @@
 -- Which faults may come, and when.
 use Rattle.std.specs.Prelude.{ℕ}
 use Rattle.atoms.specs.declared.faults.AppFault.{AppFault}
-use Rattle.atoms.specs.declared.faults.AppFault.TheVariants.{Read, Write, Text, Script, Worker, Intern}
+use Rattle.atoms.specs.declared.faults.AppFault.TheVariants.{Read, Write, Text, Script, Worker, Intern, Gen}
 use Rattle.string_cache.specs.declared.Fault.{Fault}
 use Rattle.string_cache.specs.declared.Fault.TheVariants.{Memory, FullCount, TicketsSpent, NotText}
 use Rattle.string_cache.specs.Faults.{IsInternFault}
@@ -20,6 +20,7 @@ IsReadingFault Text = ⊥
 IsReadingFault (Script line) = ⊥
 IsReadingFault Worker = ⊥
 IsReadingFault (Intern fault) = IsMemory fault
+IsReadingFault (Gen fault) = ⊥
 
 -- while words are interned and their lines written
 abbrev pub IsWritingFault : AppFault → Type 0
@@ -29,6 +30,7 @@ IsWritingFault Text = ⊥
 IsWritingFault (Script line) = ⊥
 IsWritingFault Worker = ⊥
 IsWritingFault (Intern fault) = IsInternFault fault
+IsWritingFault (Gen fault) = ⊥
 
 -- from the words of a text at all
 abbrev pub IsWordsFault : AppFault → Type 0
@@ -38,6 +40,7 @@ IsWordsFault Text = Unit {0}
 IsWordsFault (Script line) = ⊥
 IsWordsFault Worker = ⊥
 IsWordsFault (Intern fault) = IsInternFault fault
+IsWordsFault (Gen fault) = ⊥
 
 -- before anything is written
 abbrev pub IsUnwrittenFault : AppFault → Type 0
@@ -47,6 +50,7 @@ IsUnwrittenFault Text = Unit {0}
 IsUnwrittenFault (Script line) = Unit {0}
 IsUnwrittenFault Worker = ⊥
 IsUnwrittenFault (Intern fault) = ⊥
+IsUnwrittenFault (Gen fault) = ⊥
 
 -- while a script is parsed, where IsBad says that a line isn't of the grammar
 abbrev pub IsParsingFault : (ℕ → Type 0) → AppFault → Type 0
@@ -56,6 +60,7 @@ IsParsingFault IsBad Text = ⊥
 IsParsingFault IsBad (Script line) = IsBad line
 IsParsingFault IsBad Worker = ⊥
 IsParsingFault IsBad (Intern fault) = IsMemory fault
+IsParsingFault IsBad (Gen fault) = ⊥
 
 -- from a script at all
 abbrev pub IsReplayFault : AppFault → Type 0
@@ -65,6 +70,7 @@ IsReplayFault Text = Unit {0}
 IsReplayFault (Script line) = Unit {0}
 IsReplayFault Worker = ⊥
 IsReplayFault (Intern fault) = IsMemory fault
+IsReplayFault (Gen fault) = ⊥
 
 -- from counting words
 abbrev pub IsCountFault : AppFault → Type 0
@@ -74,3 +80,24 @@ IsCountFault Text = ⊥
 IsCountFault (Script line) = ⊥
 IsCountFault Worker = Unit {0}
 IsCountFault (Intern fault) = IsInternFault fault
+IsCountFault (Gen fault) = ⊥
+
+-- from making tables
+abbrev pub IsGenerateFault : AppFault → Type 0
+IsGenerateFault Read = Unit {0}
+IsGenerateFault Write = Unit {0}
+IsGenerateFault Text = Unit {0}
+IsGenerateFault (Script line) = ⊥
+IsGenerateFault Worker = ⊥
+IsGenerateFault (Intern fault) = IsMemory fault
+IsGenerateFault (Gen fault) = Unit {0}
+
+-- from checking a table text
+abbrev pub IsCheckFault : AppFault → Type 0
+IsCheckFault Read = Unit {0}
+IsCheckFault Write = Unit {0}
+IsCheckFault Text = Unit {0}
+IsCheckFault (Script line) = ⊥
+IsCheckFault Worker = ⊥
+IsCheckFault (Intern fault) = IsMemory fault
+IsCheckFault (Gen fault) = ⊥

@@ -5,6 +5,7 @@ ghost use Rattle.std.specs.Prelude.{◌≡◌};
 
 use std::alloc::{AllocError, AllocFailed};
 use string_cache::Fault;
+use table_generator::tables::GenFault;
 use thiserror::Error;
 
 /// What a command of the program can fail with.
@@ -28,6 +29,19 @@ pub enum AppFault {
     /// Interning was refused, or the program's own memory.
     #[error("{0}")]
     Intern(Fault),
+    /// No tables were made.
+    #[error("{0}")]
+    Gen(GenFault),
+}
+
+impl From<GenFault> for AppFault {
+    ghost use Rattle.atoms.specs.declared.faults.AppFault.TheVariants.{Gen};
+
+    ghost from_gives = { λ cause fault. fault ≡ Gen cause };
+
+    fn from(cause: GenFault) -> AppFault {
+        AppFault::Gen(cause)
+    }
 }
 
 impl From<Fault> for AppFault {

@@ -3,6 +3,7 @@
 
 mod count;
 mod faults;
+mod generate;
 #[cfg(test)]
 mod memory;
 mod program;

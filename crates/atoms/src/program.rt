@@ -1,14 +1,15 @@
 // All that the program does, over any reader and writers.
 #![tactic(auto)]
 
-ghost use Rattle.std.specs.Prelude.{◌≡◌, ℕ, ◌≤◌, List, false, IfSome, IsErr, IfErr, MatchOption, OnOk, OnErr};
+ghost use Rattle.std.specs.Prelude.{◌≡◌, ◌≢◌, ℕ, ◌≤◌, List, codes, false, IfSome, IsErr, IfErr, MatchOption, OnOk, OnErr};
 ghost use Rattle.std.specs.Str.{IsUtf8};
 ghost use Rattle.std.specs.Io.KnownBytes.{Appends};
 ghost use Rattle.atoms.specs.Streams.{AppendsBeginning};
 ghost use Rattle.atoms.specs.Words.{word_lines};
 ghost use Rattle.atoms.specs.CountLines.{count_lines};
-ghost use Rattle.atoms.specs.Commands.{AreCount, AreWords, AreReplay, IsWorkers};
+ghost use Rattle.atoms.specs.Commands.{AreCheck, AreCount, AreGenerate, AreWords, AreReplay, IsRequest, IsWorkers};
 ghost use Rattle.atoms.specs.Replay.{IsReplay, BeginsReplay};
+ghost use Rattle.atoms.specs.TableCommands.{WritesTables, BeginsTables, WritesAnswer, BeginsAnswer};
 ghost use Rattle.string_cache.specs.Tables.{empty_tables};
 
 #[cfg(test)]
@@ -16,7 +17,8 @@ pub mod tests;
 
 use crate::count::tell_counts;
 use crate::faults::AppFault;
-use crate::replay::{number_of, replay};
+use crate::generate::{write_answer, write_tables};
+use crate::replay::replay;
 use crate::streams::{Sink, Source, write_whole};
 use crate::words::words;
 use std::alloc::Global;
@@ -28,8 +30,9 @@ use std::thread::Threads;
 use std::{env, fmt};
 use string_cache::dynamic_set::Set;
 use string_cache::{EmptyStaticAtomSet, Fault};
+use table_generator::numbers::{number_of, short_number_of};
 
-const USAGE: &str = "usage: atoms words | count N | replay\n";
+const USAGE: &str = "usage: atoms words | count N | replay | generate KEY BOUND | check\n";
 
 /// The arguments without the program's name. `None` where one isn't UTF-8, and `Intern(Memory)` where they found no room.
 pub fn arguments(rt: &(impl Env + AllocGlobal)) -> Result<Option<Vec<String>>, AppFault>
@@ -56,6 +59,9 @@ enum Command {
     /// By so many workers.
     Count(u32),
     Replay,
+    /// Tables under this key, with displacements below this bound.
+    Generate(u64, u32),
+    Check,
 }
 
 /// The most workers that count.
@@ -74,23 +80,82 @@ fn workers_of(text: &str) -> Option<u32>
     Some(n as u32)
 }
 
+/// The key and the bound that two texts spell. `None` where they spell none.
+fn request_of(key: &str, bound: &str) -> Option<(u64, u32)>
+    ensures { MatchOption result ((k b : ℕ) → IsRequest key.now bound.now k b → ⊥)
+        (λ found. IsRequest key.now bound.now found.0 found.1
+        × ((k b : ℕ) → IsRequest key.now bound.now k b → (k ≡ found.0) × (b ≡ found.1))) }
+{
+    let Some(key) = number_of(key) else {
+        return None;
+    };
+    let Some(bound) = short_number_of(bound) else {
+        return None;
+    };
+    Some((key, bound))
+}
+
+/// The command that one word asks for.
+fn alone(word: &str) -> Option<Command>
+    ensures words { word.now ≡ codes "words" → result ≡ Some Command.Words }
+    ensures replay { word.now ≡ codes "replay" → result ≡ Some Command.Replay }
+    ensures check { word.now ≡ codes "check" → result ≡ Some Command.Check }
+    ensures workers { (n : ℕ) → result ≡ Some (Command.Count n) → ⊥ }
+    ensures other { word.now ≢ codes "words" → word.now ≢ codes "replay" → word.now ≢ codes "check" → result ≡ None }
+{
+    match word {
+        "words" => Some(Command::Words),
+        "replay" => Some(Command::Replay),
+        "check" => Some(Command::Check),
+        _ => None,
+    }
+}
+
+/// The command that a word with a number asks for.
+fn counting(word: &str, number: &str) -> Option<Command>
+    ensures count { word.now ≡ codes "count" → (n : ℕ) → IsWorkers number.now n → (m : ℕ) × (result ≡ Some (Command.Count m)) }
+    ensures workers { (n : ℕ) → result ≡ Some (Command.Count n) → (1 ≤ n) × (n ≤ 64) }
+    ensures other { (word.now ≡ codes "count" → (n : ℕ) → ¬ (IsWorkers number.now n)) → result ≡ None }
+{
+    if word != "count" {
+        return None;
+    }
+    let Some(n) = workers_of(number) else {
+        return None;
+    };
+    Some(Command::Count(n))
+}
+
+/// The command that a word with two numbers asks for.
+fn making(word: &str, key: &str, bound: &str) -> Option<Command>
+    ensures generate { word.now ≡ codes "generate" → (k b : ℕ) → IsRequest key.now bound.now k b → result ≡ Some (Command.Generate k b) }
+    ensures workers { (n : ℕ) → result ≡ Some (Command.Count n) → ⊥ }
+    ensures other { (word.now ≡ codes "generate" → (k b : ℕ) → ¬ (IsRequest key.now bound.now k b)) → result ≡ None }
+{
+    if word != "generate" {
+        return None;
+    }
+    let Some((key, bound)) = request_of(key, bound) else {
+        return None;
+    };
+    Some(Command::Generate(key, bound))
+}
+
 /// `None` where the arguments aren't those of a command.
 fn command_of(args: &[String]) -> Option<Command>
     ensures words { AreWords args.now → result ≡ Some Command.Words }
     ensures count { AreCount args.now → (n : ℕ) × (result ≡ Some (Command.Count n)) }
     ensures workers { (n : ℕ) → result ≡ Some (Command.Count n) → (1 ≤ n) × (n ≤ 64) }
     ensures replay { AreReplay args.now → result ≡ Some Command.Replay }
-    ensures other { ¬ (AreWords args.now) → ¬ (AreCount args.now) → ¬ (AreReplay args.now) → result ≡ None }
+    ensures generate { (key bound : ℕ) → AreGenerate args.now key bound → result ≡ Some (Command.Generate key bound) }
+    ensures check { AreCheck args.now → result ≡ Some Command.Check }
+    ensures other { ¬ (AreWords args.now) → ¬ (AreCount args.now) → ¬ (AreReplay args.now)
+        → ((key bound : ℕ) → ¬ (AreGenerate args.now key bound)) → ¬ (AreCheck args.now) → result ≡ None }
 {
     match args {
-        [word] if word.as_str() == "words" => Some(Command::Words),
-        [word] if word.as_str() == "replay" => Some(Command::Replay),
-        [word, number] if word.as_str() == "count" => {
-            let Some(n) = workers_of(number.as_str()) else {
-                return None;
-            };
-            Some(Command::Count(n))
-        }
+        [word] => alone(word.as_str()),
+        [word, number] => counting(word.as_str(), number.as_str()),
+        [word, key, bound] => making(word.as_str(), key.as_str(), bound.as_str()),
         _ => None,
     }
 }
@@ -202,7 +267,18 @@ pub fn program<R: Threads + Wait + Sync, S: Source, K: Sink, F: Sink>(
     ensures replay_beginning { AreReplay args.now → result ≡ 1 → IfSome (S.remaining input.old) (λ bytes.
         BeginsReplay empty_tables bytes (K.contents output.old) (K.contents output.new)) }
     ensures replay_status { AreReplay args.now → result ≤ 1 }
+    ensures generate { (key bound : ℕ) → AreGenerate args.now key bound → result ≡ 0 → IfSome (S.remaining input.old) (λ bytes.
+        WritesTables key bound bytes (K.contents output.old) (K.contents output.new)) }
+    ensures generate_beginning { (key bound : ℕ) → AreGenerate args.now key bound → result ≡ 1
+        → IfSome (S.remaining input.old) (λ bytes. BeginsTables key bound bytes (K.contents output.old) (K.contents output.new)) }
+    ensures generate_status { (key bound : ℕ) → AreGenerate args.now key bound → result ≤ 1 }
+    ensures check { AreCheck args.now → result ≡ 0 → IfSome (S.remaining input.old) (λ bytes.
+        WritesAnswer bytes (K.contents output.old) (K.contents output.new)) }
+    ensures check_beginning { AreCheck args.now → result ≡ 1 → IfSome (S.remaining input.old) (λ bytes.
+        BeginsAnswer bytes (K.contents output.old) (K.contents output.new)) }
+    ensures check_status { AreCheck args.now → result ≤ 1 }
     ensures other { ¬ (AreWords args.now) → ¬ (AreCount args.now) → ¬ (AreReplay args.now)
+        → ((key bound : ℕ) → ¬ (AreGenerate args.now key bound)) → ¬ (AreCheck args.now)
         → (result ≡ 2) × (input.new ≡ input.old) × (output.new ≡ output.old) }
 {
     let Some(command) = command_of(args) else {
@@ -212,6 +288,8 @@ pub fn program<R: Threads + Wait + Sync, S: Source, K: Sink, F: Sink>(
         Command::Words => words_in_new_set(rt, alloc, input, output),
         Command::Count(n) => count_in_new_set(rt, alloc, n, input, output),
         Command::Replay => replay(alloc, input, output),
+        Command::Generate(key, bound) => write_tables(alloc, key, bound, input, output),
+        Command::Check => write_answer(alloc, input, output),
     };
     match outcome {
         Ok(()) => 0,

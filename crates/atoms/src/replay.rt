@@ -18,10 +18,10 @@ mod tests;
 
 use crate::faults::AppFault;
 use crate::streams::{Sink, Source, read_all, write_whole};
-pub use line::number_of;
 use line::step_of_line;
 use print::{append_holders, append_replies};
-use script::{check_steps, next_line, opening_of};
+pub use script::next_line;
+use script::{check_steps, opening_of};
 use std::alloc::Global;
 use std::str;
 use string_cache::EmptyStaticAtomSet;

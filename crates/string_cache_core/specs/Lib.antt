@@ -7,6 +7,7 @@ pub mod Kept
 pub mod Layout
 pub mod Listed
 pub mod Map
+pub mod Parts
 pub mod Pass
 pub mod PassSteps
 pub mod Phf

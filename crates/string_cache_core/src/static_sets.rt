@@ -2,6 +2,7 @@
 #![tactic(auto)]
 
 ghost use Rattle.std.specs.Prelude.{◌≡◌, ◌↔◌, IfSome, IsSome, IsTrue};
+ghost use Rattle.string_cache_core.specs.Parts.{parts};
 ghost use Rattle.string_cache_core.specs.Tables.{Tables, AreUsable, AllAreStatic, IsPerfectTable, IsStaticIndex, empty_tables, form_of_text, text_at};
 
 use crate::phf::{hash, place};
@@ -29,23 +30,33 @@ impl PhfStrSet {
         ensures perfect { IsTrue result ↔ IsPerfectTable (tables_of self.now) }
         ensures found { IsTrue result → AllAreStatic (tables_of self.now) }
     {
-        let Ok(len) = u32::try_from(self.atoms.len()) else {
-            return false;
-        };
-        if len == 0
-            || self.disps.is_empty()
-            || self.disps.len() > u32::MAX as usize
-            || self.hashes.len() != self.atoms.len()
-        {
-            return false;
-        }
-        for (i, text) in self.atoms.iter().enumerate() {
-            if place(&hash(text, self.key), self.disps, len) as usize != i {
-                return false;
-            }
-        }
-        true
+        check_parts(self.key, self.disps, self.atoms, self.hashes)
     }
+}
+
+/// What `PhfStrSet::check` decides, of tables that are borrowed: whether a static type may have them and each text is listed
+/// once, at its place. Then every text of more than 7 bytes in them is static. The hashes are only counted. It takes no memory,
+/// and hashes each text once.
+pub fn check_parts(key: u64, disps: &[(u32, u32)], atoms: &[&str], hashes: &[u64]) -> bool
+    ensures perfect { IsTrue result ↔ IsPerfectTable (parts key disps.now atoms.now hashes.now) }
+    ensures found { IsTrue result → AllAreStatic (parts key disps.now atoms.now hashes.now) }
+{
+    let Ok(len) = u32::try_from(atoms.len()) else {
+        return false;
+    };
+    if len == 0
+        || disps.is_empty()
+        || disps.len() > u32::MAX as usize
+        || hashes.len() != atoms.len()
+    {
+        return false;
+    }
+    for (i, text) in atoms.iter().enumerate() {
+        if place(&hash(text, key), disps, len) as usize != i {
+            return false;
+        }
+    }
+    true
 }
 
 /// The type of a static set.

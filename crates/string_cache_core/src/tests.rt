@@ -5,7 +5,7 @@ use crate::Fault;
 use crate::phf::{Hashes, hash, place, sip24};
 use crate::samples::{One, Short, Twice};
 use crate::static_sets::{
-    EmptyStaticAtomSet, PhfStrSet, StaticAtomSet, TextForm, form_of_text, static_text,
+    EmptyStaticAtomSet, PhfStrSet, StaticAtomSet, TextForm, check_parts, form_of_text, static_text,
 };
 use crate::word::{
     Form, HOLDER_BOUND, InlineText, Limits, MOST_BUCKETS, SERIAL_BOUND, form_of, pack_inline_word,
@@ -215,6 +215,21 @@ fn checked_tables(rt: HostRuntime) {
     // The low bits of f2, 0x56e93a5c and 0x56f756b3, are the places of the two among two.
     assert!(rt; is_perfect(&[(0, 0)], &["sentence", "interned"], &[1, 2]));
     assert!(rt; !is_perfect(&[(0, 0)], &["interned", "sentence"], &[1, 2]));
+}
+
+/// Tables that are made while the program runs.
+#[test]
+fn borrowed_tables(rt: HostRuntime) -> Result<(), Fail> {
+    let alloc = rt.alloc();
+    let first = String::from_str(alloc, "sentence")?;
+    let second = String::from_str(alloc, "interned")?;
+    let disps = vec![in alloc; (0u32, 0u32); 1]?;
+    let right = [first.as_str(), second.as_str()];
+    let wrong = [second.as_str(), first.as_str()];
+    assert!(rt; check_parts(0, &disps, &right, &[1, 2]));
+    assert!(rt; !check_parts(0, &disps, &wrong, &[1, 2]));
+    assert!(rt; !check_parts(0, &disps, &right, &[1]));
+    Ok(())
 }
 
 #[test]

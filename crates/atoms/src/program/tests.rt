@@ -14,7 +14,7 @@ use std::test::Fail;
 use std::thread::Threads;
 use string_cache::Fault;
 
-const USAGE: &[u8] = b"usage: atoms words | count N | replay\n";
+const USAGE: &[u8] = b"usage: atoms words | count N | replay | generate KEY BOUND | check\n";
 
 const NO_MEMORY: &[u8] = b"atoms: no memory\n";
 

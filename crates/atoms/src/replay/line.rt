@@ -1,8 +1,7 @@
 // One line of a script, and the step or the limits that it spells.
 #![tactic(auto)]
 
-ghost use Rattle.std.specs.Prelude.{◌≡◌, ◌≢◌, ℕ, ◌^◌, ◌<◌, ◌≤◌, ◌++◌, List, length, slice_index, codes, decimal, string_bytes, MatchOption, IfOk};
-ghost use Rattle.std.specs.Bool.{OnTrue, OnFalse};
+ghost use Rattle.std.specs.Prelude.{◌≡◌, ◌≢◌, ℕ, ◌^◌, ◌<◌, ◌≤◌, ◌++◌, List, length, codes, decimal, string_bytes, MatchOption, IfOk};
 ghost use Rattle.string_cache.specs.Bounds.{Bounds};
 ghost use Rattle.string_cache.specs.declared.steps.Step.{Step};
 ghost use Rattle.atoms.specs.Script.{HasWords, step_words, HasLine, IsEntryNumber, Spells, SpellsLimits};
@@ -10,41 +9,7 @@ ghost use Rattle.atoms.specs.Script.{HasWords, step_words, HasLine, IsEntryNumbe
 use std::alloc::{AllocError, Global};
 use string_cache::steps::Step;
 use string_cache::word::Limits;
-
-/// Whether neither a plus nor a zero too many stands in front of what may be a number.
-fn has_plain_front(bytes: &[u8]) -> bool
-    ensures plain { OnTrue result ((slice_index bytes.now 0 ≢ 43)
-        × (slice_index bytes.now 0 ≡ 48 → length bytes.now ≤ 1)) }
-    ensures other { OnFalse result ((n : ℕ) → n < 2 ^ 64 → bytes.now ≢ decimal n) }
-{
-    if bytes.is_empty() {
-        return true;
-    }
-    let first = bytes[0];
-    if first == b'+' {
-        return false;
-    }
-    first != b'0' || bytes.len() == 1
-}
-
-/// The number that a text spells: decimal, without sign or leading zero, and below 2^64.
-pub fn number_of(text: &str) -> Option<u64>
-    ensures { MatchOption result ((n : ℕ) → n < 2 ^ 64 → text.now ≢ decimal n)
-        (λ n. text.now ≡ decimal n) }
-{
-    if !has_plain_front(text.as_bytes()) {
-        return None;
-    }
-    text.parse::<u64>().ok()
-}
-
-/// The number that stands behind `words`, to the end of the text.
-fn number_after(text: &str, words: &str) -> Option<u64>
-    ensures { MatchOption result ((n : ℕ) → n < 2 ^ 64 → text.now ≢ words.now ++ decimal n)
-        (λ n. text.now ≡ words.now ++ decimal n) }
-{
-    number_of(text.strip_prefix(words)?)
-}
+use table_generator::numbers::{number_after, number_of};
 
 /// The number behind `words` as that of an entry, which is from 1.
 fn entry_after(text: &str, words: &str) -> Option<u64>

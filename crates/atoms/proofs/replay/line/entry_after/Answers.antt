@@ -1,5 +1,5 @@
 use Rattle.std.proofs.Common.{rules, arith}
-use Rattle.atoms.proofs.NumberLemmas.{number_unique}
+use Rattle.table_generator.proofs.NumberLemmas.{number_unique}
 use Rattle.atoms.proofs.replay.line.entry_after.Goals as goal
 
 pub returns-then-e-eq0 : goal.returns-then-e-eq0

@@ -1,5 +1,5 @@
 use Rattle.std.proofs.Common.{rules, arith, ◌^◌, codes}
-use Rattle.atoms.proofs.NumberLemmas.{number_below}
+use Rattle.table_generator.proofs.NumberLemmas.{number_below}
 use Rattle.atoms.proofs.replay.line.swept_bucket.Goals as goal
 
 pub returns : goal.returns

@@ -1,0 +1,43 @@
+-- The bytes that were read are the text that a promise speaks of.
+use Rattle.std.proofs.Common.{◌≡◌, ℕ, List, Option, None, Some, sym, subst, ap, ◌∙◌, inr, codes, decimal, ◌<◌, ◌^◌, [], ◌∷◌, String, string_bytes, length, get_or, arith}
+use Rattle.std.specs.Prelude.{IfSome}
+use Rattle.std.specs.Io.KnownBytes.{Appends, Consumes, IsAtEnd}
+use Rattle.std.proofs.lemmas.Fmt.{decimal_injective}
+use Rattle.atoms.specs.Commands.{AreGenerate, IsRequest}
+use Rattle.atoms.specs.Streams.{AppendsBeginning}
+use Rattle.atoms.specs.TableCommands.{IsAnswer, IsTableOutput, BeginsAnswer, BeginsTables, WritesAnswer}
+use Rattle.atoms.proofs.StreamLemmas.{consumed_all}
+
+told_of_all : (P : List ℕ → Type 0) (a b : Option (List ℕ)) (bytes text : List ℕ) → Consumes a b bytes → IsAtEnd b → text ≡ bytes → P text → IfSome a P
+told_of_all P None b bytes text read end same told = tt
+told_of_all P (Some all) b bytes text read end same told = subst P (same ∙ sym (consumed_all (Some all) b bytes read end)) told
+
+-- an answer that is written, and a beginning of one
+pub answer_written : (a b old new : Option (List ℕ)) (bytes text out : List ℕ) → Consumes a b bytes → IsAtEnd b → text ≡ bytes → IsAnswer text out → Appends old new out → IfSome a (λ t. WritesAnswer t old new)
+answer_written a b old new bytes text out read end same is appended = told_of_all (λ t. WritesAnswer t old new) a b bytes text read end same (out, is, appended)
+
+pub answer_begun : (a b old new : Option (List ℕ)) (bytes text out : List ℕ) → Consumes a b bytes → IsAtEnd b → text ≡ bytes → IsAnswer text out → AppendsBeginning old new out
+    → IfSome a (λ t. BeginsAnswer t old new)
+answer_begun a b old new bytes text out read end same is begun = told_of_all (λ t. BeginsAnswer t old new) a b bytes text read end same (inr (out, is, begun))
+
+-- a beginning of tables
+pub tables_begun : (key bound : ℕ) (a b old new : Option (List ℕ)) (bytes text out : List ℕ) → Consumes a b bytes → IsAtEnd b → text ≡ bytes → IsTableOutput key bound text out → AppendsBeginning old new out
+    → IfSome a (λ t. BeginsTables key bound t old new)
+tables_begun key bound a b old new bytes text out read end same is begun = told_of_all (λ t. BeginsTables key bound t old new) a b bytes text read end same (inr (out, is, begun))
+
+-- two texts spell one key and one bound
+pub one_request : (first second : List ℕ) (key bound k b : ℕ) → IsRequest first second key bound → IsRequest first second k b → (k ≡ key) × (b ≡ bound)
+one_request first second key bound k b asked other = (
+  decimal_injective k key other.0 asked.0 (sym other.2 ∙ asked.2),
+  decimal_injective b bound (omega (arith, other.1)) (omega (arith, asked.1)) (sym other.3 ∙ asked.3),
+)
+
+-- three arguments that are a word, a key and a bound
+pub three_words : {Y : Type 0} (args : List (String Y)) (a b c : String Y) → length args ≡ 3 → a ≡ get_or args 0 a → b ≡ get_or args 1 b → c ≡ get_or args 2 c
+    → (key bound : ℕ) → string_bytes a ≡ codes "generate" → IsRequest (string_bytes b) (string_bytes c) key bound → AreGenerate args key bound
+three_words [] a b c count p q r key bound word asked = absurd (omega (arith, count))
+three_words (x ∷ []) a b c count p q r key bound word asked = absurd (omega (arith, count))
+three_words (x ∷ y ∷ []) a b c count p q r key bound word asked = absurd (omega (arith, count))
+three_words (x ∷ y ∷ z ∷ []) a b c count p q r key bound word asked =
+    (ap string_bytes (sym p) ∙ word, (asked.0, asked.1, ap string_bytes (sym q) ∙ asked.2, ap string_bytes (sym r) ∙ asked.3))
+three_words (x ∷ y ∷ z ∷ w ∷ more) a b c count p q r key bound word asked = absurd (omega (arith, count))

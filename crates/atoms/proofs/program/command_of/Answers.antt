@@ -1,0 +1,12 @@
+use Rattle.std.proofs.Common.{arith, subst, sym, ◌∙◌}
+use Rattle.atoms.proofs.TableCommandLemmas.{three_words}
+use Rattle.atoms.specs.Commands.{IsRequest}
+use Rattle.atoms.proofs.program.command_of.Goals as goal
+
+pub returns-in-len3-clause-other : goal.returns-in-len3-clause-other
+returns-in-len3-clause-other c = λ _ _ _ none _.
+    c.making.ensures.other (λ word key bound asked. none key bound (
+    three_words c.args.args.now c.word-item-then-args-lt4.result c.key-item.result c.bound-item.result (omega (arith, c.in-len3.len_at_least, c.in-len3.len_below))
+    c.word-item-then-args-lt4.is c.key-item.is c.bound-item.is key bound (sym c.as_str-in-len3.ensures.value ∙ word)
+    (rw (c.as_str-in-len3-2.ensures.value, c.as_str-in-len3-3.ensures.value) at asked)
+    ))

@@ -1,6 +1,0 @@
-use Rattle.std.proofs.Common.{rules}
-use Rattle.atoms.proofs.NumberLemmas.{number_parsed}
-use Rattle.atoms.proofs.replay.line.number_of.Goals as goal
-
-pub returns : goal.returns
-returns c = rw c.ok.ensures.value (number_parsed c.args.text.now c.parse.result c.parse.ensures.value.0 (search rules) (search rules))

@@ -1,0 +1,12 @@
+pub mod Cuts
+pub mod Fitting
+pub mod HexLemmas
+pub mod LineLemmas
+pub mod ListedTexts
+pub mod Making
+pub mod NumberLemmas
+pub mod Placing
+pub mod PrintLemmas
+pub mod Ranking
+pub mod Reading
+pub mod Settling

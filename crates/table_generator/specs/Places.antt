@@ -1,0 +1,41 @@
+-- Places of texts, and which of them are free while displacements are searched for. `AreApart` and `Places` stand in what
+-- `generate` promises; the rest are the words of the search.
+use Rattle.std.specs.Prelude.{◌≡◌, ◌≢◌, ℕ, ◌+◌, ◌*◌, ◌%◌, ◌^◌, ◌<◌, Bool, true, false, List, length, slice_index_or}
+use Rattle.std.specs.List.{All, Any, AllPairs}
+use Rattle.string_cache_core.specs.declared.phf.Hashes.{Hashes}
+use Rattle.string_cache_core.specs.Phf.{place_of}
+
+-- under these displacements the texts have different places among `len`
+abbrev pub AreApart : List (ℕ × ℕ) → ℕ → List Hashes → Type 0
+AreApart disps len = AllPairs (λ x y. place_of x disps len ≢ place_of y disps len)
+
+-- as many pairs of displacements, each below the bound, give the texts different places
+pub record Places (pairs bound : ℕ) (hashes : List Hashes) (disps : List (ℕ × ℕ)) : Type 0 where
+  pub count : length disps ≡ pairs
+  pub bounded : All (λ pair. (pair.0 < bound) × (pair.1 < bound)) disps
+  pub apart : AreApart disps (length hashes) hashes
+
+-- ---- one pair of displacements
+
+-- the place of a text with these hashes under a pair of displacements
+abbrev pub place_by : ℕ → ℕ × ℕ → Hashes → ℕ
+place_by len pair h = (pair.1 + h.f1 * pair.0 + h.f2) % 2 ^ 32 % len
+
+-- the place is taken
+abbrev pub is_taken : List Bool → ℕ → Bool
+is_taken taken place = slice_index_or taken place false
+
+-- one of the texts has the place
+abbrev pub IsPlaceOf : ℕ → ℕ × ℕ → ℕ → List Hashes → Type 0
+IsPlaceOf len pair place members = Any (λ h. place_by len pair h ≡ place) members
+
+-- the pair gives the texts different places that are free
+pub record Fits (taken : List Bool) (members : List Hashes) (pair : ℕ × ℕ) : Type 0 where
+  pub free : (i : ℕ) (d : Hashes) → i < length members → is_taken taken (place_by (length taken) pair (slice_index_or members i d)) ≡ false
+  pub differ : AllPairs (λ x y. place_by (length taken) pair x ≢ place_by (length taken) pair y) members
+
+-- the texts' places are taken, and what was taken still is
+pub record Marks (members : List Hashes) (pair : ℕ × ℕ) (old new : List Bool) : Type 0 where
+  pub length_same : length new ≡ length old
+  pub kept : (place : ℕ) → is_taken old place ≡ true → is_taken new place ≡ true
+  pub marked : (i : ℕ) (d : Hashes) → i < length members → is_taken new (place_by (length old) pair (slice_index_or members i d)) ≡ true

@@ -1,0 +1,115 @@
+//! Perfect tables of a list of texts, by hash, displace and compress (Belazzougui, Botelho and Dietzfelbinger, 2009).
+//!
+//! Each text belongs to the pair of displacements that its hash `g` picks. Pairs with more texts are settled first; for a pair
+//! one displacement after another is tried against the places that are taken by then, and nothing that was settled changes.
+#![tactic(auto)]
+
+ghost use Rattle.std.specs.Prelude.{◌≡◌, ◌<◌, ◌≤◌, ◌%◌, ◌^◌, ◌⊎◌, ℕ, IfOk, IfSome, length};
+ghost use Rattle.std.specs.Bool.{OnTrue, OnFalse};
+ghost use Rattle.std.specs.List.{All};
+ghost use Rattle.table_generator.specs.Generated.{tables_of, texts_of, HasDouble, HasFeed, IsTablesOf, IsUnplaceable, TellsTables};
+
+use crate::displace::displace;
+use crate::items::{assemble, hashes_of_items, items_of};
+use crate::tables::{GenFault, Tables};
+use std::alloc::{AllocError, Global};
+
+/// Whether a text has a line feed.
+fn has_feed(list: &[&str]) -> bool
+    ensures yes { OnTrue result (HasFeed (texts_of list.now)) }
+    ensures no { OnFalse result (HasFeed (texts_of list.now) → ⊥) }
+{
+    for text in list {
+        if text.as_bytes().contains(&b'\n') {
+            return true;
+        }
+    }
+    false
+}
+
+/// Whether two texts are equal. It takes no memory, and compares each text with all before it.
+fn has_double(list: &[&str]) -> bool
+    ensures yes { OnTrue result (HasDouble (texts_of list.now)) }
+    ensures no { OnFalse result (HasDouble (texts_of list.now) → ⊥) }
+{
+    for (i, text) in list.iter().enumerate() {
+        for earlier in &list[..i] {
+            if earlier == text {
+                return true;
+            }
+        }
+    }
+    false
+}
+
+/// The displacements that are tried for `count` texts are below this. Where `count` divides 2^32, a displacement and its rest
+/// modulo `count` give each text one place, so no more than `count` are tried. Of three and of five texts all are. More than
+/// five try no more than `count` either: a hopeless search then ends.
+fn tried_bound(count: u32, bound: u32) -> u32
+    requires count { 1 ≤ count }
+    requires bound { 1 ≤ bound }
+    ensures some { 1 ≤ result }
+    ensures most { result ≤ bound }
+    ensures reached { count ≤ 5 → (result ≡ bound) ⊎ ((2 ^ 32 % count ≡ 0) × ((d : ℕ) → d < bound → d % count < result)) }
+{
+    if count == 3 || count == 5 {
+        bound
+    } else {
+        bound.min(count)
+    }
+}
+
+/// Tables of the texts, or `None` where the search found none.
+fn tables_in(
+    alloc: Global,
+    list: &[&str],
+    key: u64,
+    bound: u32,
+) -> Result<Option<Tables>, AllocError>
+    requires some { 1 ≤ length list.now }
+    requires few { length list.now < 2 ^ 32 }
+    requires bound { 1 ≤ bound }
+    ensures made { IfOk result (λ found. IfSome found (λ t. IsTablesOf (texts_of list.now) key bound (tables_of t))) }
+    ensures small { IfOk result (λ found. IfSome found (λ t. All (λ hash. hash < 2 ^ 64) t.hashes.items)) }
+    ensures unplaced { IfOk result (λ found. found ≡ None → length list.now ≤ 5 → IsUnplaceable (texts_of list.now) key bound) }
+{
+    let pairs = (list.len() + 4) / 5;
+    let items = items_of(alloc, list, key, pairs)?;
+    let hashes = hashes_of_items(alloc, &items)?;
+    let tried = tried_bound(list.len() as u32, bound);
+    let Some(disps) = displace(alloc, &hashes, pairs, tried)? else {
+        return Ok(None);
+    };
+    Ok(Some(assemble(alloc, key, disps, &items)?))
+}
+
+/// Tables of the texts under the key, with each displacement below the bound: one pair of displacements for each five texts,
+/// and one more where some are left.
+///
+/// `EmptyList`, `LineFeed` and `Doubled` come in this order, before any memory is asked for. `NotPlaced` comes where the search
+/// found no tables: of at most five texts only where there are none, so never of one text with a bound of at least 1. Another
+/// key, or a greater bound, may find some.
+///
+/// The search takes milliseconds for a thousand texts, and has an end: for a pair it tries at most as many pairs of displacements
+/// as the number of texts has squares, and of three or five texts `bound` times `bound`. Looking for equal texts compares each
+/// text with all before it, which is quick for thousands and slow for hundreds of thousands.
+pub fn generate(alloc: Global, list: &[&str], key: u64, bound: u32) -> Result<Tables, GenFault>
+    ensures { TellsTables (texts_of list.now) key bound result }
+{
+    if list.is_empty() {
+        return Err(GenFault::EmptyList);
+    }
+    if has_feed(list) {
+        return Err(GenFault::LineFeed);
+    }
+    if has_double(list) {
+        return Err(GenFault::Doubled);
+    }
+    if list.len() > u32::MAX as usize || bound == 0 {
+        return Err(GenFault::NotPlaced);
+    }
+    match tables_in(alloc, list, key, bound)? {
+        Some(tables) => Ok(tables),
+        None => Err(GenFault::NotPlaced),
+    }
+}

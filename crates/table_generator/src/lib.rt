@@ -1,0 +1,18 @@
+//! Perfect static tables of a list of texts: made, printed, and checked from their printed form.
+//!
+//! ```text
+//! let tables = generate(alloc, &["sentence", "interned"], 0, 1024)?;
+//! let text = format!(in alloc; "{tables}")?;
+//! check_tables(alloc, &text)? // true
+//! ```
+#![tactic(auto)]
+
+pub mod check;
+mod displace;
+pub mod generate;
+mod items;
+pub mod numbers;
+mod search;
+pub mod tables;
+#[cfg(test)]
+mod tests;

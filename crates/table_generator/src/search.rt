@@ -1,0 +1,79 @@
+// The search for one pair of displacements: it has to give its texts places that are free, each another one.
+#![tactic(auto)]
+
+ghost use Rattle.std.specs.Prelude.{◌≡◌, ◌<◌, ◌≤◌, ◌^◌, ◌↔◌, ℕ, IsTrue, MatchOption, length};
+ghost use Rattle.std.specs.Bool.{OnTrue, OnFalse};
+ghost use Rattle.table_generator.specs.Places.{place_by, Fits, Marks, IsPlaceOf};
+
+use string_cache_core::phf::Hashes;
+
+/// The place of a text with these hashes among `len` texts, under its pair of displacements.
+pub fn place_by(hashes: &Hashes, pair: (u32, u32), len: u32) -> usize
+    requires { 1 ≤ len }
+    ensures place { result ≡ place_by len pair hashes.now }
+    ensures listed { result < len }
+{
+    let (d1, d2) = pair;
+    let sum = d2
+        .wrapping_add(hashes.f1.wrapping_mul(d1))
+        .wrapping_add(hashes.f2);
+    (sum % len) as usize
+}
+
+/// Whether one of the texts has the place.
+fn is_place_of(members: &[Hashes], pair: (u32, u32), len: u32, place: usize) -> bool
+    requires { 1 ≤ len }
+    ensures { IsTrue result ↔ IsPlaceOf len pair place members.now }
+{
+    members
+        .iter()
+        .any(|other| place_by(other, pair, len) == place)
+}
+
+/// Whether the pair gives the texts different places, none of which is taken. The first text for which it doesn't ends the look.
+fn fits(members: &[Hashes], pair: (u32, u32), taken: &[bool]) -> bool
+    requires listed { 1 ≤ length taken.now }
+    requires few { length taken.now < 2 ^ 32 }
+    ensures yes { OnTrue result (Fits taken.now members.now pair) }
+    ensures no { OnFalse result (Fits taken.now members.now pair → ⊥) }
+{
+    let len = taken.len() as u32;
+    for (i, member) in members.iter().enumerate() {
+        let place = place_by(member, pair, len);
+        if taken[place] || is_place_of(&members[..i], pair, len, place) {
+            return false;
+        }
+    }
+    true
+}
+
+/// The first pair below the bound that gives the texts different places, none of which is taken. It takes no memory, and tries
+/// at most `bound` times `bound` pairs.
+pub fn find_pair(members: &[Hashes], bound: u32, taken: &[bool]) -> Option<(u32, u32)>
+    requires listed { 1 ≤ length taken.now }
+    requires few { length taken.now < 2 ^ 32 }
+    ensures { MatchOption result
+        ((d1 d2 : ℕ) → d1 < bound → d2 < bound → Fits taken.now members.now (d1, d2) → ⊥)
+        (λ pair. (pair.0 < bound) × (pair.1 < bound) × Fits taken.now members.now pair) }
+{
+    for d1 in 0..bound {
+        for d2 in 0..bound {
+            if fits(members, (d1, d2), taken) {
+                return Some((d1, d2));
+            }
+        }
+    }
+    None
+}
+
+/// Takes the places of the texts.
+pub fn mark(members: &[Hashes], pair: (u32, u32), taken: &mut [bool])
+    requires listed { 1 ≤ length taken.old }
+    requires few { length taken.old < 2 ^ 32 }
+    ensures { Marks members.now pair taken.old taken.new }
+{
+    let len = taken.len() as u32;
+    for member in members {
+        taken[place_by(member, pair, len)] = true;
+    }
+}

@@ -1,0 +1,265 @@
+// What no contract says: lists that are placed, and texts that come from outside.
+#![tactic(auto)]
+
+use crate::check::check_tables;
+use crate::generate::generate;
+use crate::numbers::{number_after, number_of, short_number_of};
+use crate::tables::{GenFault, Tables};
+use std::alloc::Global;
+use std::test::Fail;
+use string_cache_core::Fault;
+use string_cache_core::phf::hash;
+use string_cache_core::static_sets::check_parts;
+
+/// As `generate`. Where memory was refused, the call is made once more.
+fn tables_of(alloc: Global, list: &[&str], key: u64, bound: u32) -> Result<Tables, GenFault> {
+    match generate(alloc, list, key, bound) {
+        Err(GenFault::Memory) => generate(alloc, list, key, bound),
+        first => first,
+    }
+}
+
+/// As `check_tables`. Where memory was refused, the call is made once more.
+fn checked(alloc: Global, text: &str) -> Result<bool, Fault> {
+    match check_tables(alloc, text) {
+        Err(_) => check_tables(alloc, text),
+        first => first,
+    }
+}
+
+/// The texts `word0000`, `word0001` and so on, below `count`.
+fn numbered(alloc: Global, count: usize) -> Result<Vec<String>, Fail> {
+    let mut texts = Vec::new(alloc);
+    for i in 0..count {
+        texts.push(format!(in alloc; "word{i:04}")?)?;
+    }
+    Ok(texts)
+}
+
+fn lent(alloc: Global, texts: &[String]) -> Result<Vec<&str>, Fail> {
+    let mut list = Vec::new(alloc);
+    for text in texts {
+        list.push(text.as_str())?;
+    }
+    Ok(list)
+}
+
+#[test]
+fn one_text(rt: HostRuntime) -> Result<(), Fail> {
+    let alloc = rt.alloc();
+    let tables = tables_of(alloc, &["sentence"], 0, 1)?;
+    assert_eq!(rt; tables.key, 0);
+    assert!(rt; tables.disps.as_slice() == [(0u32, 0u32)].as_slice());
+    assert_eq!(rt; tables.atoms.len(), 1);
+    assert_eq!(rt; tables.atoms[0].as_str(), "sentence");
+    let hashes = hash("sentence", 0);
+    let number = u64::from(hashes.g) << 32 | u64::from(hashes.f1);
+    assert!(rt; tables.hashes.as_slice() == [number].as_slice());
+    let printed = format!(in alloc; "{tables}")?;
+    let wanted = format!(in alloc; "key 0\ndisp 0 0\natom {number:016x} sentence\n")?;
+    assert_eq!(rt; printed.as_str(), wanted.as_str());
+    assert!(rt; checked(alloc, &printed)?);
+    Ok(())
+}
+
+#[test]
+fn refused_lists(rt: HostRuntime) -> Result<(), Fail> {
+    let alloc = rt.alloc();
+    for (list, bound, fault, text) in [
+        ([].as_slice(), 1, GenFault::EmptyList, "no texts"),
+        (
+            ["sentence", "sen\ntence", "sentence"].as_slice(),
+            1,
+            GenFault::LineFeed,
+            "text with a line feed",
+        ),
+        (
+            ["sentence", "interned", "sentence"].as_slice(),
+            1,
+            GenFault::Doubled,
+            "text listed twice",
+        ),
+        (
+            ["sentence"].as_slice(),
+            0,
+            GenFault::NotPlaced,
+            "no tables within the bound",
+        ),
+    ] {
+        assert!(rt; tables_of(alloc, list, 0, bound).err() == Some(fault));
+        assert_eq!(rt; format!(in alloc; "{fault}")?.as_str(), text);
+    }
+    assert_eq!(rt;
+        format!(in alloc; "{}", GenFault::Memory)?.as_str(),
+        "no memory"
+    );
+    Ok(())
+}
+
+/// Of the texts below a hundred the first two whose f2 differ in the lowest bit: with no displacement they have two places.
+#[test]
+fn two_texts(rt: HostRuntime) -> Result<(), Fail> {
+    let alloc = rt.alloc();
+    let texts = numbered(alloc, 100)?;
+    let mut found = None;
+    for (i, text) in texts.iter().enumerate() {
+        for earlier in &texts[..i] {
+            let differ = (hash(text, 0).f2 ^ hash(earlier, 0).f2) & 1 == 1;
+            if differ && found.is_none() {
+                found = Some((earlier.as_str(), text.as_str()));
+            }
+        }
+    }
+    let (first, second) = found.expect(&rt, "two such texts");
+    let tables = tables_of(alloc, &[first, second], 0, 1)?;
+    assert!(rt; tables.disps.as_slice() == [(0u32, 0u32)].as_slice());
+    assert!(rt; checked(alloc, &format!(in alloc; "{tables}")?)?);
+    Ok(())
+}
+
+/// The tables of the names, under the first of a hundred keys that has some.
+fn tables_of_names(alloc: Global, names: &[&str]) -> Result<Tables, GenFault> {
+    for key in 0..99u64 {
+        match tables_of(alloc, names, key, 1024) {
+            Err(GenFault::NotPlaced) => {}
+            answer => return answer,
+        }
+    }
+    tables_of(alloc, names, 99, 1024)
+}
+
+/// A list of more than five texts is placed by one of the first keys.
+#[test]
+fn sixty_one_texts(rt: HostRuntime) -> Result<(), Fail> {
+    let alloc = rt.alloc();
+    let texts = numbered(alloc, 61)?;
+    let list = lent(alloc, &texts)?;
+    let tables = tables_of_names(alloc, &list)?;
+    assert_eq!(rt; tables.disps.len(), 13);
+    assert_eq!(rt; tables.atoms.len(), 61);
+    let atoms = lent(alloc, &tables.atoms)?;
+    assert!(rt; check_parts(tables.key, &tables.disps, &atoms, &tables.hashes));
+    assert!(rt; checked(alloc, &format!(in alloc; "{tables}")?)?);
+    Ok(())
+}
+
+/// Two texts whose places differ by an even number whatever the displacements: a search without bound ends.
+#[test]
+fn hopeless_search(rt: HostRuntime) -> Result<(), Fail> {
+    let alloc = rt.alloc();
+    let texts = numbered(alloc, 100)?;
+    let mut is_refused = false;
+    for (i, text) in texts.iter().enumerate() {
+        let (one, other) = (hash(&texts[0], 0), hash(text, 0));
+        let is_even = (one.f1 ^ other.f1) & 1 == 0 && (one.f2 ^ other.f2) & 1 == 0;
+        if i > 0 && is_even {
+            let found = tables_of(alloc, &[texts[0].as_str(), text.as_str()], 0, u32::MAX);
+            assert!(rt; found.err() == Some(GenFault::NotPlaced));
+            is_refused = true;
+        }
+    }
+    assert!(rt; is_refused);
+    Ok(())
+}
+
+#[test]
+fn table_texts(rt: HostRuntime) -> Result<(), Fail> {
+    let alloc = rt.alloc();
+    for (text, yes) in [
+        ("key 0\ndisp 0 0\natom 1122334455667788 sentence\n", true),
+        (
+            "key 0\ndisp 0 0\natom 1122334455667788 sentence\natom 1122334455667788 sentence\n",
+            false,
+        ),
+        ("key 0\ndisp 0 0\natom 1122334455667788 sentence", false),
+        ("key 00\ndisp 0 0\natom 1122334455667788 sentence\n", false),
+        ("", false),
+        ("key +0\ndisp 0 0\natom 1122334455667788 sentence\n", false),
+        ("key 0\ndisp 0 0\natom 112233445566778A sentence\n", false),
+        ("key 0\ndisp 0 0\natom 112233445566778a sentence\n", true),
+        ("key 0\ndisp 0 0\natom 112233445566778 sentence\n", false),
+        ("key 0\ndisp 0 0\natom 11223344556677889 sentence\n", false),
+        ("key 0\ndisp 0 0\natom  1122334455667788 sentence\n", false),
+        ("key 0\ndisp  0 0\natom 1122334455667788 sentence\n", false),
+        ("key 0\ndisp 0 0 \natom 1122334455667788 sentence\n", false),
+        ("key 0\ndisp 0\natom 1122334455667788 sentence\n", false),
+        ("key 0\r\ndisp 0 0\natom 1122334455667788 sentence\n", false),
+        ("disp 0 0\natom 1122334455667788 sentence\n", false),
+        ("key 0\natom 1122334455667788 sentence\n", false),
+        ("key 0\natom 1122334455667788 sentence\ndisp 0 0\n", false),
+        ("key 0\ndisp 0 0\n", false),
+        ("key 0\ndisp 0 0\natom 1122334455667788 sentence\n\n", false),
+        (
+            "key 0\nkey 0\ndisp 0 0\natom 1122334455667788 sentence\n",
+            false,
+        ),
+        (
+            "key 18446744073709551615\ndisp 0 0\natom 1122334455667788 sentence\n",
+            true,
+        ),
+        (
+            "key 18446744073709551616\ndisp 0 0\natom 1122334455667788 sentence\n",
+            false,
+        ),
+        (
+            "key 0\ndisp 4294967295 4294967295\natom ffffffffffffffff sentence\n",
+            true,
+        ),
+        (
+            "key 0\ndisp 0 4294967296\natom 1122334455667788 sentence\n",
+            false,
+        ),
+        (
+            "key 0\ndisp 4294967296 0\natom 1122334455667788 sentence\n",
+            false,
+        ),
+        ("key 0\ndisp 0 0\natom 1122334455667788 \n", true),
+        ("key 0\ndisp 0 0\natom 1122334455667788\n", false),
+        // A text may have spaces and a carriage return.
+        (
+            "key 0\ndisp 0 0\natom 1122334455667788  two words\r\n",
+            true,
+        ),
+        // More displacements than texts need.
+        (
+            "key 0\ndisp 0 0\ndisp 7 7\natom 1122334455667788 sentence\n",
+            true,
+        ),
+        // The low bits of f2 are the places of the two among two.
+        (
+            "key 0\ndisp 0 0\natom 0000000000000001 sentence\natom 0000000000000002 interned\n",
+            true,
+        ),
+        (
+            "key 0\ndisp 0 0\natom 0000000000000001 interned\natom 0000000000000002 sentence\n",
+            false,
+        ),
+    ] {
+        assert!(rt; checked(alloc, text)? == yes, "of {text:?}");
+    }
+    Ok(())
+}
+
+#[test]
+fn spelled_numbers(rt: HostRuntime) {
+    for (text, number) in [
+        ("0", Some(0)),
+        ("7", Some(7)),
+        ("10", Some(10)),
+        ("18446744073709551615", Some(u64::MAX)),
+        ("18446744073709551616", None),
+        ("", None),
+        ("00", None),
+        ("07", None),
+        ("+7", None),
+        ("-7", None),
+        (" 7", None),
+        ("7 ", None),
+    ] {
+        assert_eq!(rt; number_of(text), number, "of {text:?}");
+    }
+    assert_eq!(rt; short_number_of("4294967295"), Some(u32::MAX));
+    assert_eq!(rt; short_number_of("4294967296"), None);
+    assert_eq!(rt; number_after("key 5", "key "), Some(5));
+    assert_eq!(rt; number_after("key5", "key "), None);
+}
