@@ -6,7 +6,11 @@ mod faults;
 #[cfg(test)]
 mod memory;
 mod program;
+#[cfg(test)]
+mod refusals;
 mod replay;
+#[cfg(test)]
+mod samples;
 mod streams;
 #[cfg(test)]
 mod tests;

@@ -1,6 +1,8 @@
 // What no contract says: words and texts that come from outside, and sets that threads share.
 #![tactic(auto)]
 
+mod crowds;
+
 use crate::dynamic_set::Set;
 use crate::samples::{One, Short, Twice};
 use crate::static_sets::{EmptyStaticAtomSet, StaticAtomSet};

@@ -15,7 +15,7 @@ use string_cache::dynamic_set::Set;
 use string_cache::word::Limits;
 use string_cache::{Atom, EmptyStaticAtomSet, Fault};
 
-const EXAMPLE_COUNTS: [(&str, u64); 15] = [
+pub const EXAMPLE_COUNTS: [(&str, u64); 15] = [
     ("a", 1),
     ("and", 3),
     ("be", 1),
@@ -33,10 +33,10 @@ const EXAMPLE_COUNTS: [(&str, u64); 15] = [
     ("will", 1),
 ];
 
-type Counts<'s> = Vec<(Atom<'s, EmptyStaticAtomSet>, u64)>;
+pub type Counts<'s> = Vec<(Atom<'s, EmptyStaticAtomSet>, u64)>;
 
 /// Whether these are the words and numbers of the counts.
-fn are(counts: &Counts, wanted: &[(&str, u64)]) -> bool {
+pub fn are(counts: &Counts, wanted: &[(&str, u64)]) -> bool {
     if counts.len() != wanted.len() {
         return false;
     }

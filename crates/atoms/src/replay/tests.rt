@@ -250,9 +250,9 @@ fn not_a_text(rt: HostRuntime) {
     }
 }
 
-const SCRIPT: &[u8] = b"1 intern interned\n1 link\n2 clone e1\n1 leave\n2 give e1\n";
+pub const SCRIPT: &[u8] = b"1 intern interned\n1 link\n2 clone e1\n1 leave\n2 give e1\n";
 
-const OUTPUT: &[u8] = b"taken\nlinked e1 serial 1\ncloned 2\nleft\ngiven 1\nheld e1 1\n";
+pub const OUTPUT: &[u8] = b"taken\nlinked e1 serial 1\ncloned 2\nleft\ngiven 1\nheld e1 1\n";
 
 /// What is written where memory was refused is nothing.
 #[test]

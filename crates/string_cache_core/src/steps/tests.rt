@@ -1,4 +1,6 @@
 // The steps on small scripts. Expected replies are those of the table of steps, worked out by hand.
+mod merges;
+
 use super::{Step, StepReply, World};
 use crate::faults::Fault;
 use crate::static_sets::{EmptyStaticAtomSet, TextForm, form_of_text};

@@ -1,0 +1,116 @@
+// The program's calls over readers, writers and texts. Until one is refused, what it wrote is a beginning of its output.
+ghost use Rattle.std.specs.Prelude.{◌≤◌};
+
+use super::{End, begin, finish};
+use crate::count::tests::{EXAMPLE_COUNTS, are};
+use crate::count::{Open, count};
+use crate::faults::AppFault;
+use crate::memory::{Bytes, Page};
+use crate::replay::replay;
+use crate::replay::tests::{OUTPUT, SCRIPT};
+use crate::tests::{EXAMPLE, EXAMPLE_LINES};
+use crate::words::{words, words_alone};
+use std::alloc::Global;
+use std::io::Print;
+use std::process::Abort;
+use std::str;
+use std::sync::Wait;
+use std::test::Fail;
+use std::thread::Threads;
+use string_cache::EmptyStaticAtomSet;
+use string_cache::dynamic_set::Set;
+
+#[test]
+fn words_in_a_set(rt: HostRuntime) -> Result<(), Fail> {
+    let set = Set::<EmptyStaticAtomSet>::new(rt.alloc())?;
+    let mut page = Page::wide();
+    begin(&rt);
+    let answer = words(&rt, &set, &mut Bytes::whole(EXAMPLE), &mut page);
+    let ended = End::of(&answer);
+    finish(&rt, ended);
+    assert!(rt; set.linked(&rt) == 0);
+    if matches!(ended, End::Refused) {
+        assert!(rt; EXAMPLE_LINES.starts_with(page.written()));
+        page = Page::wide();
+        words(&rt, &set, &mut Bytes::whole(EXAMPLE), &mut page)?;
+    } else {
+        answer?;
+    }
+    assert!(rt; page.written() == EXAMPLE_LINES);
+    Ok(())
+}
+
+#[test]
+fn words_in_a_table(rt: HostRuntime) -> Result<(), Fail> {
+    let mut page = Page::wide();
+    begin(&rt);
+    let answer = words_alone(rt.alloc(), &mut Bytes::whole(EXAMPLE), &mut page);
+    let ended = End::of(&answer);
+    finish(&rt, ended);
+    if matches!(ended, End::Refused) {
+        assert!(rt; EXAMPLE_LINES.starts_with(page.written()));
+        page = Page::wide();
+        words_alone(rt.alloc(), &mut Bytes::whole(EXAMPLE), &mut page)?;
+    } else {
+        answer?;
+    }
+    assert!(rt; page.written() == EXAMPLE_LINES);
+    Ok(())
+}
+
+#[test]
+fn script_is_replayed(rt: HostRuntime) -> Result<(), Fail> {
+    let mut page = Page::wide();
+    begin(&rt);
+    let answer = replay(rt.alloc(), &mut Bytes::whole(SCRIPT), &mut page);
+    let ended = End::of(&answer);
+    finish(&rt, ended);
+    if matches!(ended, End::Refused) {
+        assert!(rt; page.written().is_empty());
+        replay(rt.alloc(), &mut Bytes::whole(SCRIPT), &mut page)?;
+    } else {
+        answer?;
+    }
+    assert!(rt; page.written() == OUTPUT);
+    Ok(())
+}
+
+/// The counts of the example by so many workers. After a refusal nothing stays linked.
+fn example_is_counted<R: Threads + Wait + Sync + Print + Abort>(
+    rt: &R,
+    alloc: Global,
+    n: u32,
+) -> Result<(), Fail>
+    requires low { 1 ≤ n }
+    requires high { n ≤ 64 }
+{
+    let set = Set::<EmptyStaticAtomSet>::new(alloc)?;
+    let text = str::from_utf8(EXAMPLE).expect(rt, "a text");
+    begin(rt);
+    let answer = count(rt, &set, text, n, &Open);
+    let ended = End::of(&answer);
+    finish(rt, ended);
+    if matches!(ended, End::Refused) {
+        assert!(rt; set.linked(rt) == 0);
+        assert!(rt; are(&count(rt, &set, text, n, &Open)?, &EXAMPLE_COUNTS));
+    } else {
+        assert!(rt; are(&answer?, &EXAMPLE_COUNTS));
+    }
+    assert!(rt; set.linked(rt) == 0);
+    Ok(())
+}
+
+#[test]
+fn counts_by_one(rt: HostRuntime) -> Result<(), Fail> {
+    example_is_counted(&rt, rt.alloc(), 1)
+}
+
+#[test]
+fn counts_by_two(rt: HostRuntime) -> Result<(), Fail> {
+    example_is_counted(&rt, rt.alloc(), 2)
+}
+
+#[test]
+fn counts_by_sixty_four(rt: HostRuntime) -> Result<(), Fail> {
+    example_is_counted(&rt, rt.alloc(), 64)
+}
