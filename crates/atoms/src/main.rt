@@ -2,6 +2,8 @@
 #![tactic(auto)]
 
 mod count;
+#[cfg(test)]
+mod failures;
 mod faults;
 #[cfg(test)]
 mod memory;

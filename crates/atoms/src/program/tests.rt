@@ -28,7 +28,7 @@ pub struct Answer {
     pub faults: Page,
 }
 
-fn answer_once<R: Threads + Wait + Sync>(
+pub fn answer_of<R: Threads + Wait + Sync>(
     rt: &R,
     alloc: Global,
     args: &[String],
@@ -51,35 +51,13 @@ fn answer_once<R: Threads + Wait + Sync>(
     }
 }
 
-/// Where memory was refused, the program is run once more.
-pub fn answer_of<R: Threads + Wait + Sync>(
-    rt: &R,
-    alloc: Global,
-    args: &[String],
-    streams: &Streams,
-) -> Answer {
-    let first = answer_once(rt, alloc, args, streams);
-    if first.faults.written() == NO_MEMORY || first.faults.written() == NO_WORKER {
-        answer_once(rt, alloc, args, streams)
-    } else {
-        first
-    }
-}
-
-fn words_of_line_once(alloc: Global, line: &str) -> Result<Vec<String>, AllocError> {
+/// The arguments of a line, parted by single spaces.
+pub fn words_of_line(alloc: Global, line: &str) -> Result<Vec<String>, AllocError> {
     let mut args = Vec::new(alloc);
     for word in line.split(' ') {
         args.push(String::from_str(alloc, word)?)?;
     }
     Ok(args)
-}
-
-/// The arguments of a line, parted by single spaces. Where memory was refused, they are made once more.
-pub fn words_of_line(alloc: Global, line: &str) -> Result<Vec<String>, AllocError> {
-    match words_of_line_once(alloc, line) {
-        Ok(args) => Ok(args),
-        Err(_) => words_of_line_once(alloc, line),
-    }
 }
 
 #[test]
@@ -126,7 +104,7 @@ fn other_number_of_workers(rt: HostRuntime) -> Result<(), Fail> {
     Ok(())
 }
 
-const EXAMPLE_COUNTS: &[u8] = b"1 a
+pub const EXAMPLE_COUNTS: &[u8] = b"1 a
 3 and
 1 be
 1 here

@@ -1,4 +1,4 @@
-// The worked scripts, and each refusal and failure in turn.
+// The worked scripts, and scripts that are large or no scripts.
 #![tactic(auto)]
 
 mod lines;
@@ -13,20 +13,10 @@ use std::test::Fail;
 use string_cache::Fault;
 
 /// What `replay` answers and writes over these streams.
-fn replay_once(alloc: Global, streams: &Streams) -> (Result<(), AppFault>, Page) {
+fn replay_of(alloc: Global, streams: &Streams) -> (Result<(), AppFault>, Page) {
     let mut writer = streams.writer();
     let answer = replay(alloc, &mut streams.reader(), &mut writer);
     (answer, writer)
-}
-
-/// As `replay_once`. Where memory was refused, the call is made once more.
-fn replay_of(alloc: Global, streams: &Streams) -> (Result<(), AppFault>, Page) {
-    let first = replay_once(alloc, streams);
-    if first.0 == Err(AppFault::Intern(Fault::Memory)) {
-        replay_once(alloc, streams)
-    } else {
-        first
-    }
 }
 
 #[test]
@@ -253,39 +243,6 @@ fn not_a_text(rt: HostRuntime) {
 pub const SCRIPT: &[u8] = b"1 intern interned\n1 link\n2 clone e1\n1 leave\n2 give e1\n";
 
 pub const OUTPUT: &[u8] = b"taken\nlinked e1 serial 1\ncloned 2\nleft\ngiven 1\nheld e1 1\n";
-
-/// What is written where memory was refused is nothing.
-#[test]
-fn refused_memory(rt: HostRuntime) {
-    match replay_once(rt.alloc(), &Streams::ample(SCRIPT)) {
-        (Ok(()), written) => assert!(rt; written.written() == OUTPUT),
-        (Err(fault), written) => {
-            assert_eq!(rt; fault, AppFault::Intern(Fault::Memory));
-            assert!(rt; written.written().is_empty());
-        }
-    }
-}
-
-/// A reader or a writer that fails: what is answered, and what was written till then.
-#[test]
-fn streams_fail(rt: HostRuntime) {
-    for (read_fails_at, takes, write_fails_at, fault, output) in [
-        (2, usize::MAX, 0, AppFault::Read, b"".as_slice()),
-        (0, 1, 15, AppFault::Write, b"taken\nlinked e".as_slice()),
-        (0, 0, 0, AppFault::Write, b"".as_slice()),
-    ] {
-        let streams = Streams {
-            text: SCRIPT,
-            gives: 10,
-            read_fails_at,
-            takes,
-            write_fails_at,
-        };
-        let (answer, written) = replay_of(rt.alloc(), &streams);
-        assert_eq!(rt; answer, Err(fault));
-        assert!(rt; written.written() == output, "at {fault:?}");
-    }
-}
 
 /// A script that takes several reads, and an output of more than one piece.
 #[test]
