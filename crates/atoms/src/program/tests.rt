@@ -16,7 +16,7 @@ use string_cache::Fault;
 
 const USAGE: &[u8] = b"usage: atoms words | count N | replay\n";
 
-const NO_MEMORY: &[u8] = b"atoms: no memory\n";
+pub const NO_MEMORY: &[u8] = b"atoms: no memory\n";
 
 const NOT_TEXT: &[u8] = b"atoms: input is not UTF-8\n";
 
@@ -245,7 +245,7 @@ fn printed_faults(rt: HostRuntime) {
 }
 
 /// The words of a command line, the program's name first.
-type CommandLine = &'static [&'static [u8]];
+pub type CommandLine = &'static [&'static [u8]];
 
 /// A process that was given a command line.
 #[derive(Drop)]
@@ -275,15 +275,12 @@ impl Env for Given {
     }
 }
 
-/// The arguments of a command line. Where memory was refused, they are read once more.
-fn arguments_of(alloc: Global, line: CommandLine) -> Result<Option<Vec<String>>, AppFault> {
-    match arguments(&(Given { line }, alloc)) {
-        Err(AppFault::Intern(Fault::Memory)) => arguments(&(Given { line }, alloc)),
-        other => other,
-    }
+/// The arguments of a command line.
+pub fn arguments_of(alloc: Global, line: CommandLine) -> Result<Option<Vec<String>>, AppFault> {
+    arguments(&(Given { line }, alloc))
 }
 
-const COUNT_LINE: CommandLine = &[b"atoms", b"count", b"3"];
+pub const COUNT_LINE: CommandLine = &[b"atoms", b"count", b"3"];
 
 const EMPTY_LINE: CommandLine = &[];
 
@@ -341,7 +338,7 @@ fn outcomes_of_arguments(rt: HostRuntime) -> Result<(), Fail> {
         let answer = ran(&rt, rt.alloc(), args);
         assert_eq!(rt; answer.status, status);
         assert!(rt; answer.output.written().is_empty());
-        assert!(rt; answer.faults.written() == faults || answer.faults.written() == NO_MEMORY);
+        assert!(rt; answer.faults.written() == faults);
     }
     Ok(())
 }

@@ -1,11 +1,12 @@
 // The program's calls over readers, writers and texts. Until one is refused, what it wrote is a beginning of its output.
 ghost use Rattle.std.specs.Prelude.{◌≤◌};
 
-use super::{End, begin, finish};
+use super::{End, at_last, begin, finish};
 use crate::count::tests::{EXAMPLE_COUNTS, are};
 use crate::count::{Open, count};
 use crate::faults::AppFault;
-use crate::memory::{Bytes, Page};
+use crate::memory::{Bytes, Page, Streams};
+use crate::program::tests::{COUNT_LINE, NO_MEMORY, answer_of, arguments_of, words_of_line};
 use crate::replay::replay;
 use crate::replay::tests::{OUTPUT, SCRIPT};
 use crate::tests::{EXAMPLE, EXAMPLE_LINES};
@@ -113,4 +114,30 @@ fn counts_by_two(rt: HostRuntime) -> Result<(), Fail> {
 #[test]
 fn counts_by_sixty_four(rt: HostRuntime) -> Result<(), Fail> {
     example_is_counted(&rt, rt.alloc(), 64)
+}
+
+/// The whole program, whose fault is a line.
+#[test]
+fn program_runs(rt: HostRuntime) -> Result<(), Fail> {
+    let args = words_of_line(rt.alloc(), "words")?;
+    begin(&rt);
+    let answer = answer_of(&rt, rt.alloc(), &args, &Streams::ample(EXAMPLE));
+    let is_refused = answer.status == 1;
+    finish(&rt, if is_refused { End::Refused } else { End::Given });
+    if is_refused {
+        assert!(rt; answer.faults.written() == NO_MEMORY);
+        assert!(rt; EXAMPLE_LINES.starts_with(answer.output.written()));
+    } else {
+        assert!(rt; answer.output.written() == EXAMPLE_LINES);
+    }
+    Ok(())
+}
+
+#[test]
+fn arguments_are_read(rt: HostRuntime) -> Result<(), Fail> {
+    let alloc = rt.alloc();
+    let wanted = words_of_line(alloc, "count 3")?;
+    let args = at_last(&rt, || arguments_of(alloc, COUNT_LINE))?;
+    assert!(rt; args.expect(&rt, "texts").as_slice() == wanted.as_slice());
+    Ok(())
 }

@@ -1,5 +1,5 @@
 // Tables and worlds of steps.
-use super::{End, at_last, begin, finish};
+use super::{End, at_last, begin, finish, watched};
 use std::alloc::Global;
 use std::test::Fail;
 use string_cache::steps::{Step, StepReply, World};
@@ -18,6 +18,21 @@ fn table_is_made(rt: HostRuntime) -> Result<(), Fail> {
     let mut table: Table<EmptyStaticAtomSet> = at_last(&rt, || Table::new(alloc))?;
     assert!(rt; table.entries() == 0 && table.text_bytes() == 0);
     assert!(rt; table.intern("interned")? == FIRST);
+    Ok(())
+}
+
+#[test]
+fn text_is_interned_in_a_table(rt: HostRuntime) -> Result<(), Fail> {
+    let mut table = Table::<EmptyStaticAtomSet>::new(rt.alloc())?;
+    let word = match watched(&rt, || table.intern("interned")) {
+        Err(Fault::Memory) => {
+            assert!(rt; table.entries() == 0 && table.text_bytes() == 0);
+            table.intern("interned")?
+        }
+        made => made?,
+    };
+    assert!(rt; word == FIRST);
+    assert!(rt; table.text(word) == Some("interned"));
     Ok(())
 }
 

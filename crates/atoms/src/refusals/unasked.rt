@@ -34,6 +34,23 @@ fn static_text_is_interned(rt: HostRuntime) -> Result<(), Fail> {
     Ok(())
 }
 
+/// The values of a short text and of a static one.
+#[test]
+fn json_is_read(rt: HostRuntime) -> Result<(), Fail> {
+    let set: Set<One> = Set::new(rt.alloc())?;
+    let short = Atom::from_str_in(&rt, &set, "abcdefg")?.to_json(rt.alloc())?;
+    let long = Atom::from_str_in(&rt, &set, "sentence")?.to_json(rt.alloc())?;
+    begin(&rt);
+    let (short, long) = (
+        Atom::from_json_in(&rt, &set, &short),
+        Atom::from_json_in(&rt, &set, &long),
+    );
+    finish(&rt, End::Given);
+    assert!(rt; short?.unsafe_data() == 0x6766_6564_6362_6171);
+    assert!(rt; long?.unsafe_data() == 2);
+    Ok(())
+}
+
 #[test]
 fn lower_case_is_a_static_text(rt: HostRuntime) -> Result<(), Fail> {
     let set: Set<One> = Set::new(rt.alloc())?;

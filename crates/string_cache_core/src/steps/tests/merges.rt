@@ -1,5 +1,5 @@
 // Steps of three parties, merged in many orders: what the world replies, read as calls of one map, is what a table replies.
-use super::{Do, new_world, step_of};
+use super::{Do, step_of};
 use crate::faults::Fault;
 use crate::static_sets::EmptyStaticAtomSet;
 use crate::steps::{StepReply, World};
@@ -196,7 +196,7 @@ fn merges_are_histories_of_a_table(rt: HostRuntime) -> Result<(), Fail> {
     for merge in 0..243 {
         let steps = steps_of(alloc, merge)?;
         assert_eq!(rt; steps.len(), 12, "in merge {merge}");
-        let mut world = new_world(alloc, Limits::greatest())?;
+        let mut world = World::<EmptyStaticAtomSet>::new(alloc, Limits::greatest())?;
         let history = history_of(alloc, &mut world, &steps)?;
         let mut table = Table::<EmptyStaticAtomSet>::new(alloc)?;
         let replies = table.run(&history.calls)?;
