@@ -13,7 +13,7 @@ use string_cache::dynamic_set::Set;
 use string_cache::{DefaultAtom, EmptyStaticAtomSet, Fault};
 
 /// The most atoms that a worker keeps.
-const MOST: usize = 64;
+const MOST: usize = 8;
 
 /// An atom, and the text that it has to have.
 #[derive(Drop)]
@@ -53,12 +53,13 @@ impl<'s, R: Wait> Worker<'s, R> {
         Ok(self.wrong)
     }
 
+    /// Does one thing. More atoms are let go than made, so that entries come and go all the time.
     fn act(&mut self) -> Result<(), Fault> {
         match self.rng.random_range(0..1000u32) {
-            0..400 => self.intern(),
-            400..600 => self.copy(),
-            600..750 => self.change_case(),
-            750..999 => {
+            0..200 => self.intern(),
+            200..300 => self.copy(),
+            300..400 => self.change_case(),
+            400..999 => {
                 self.let_go();
                 Ok(())
             }
