@@ -64,19 +64,6 @@ pub fn finish<R: Print>(rt: &R, how: End) {
     };
 }
 
-/// What a call gives, between the two lines.
-pub fn watched<T, E: Refusal, R: Print, F: FnOnce() -> Result<T, E>>(
-    rt: &R,
-    call: F,
-) -> Result<T, E>
-    requires { F.pre call }
-{
-    begin(rt);
-    let answer = call();
-    finish(rt, End::of(&answer));
-    answer
-}
-
 /// What a call gives or, where it is refused memory, what it gives once it is made again.
 pub fn at_last<T, E: Refusal, R: Print, F: Fn() -> Result<T, E>>(rt: &R, call: F) -> Result<T, E>
     requires { F.IsAlwaysCallable call }

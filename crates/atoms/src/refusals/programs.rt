@@ -8,7 +8,7 @@ use crate::faults::AppFault;
 use crate::memory::{Bytes, Page, Streams};
 use crate::program::tests::{COUNT_LINE, NO_MEMORY, answer_of, arguments_of, words_of_line};
 use crate::replay::replay;
-use crate::replay::tests::{OUTPUT, SCRIPT};
+use crate::replay::tests::WORKED;
 use crate::tests::{EXAMPLE, EXAMPLE_LINES};
 use crate::words::{words, words_alone};
 use std::alloc::Global;
@@ -59,21 +59,40 @@ fn words_in_a_table(rt: HostRuntime) -> Result<(), Fail> {
     Ok(())
 }
 
-#[test]
-fn script_is_replayed(rt: HostRuntime) -> Result<(), Fail> {
+/// What a worked script prints.
+fn worked_script_is_replayed<R: Print + Abort>(
+    rt: &R,
+    alloc: Global,
+    (script, output): (&[u8], &[u8]),
+) -> Result<(), Fail> {
     let mut page = Page::wide();
-    begin(&rt);
-    let answer = replay(rt.alloc(), &mut Bytes::whole(SCRIPT), &mut page);
+    begin(rt);
+    let answer = replay(alloc, &mut Bytes::whole(script), &mut page);
     let ended = End::of(&answer);
-    finish(&rt, ended);
+    finish(rt, ended);
     if matches!(ended, End::Refused) {
         assert!(rt; page.written().is_empty());
-        replay(rt.alloc(), &mut Bytes::whole(SCRIPT), &mut page)?;
+        replay(alloc, &mut Bytes::whole(script), &mut page)?;
     } else {
         answer?;
     }
-    assert!(rt; page.written() == OUTPUT);
+    assert!(rt; page.written() == output);
     Ok(())
+}
+
+#[test]
+fn script_with_a_dying_entry_is_replayed(rt: HostRuntime) -> Result<(), Fail> {
+    worked_script_is_replayed(&rt, rt.alloc(), WORKED[0])
+}
+
+#[test]
+fn script_with_limits_is_replayed(rt: HostRuntime) -> Result<(), Fail> {
+    worked_script_is_replayed(&rt, rt.alloc(), WORKED[1])
+}
+
+#[test]
+fn script_without_room_is_replayed(rt: HostRuntime) -> Result<(), Fail> {
+    worked_script_is_replayed(&rt, rt.alloc(), WORKED[2])
 }
 
 /// The counts of the example by so many workers. After a refusal nothing stays linked.
@@ -91,12 +110,15 @@ fn example_is_counted<R: Threads + Wait + Sync + Print + Abort>(
     let answer = count(rt, &set, text, n, &Open);
     let ended = End::of(&answer);
     finish(rt, ended);
-    if matches!(ended, End::Refused) {
-        assert!(rt; set.linked(rt) == 0);
-        assert!(rt; are(&count(rt, &set, text, n, &Open)?, &EXAMPLE_COUNTS));
-    } else {
-        assert!(rt; are(&answer?, &EXAMPLE_COUNTS));
-    }
+    let is_right = match &answer {
+        Ok(counts) => are(counts, &EXAMPLE_COUNTS),
+        Err(_) => matches!(ended, End::Refused),
+    };
+    drop(answer);
+    assert!(rt; is_right && set.linked(rt) == 0);
+    let again = count(rt, &set, text, n, &Open)?;
+    assert!(rt; are(&again, &EXAMPLE_COUNTS));
+    drop(again);
     assert!(rt; set.linked(rt) == 0);
     Ok(())
 }

@@ -1,5 +1,5 @@
 // Sets and their atoms: a call that is made again gives the ticket that it would have given the first time.
-use super::{at_last, watched};
+use super::{End, at_last, begin, finish};
 use std::borrow::CowStr;
 use std::test::Fail;
 use string_cache::dynamic_set::Set;
@@ -33,7 +33,10 @@ fn owned_text_is_interned(rt: HostRuntime) -> Result<(), Fail> {
     let set: Set<EmptyStaticAtomSet> = Set::new(rt.alloc())?;
     let first = String::from_str(rt.alloc(), "interned")?;
     let second = String::from_str(rt.alloc(), "interned")?;
-    let atom = match watched(&rt, || DefaultAtom::from_string_in(&rt, &set, first)) {
+    begin(&rt);
+    let answer = DefaultAtom::from_string_in(&rt, &set, first);
+    finish(&rt, End::of(&answer));
+    let atom = match answer {
         Err(Fault::Memory) => DefaultAtom::from_string_in(&rt, &set, second)?,
         made => made?,
     };
@@ -47,7 +50,10 @@ fn text_that_may_be_owned_is_interned(rt: HostRuntime) -> Result<(), Fail> {
     let set: Set<EmptyStaticAtomSet> = Set::new(rt.alloc())?;
     let first = CowStr::Owned(String::from_str(rt.alloc(), "interned")?);
     let second = CowStr::Borrowed("interned");
-    let atom = match watched(&rt, || DefaultAtom::from_cow_in(&rt, &set, first)) {
+    begin(&rt);
+    let answer = DefaultAtom::from_cow_in(&rt, &set, first);
+    finish(&rt, End::of(&answer));
+    let atom = match answer {
         Err(Fault::Memory) => DefaultAtom::from_cow_in(&rt, &set, second)?,
         made => made?,
     };
@@ -62,7 +68,13 @@ fn long_text_is_put_into_upper_case(rt: HostRuntime) -> Result<(), Fail> {
     let set: Set<EmptyStaticAtomSet> = Set::new(rt.alloc())?;
     let lower = "a".repeat(rt.alloc(), 65)?;
     let atom = DefaultAtom::from_str_in(&rt, &set, lower.as_str())?;
-    let upper = at_last(&rt, || atom.to_ascii_uppercase_in(&rt, &set))?;
+    begin(&rt);
+    let answer = atom.to_ascii_uppercase_in(&rt, &set);
+    finish(&rt, End::of(&answer));
+    let upper = match answer {
+        Err(Fault::Memory) => atom.to_ascii_uppercase_in(&rt, &set)?,
+        made => made?,
+    };
     assert!(rt; upper.eq_str("A".repeat(rt.alloc(), 65)?.as_str()));
     assert!(rt; upper.unsafe_data() == 0x6680);
     assert!(rt; set.linked(&rt) == 2);

@@ -1,5 +1,5 @@
 // Tables and worlds of steps.
-use super::{End, at_last, begin, finish, watched};
+use super::{End, at_last, begin, finish};
 use std::alloc::Global;
 use std::test::Fail;
 use string_cache::steps::{Step, StepReply, World};
@@ -24,7 +24,10 @@ fn table_is_made(rt: HostRuntime) -> Result<(), Fail> {
 #[test]
 fn text_is_interned_in_a_table(rt: HostRuntime) -> Result<(), Fail> {
     let mut table = Table::<EmptyStaticAtomSet>::new(rt.alloc())?;
-    let word = match watched(&rt, || table.intern("interned")) {
+    begin(&rt);
+    let answer = table.intern("interned");
+    finish(&rt, End::of(&answer));
+    let word = match answer {
         Err(Fault::Memory) => {
             assert!(rt; table.entries() == 0 && table.text_bytes() == 0);
             table.intern("interned")?

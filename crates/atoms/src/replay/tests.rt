@@ -19,12 +19,10 @@ fn replay_of(alloc: Global, streams: &Streams) -> (Result<(), AppFault>, Page) {
     (answer, writer)
 }
 
-#[test]
-fn worked_scripts(rt: HostRuntime) -> Result<(), Fail> {
-    let args = words_of_line(rt.alloc(), "replay")?;
-    for (script, output) in [
-        (
-            b"1 intern tokenised
+/// Scripts with what they print, worked out by hand from the table of steps.
+pub const WORKED: [(&[u8], &[u8]); 7] = [
+    (
+        b"1 intern tokenised
 1 link
 1 leave
 2 intern tokenised
@@ -35,9 +33,8 @@ fn worked_scripts(rt: HostRuntime) -> Result<(), Fail> {
 2 leave
 2 free e1
 2 free e1
-"
-                .as_slice(),
-            b"taken
+",
+        b"taken
 linked e1 serial 1
 left
 taken
@@ -49,11 +46,10 @@ left
 freed
 no
 held e2 1
-"
-                .as_slice(),
-        ),
-        (
-            b"limits 1 1
+",
+    ),
+    (
+        b"limits 1 1
 1 intern tokenised
 1 link
 1 leave
@@ -70,9 +66,8 @@ held e2 1
 2 unlink e1
 2 leave
 2 free e1
-"
-                .as_slice(),
-            b"taken
+",
+        b"taken
 linked e1 serial 1
 left
 full
@@ -88,44 +83,39 @@ no
 unlinked
 left
 freed
-"
-                .as_slice(),
-        ),
-        (
-            b"1 intern interned
+",
+    ),
+    (
+        b"1 intern interned
 1 link noroom
 1 leave
 1 link
 1 intern short
-"
-                .as_slice(),
-            b"taken
+",
+        b"taken
 memory
 left
 no
 no
-"
-                .as_slice(),
-        ),
-        (
-            b"1 intern interned
+",
+    ),
+    (
+        b"1 intern interned
 1 link
 2 clone e1
 1 leave
 2 give e1
-"
-                .as_slice(),
-            b"taken
+",
+        b"taken
 linked e1 serial 1
 cloned 2
 left
 given 1
 held e1 1
-"
-                .as_slice(),
-        ),
-        (
-            b"1 intern interned
+",
+    ),
+    (
+        b"1 intern interned
 1 link
 1 leave
 1 intern interned
@@ -134,9 +124,8 @@ held e1 1
 1 leave
 1 add e1
 1 leave
-"
-                .as_slice(),
-            b"taken
+",
+        b"taken
 linked e1 serial 1
 left
 taken
@@ -146,25 +135,22 @@ no
 added 2
 left
 held e1 2
-"
-                .as_slice(),
-        ),
-        (
-            b"1 sweep 4095
+",
+    ),
+    (
+        b"1 sweep 4095
 1 leave
 1 sweep 4096
 1 give e1
-"
-                .as_slice(),
-            b"taken
+",
+        b"taken
 left
 no
 no
-"
-                .as_slice(),
-        ),
-        (
-            b"limits 2 2
+",
+    ),
+    (
+        b"limits 2 2
 1 intern interned
 1 link
 1 leave
@@ -191,9 +177,8 @@ no
 1 unlink e2
 1 leave
 1 free e2
-"
-                .as_slice(),
-            b"taken
+",
+        b"taken
 linked e1 serial 1
 left
 taken
@@ -219,10 +204,14 @@ spent
 unlinked
 left
 freed
-"
-                .as_slice(),
-        ),
-    ] {
+",
+    ),
+];
+
+#[test]
+fn worked_scripts(rt: HostRuntime) -> Result<(), Fail> {
+    let args = words_of_line(rt.alloc(), "replay")?;
+    for (script, output) in WORKED {
         let answer = answer_of(&rt, rt.alloc(), &args, &Streams::ample(script));
         assert_eq!(rt; answer.status, 0, "of {script:?}");
         assert!(rt; answer.output.written() == output, "of {script:?}");
