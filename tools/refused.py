@@ -27,6 +27,14 @@ MOST = 100_000  # requests of one call
 EVERY = sys.maxsize
 
 
+def compiler():
+    """The words that compile and link a library with the kit's own compiler."""
+    doc = subprocess.run(["rt", "doc"], stdout=subprocess.PIPE, check=True).stdout.decode().strip()
+    kit = Path(doc).parent / "toolchain"
+    linked = ["-shared", "-nostdlib", f"--ld-path={kit}/bin/ld.lld", f"{kit}/lib/libc.so.6"]
+    return [f"{kit}/bin/clang", "-O1", "-fPIC", "-fno-builtin", "-Wall", *linked]
+
+
 @dataclass
 class Run:
     """What became of a test, with some requests refused."""
@@ -114,9 +122,7 @@ def main():
             tests = [test for test in tests if any(word in test for word in given.words)]
         with tempfile.TemporaryDirectory(prefix="refused-") as room:
             library = f"{room}/refuse.so"
-            compiler = os.environ.get("CC") or "cc"
-            source = TOP / "tools" / "refuse.c"
-            subprocess.run([compiler, "-O1", "-shared", "-fPIC", "-o", library, source], check=True)
+            subprocess.run([*compiler(), "-o", library, TOP / "tools" / "refuse.c"], check=True)
             with ThreadPoolExecutor(max(1, given.jobs)) as workers:
                 results = list(workers.map(lambda test: judge(library, test), tests))
     except (OSError, subprocess.CalledProcessError) as why:
