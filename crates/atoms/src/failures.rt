@@ -90,6 +90,17 @@ fn each_read_fails(rt: HostRuntime) -> Result<(), Fail> {
     Ok(())
 }
 
+/// Streams of which each write takes at most so many bytes, and one fails.
+fn writing(text: &[u8], takes: usize, write_fails_at: u64) -> Streams<'_> {
+    Streams {
+        text,
+        gives: usize::MAX,
+        read_fails_at: 0,
+        takes,
+        write_fails_at,
+    }
+}
+
 /// Each write of at most so many bytes fails in turn: then exactly what was taken before is written.
 fn fail_each_write<R: Threads + Wait + Sync + Abort>(
     rt: &R,
@@ -98,15 +109,12 @@ fn fail_each_write<R: Threads + Wait + Sync + Abort>(
     takes: usize,
 ) {
     let (input, output) = call.texts();
-    let mut streams = Streams::ample(input);
-    streams.takes = takes;
     let mut taken = 0usize;
     for at in 1..=output.len() as u64 {
         if taken >= output.len() {
             break;
         }
-        streams.write_fails_at = at;
-        let (answer, written) = call.make(rt, alloc, &streams);
+        let (answer, written) = call.make(rt, alloc, &writing(input, takes, at));
         assert_eq!(rt; answer, Err(AppFault::Write), "{call:?} at {at}");
         assert!(rt;
             Some(written.written()) == output.get(..taken),
@@ -114,8 +122,7 @@ fn fail_each_write<R: Threads + Wait + Sync + Abort>(
         );
         taken = taken.saturating_add(takes);
     }
-    streams.write_fails_at = u64::MAX;
-    let (answer, written) = call.make(rt, alloc, &streams);
+    let (answer, written) = call.make(rt, alloc, &writing(input, takes, 0));
     assert_eq!(rt; answer, Ok(()), "{call:?}");
     assert!(rt; written.written() == output, "{call:?}");
 }
@@ -141,9 +148,7 @@ fn writes_of_the_example_fail(rt: HostRuntime) {
             ),
             (0, 0, b"".as_slice()),
         ] {
-            let mut streams = Streams::ample(EXAMPLE);
-            streams.takes = takes;
-            streams.write_fails_at = write_fails_at;
+            let streams = writing(EXAMPLE, takes, write_fails_at);
             let (answer, written) = call.make(&rt, rt.alloc(), &streams);
             assert_eq!(rt; answer, Err(AppFault::Write), "{call:?}");
             assert!(rt; written.written() == wanted, "{call:?}");

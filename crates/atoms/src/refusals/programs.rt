@@ -72,6 +72,7 @@ fn worked_script_is_replayed<R: Print + Abort>(
     finish(rt, ended);
     if matches!(ended, End::Refused) {
         assert!(rt; page.written().is_empty());
+        page = Page::wide();
         replay(alloc, &mut Bytes::whole(script), &mut page)?;
     } else {
         answer?;
