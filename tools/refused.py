@@ -25,8 +25,8 @@ TESTS = TOP / "crates" / "atoms" / "out" / "atoms_tests"
 SECONDS = 60  # for one run
 MOST = 100_000  # requests of one call
 EVERY = sys.maxsize
-# How many requests a call may do without, by the beginning of its test's name: each of two lists that are collected asks ahead for the room that it
-# may need, and goes on without it.
+# How many requests a call may do without, by the beginning of its test's name: each of two lists that are collected asks ahead for
+# the room that it may need, and goes on without it.
 SPARED = {"refusals::programs::counts_by_": 2}
 
 
