@@ -1,6 +1,7 @@
 #!/usr/bin/env bash
 # The gate: every proof from nothing, every edit that the prover has to refuse, every test, each program as two compilers
-# build it (rt ci), and then each wrong body that a test has to catch. The last line sums up.
+# build it (rt ci), then each request for memory refused under the tests that rt ci built, and each wrong body that a test
+# has to catch. The last line sums up.
 set -uo pipefail
 cd "$(dirname "$0")" || exit 1
 
@@ -28,6 +29,7 @@ part() {
 }
 
 part rt ci
+part tools/refused.py
 part tools/caught.py
 
 echo "$passed passed, $failed failed"

@@ -11,7 +11,7 @@ mod gates;
 mod lines;
 mod tally;
 #[cfg(test)]
-mod tests;
+pub mod tests;
 mod workers;
 
 use crate::faults::AppFault;

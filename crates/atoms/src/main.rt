@@ -2,12 +2,18 @@
 #![tactic(auto)]
 
 mod count;
+#[cfg(test)]
+mod failures;
 mod faults;
 mod generate;
 #[cfg(test)]
 mod memory;
 mod program;
+#[cfg(test)]
+mod refusals;
 mod replay;
+#[cfg(test)]
+mod samples;
 mod streams;
 #[cfg(test)]
 mod tests;

@@ -14,7 +14,7 @@ mod line;
 mod print;
 mod script;
 #[cfg(test)]
-mod tests;
+pub mod tests;
 
 use crate::faults::AppFault;
 use crate::streams::{Sink, Source, read_all, write_whole};

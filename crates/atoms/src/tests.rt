@@ -1,4 +1,4 @@
-// What no contract says of the words: the worked examples, what is interned and held, and each refusal and failure in turn.
+// What no contract says of the words: the worked examples, what is interned and held.
 #![tactic(auto)]
 
 ghost use Rattle.std.specs.Prelude.{None, false};
@@ -69,21 +69,6 @@ fn tell<R: Wait>(
     (answer, writer)
 }
 
-/// As `tell`. Where memory was refused, the call is made once more.
-fn told<R: Wait>(
-    rt: &R,
-    alloc: Global,
-    over: Over,
-    streams: &Streams,
-) -> (Result<(), AppFault>, Page) {
-    let first = tell(rt, alloc, over, streams);
-    if first.0 == Err(AppFault::Intern(Fault::Memory)) {
-        tell(rt, alloc, over, streams)
-    } else {
-        first
-    }
-}
-
 #[test]
 fn words_of_texts(rt: HostRuntime) {
     for over in WAYS {
@@ -100,7 +85,7 @@ fn words_of_texts(rt: HostRuntime) {
                 b"Not seen the word \"\x1c\" before\n".as_slice(),
             ),
         ] {
-            let (answer, written) = told(&rt, rt.alloc(), over, &Streams::ample(bytes));
+            let (answer, written) = tell(&rt, rt.alloc(), over, &Streams::ample(bytes));
             assert_eq!(rt; answer, Ok(()), "over {over:?} of {bytes:?}");
             assert!(rt; written.written() == lines, "over {over:?} of {bytes:?}");
         }
@@ -110,59 +95,9 @@ fn words_of_texts(rt: HostRuntime) {
 #[test]
 fn not_a_text(rt: HostRuntime) {
     for over in WAYS {
-        let (answer, written) = told(&rt, rt.alloc(), over, &Streams::ample(b"\xff"));
+        let (answer, written) = tell(&rt, rt.alloc(), over, &Streams::ample(b"\xff"));
         assert_eq!(rt; answer, Err(AppFault::Text), "over {over:?}");
         assert!(rt; written.written().is_empty(), "over {over:?}");
-    }
-}
-
-/// What is written of the example while memory is refused is a beginning of its lines.
-#[test]
-fn refused_memory(rt: HostRuntime) {
-    for over in WAYS {
-        let mut streams = Streams::ample(EXAMPLE);
-        streams.takes = 1;
-        match tell(&rt, rt.alloc(), over, &streams) {
-            (Ok(()), written) => {
-                assert!(rt; written.written() == EXAMPLE_LINES, "over {over:?}")
-            }
-            (Err(fault), written) => {
-                assert_eq!(rt; fault, AppFault::Intern(Fault::Memory), "over {over:?}");
-                assert!(rt;
-                    EXAMPLE_LINES.starts_with(written.written()),
-                    "over {over:?}"
-                );
-            }
-        }
-    }
-}
-
-/// A reader or a writer that fails: what is answered, and what was written till then.
-#[test]
-fn streams_fail(rt: HostRuntime) {
-    for over in WAYS {
-        for (read_fails_at, takes, write_fails_at, fault, lines) in [
-            (2, usize::MAX, 0, AppFault::Read, b"".as_slice()),
-            (
-                0,
-                1,
-                41,
-                AppFault::Write,
-                b"Not seen the word \"here\" before\nNot seen".as_slice(),
-            ),
-            (0, 0, 0, AppFault::Write, b"".as_slice()),
-        ] {
-            let streams = Streams {
-                text: EXAMPLE,
-                gives: 10,
-                read_fails_at,
-                takes,
-                write_fails_at,
-            };
-            let (answer, written) = told(&rt, rt.alloc(), over, &streams);
-            assert_eq!(rt; answer, Err(fault), "over {over:?}");
-            assert!(rt; written.written() == lines, "over {over:?} at {fault:?}");
-        }
     }
 }
 

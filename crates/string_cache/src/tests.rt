@@ -1,9 +1,11 @@
 // What no contract says: words and texts that come from outside, and sets that threads share.
 #![tactic(auto)]
 
+mod crowds;
+
 use crate::dynamic_set::Set;
-use crate::samples::{One, Short, Twice};
-use crate::static_sets::{EmptyStaticAtomSet, StaticAtomSet};
+use crate::samples::One;
+use crate::static_sets::EmptyStaticAtomSet;
 use crate::word::ticket_word;
 use crate::{Atom, DefaultAtom, Fault};
 use std::sync::Wait;
@@ -62,27 +64,6 @@ fn dynamic_atoms(rt: HostRuntime) -> Result<(), Fail> {
     Ok(())
 }
 
-/// What a call gives, made once more where it was refused for want of memory.
-pub fn at_last<T, F: Fn() -> Result<T, Fault>>(call: F) -> Result<T, Fault>
-    requires { F.IsAlwaysCallable call }
-{
-    match call() {
-        Err(Fault::Memory) => call(),
-        made => made,
-    }
-}
-
-/// Passes also where one allocation fails, as under `rt try --test --fail-alloc N`: a call that is made again gives what it
-/// gives the first time.
-#[test]
-fn refused_calls_made_again(rt: HostRuntime) -> Result<(), Fail> {
-    let alloc = rt.alloc();
-    let set: Set<EmptyStaticAtomSet> = at_last(|| Set::new(alloc))?;
-    let atom = at_last(|| Atom::from_str_in(&rt, &set, "abcdefgh"))?;
-    assert!(rt; atom.unsafe_data() == ticket_word(1, 0x2c5));
-    Ok(())
-}
-
 #[test]
 fn atoms_of_two_sets(rt: HostRuntime) -> Result<(), Fail> {
     let one: Set<EmptyStaticAtomSet> = Set::new(rt.alloc())?;
@@ -104,8 +85,6 @@ fn packed_inline(rt: HostRuntime) {
         (0x62_6100, 1),
         (0, 8),
         (1, 0),
-        (0x80_c000, 2),
-        (0xff00, 1),
         (0, u8::MAX),
         (u64::MAX, 7),
     ] {
@@ -138,23 +117,6 @@ fn not_static(rt: HostRuntime) {
     assert!(rt; DefaultAtom::pack_static(0).is_none());
     assert!(rt; Atom::<One>::try_static("sentencf").is_none());
     assert!(rt; Atom::<One>::pack_static(1).is_none());
-    assert!(rt; Atom::<Short>::try_static("short").is_none());
-    assert!(rt; Atom::<Short>::pack_static(0).is_none());
-}
-
-#[test]
-fn odd_tables(rt: HostRuntime) -> Result<(), Fail> {
-    assert!(rt; One::get().check() && Short::get().check() && !Twice::get().check());
-
-    let set: Set<Twice> = Set::new(rt.alloc())?;
-    // The low bit of f2, 0x56e93a5c, is the place of "sentence" among two.
-    assert!(rt; Atom::from_str_in(&rt, &set, "sentence")?.unsafe_data() == 2);
-    assert!(rt; Atom::<Twice>::pack_static(0).is_some());
-    assert!(rt; Atom::<Twice>::pack_static(1).is_none());
-
-    let set: Set<Short> = Set::new(rt.alloc())?;
-    assert!(rt; Atom::from_str_in(&rt, &set, "short")?.unsafe_data() == 0x7472_6f68_7351);
-    Ok(())
 }
 
 #[test]

@@ -15,7 +15,7 @@ use string_cache::dynamic_set::Set;
 use string_cache::word::Limits;
 use string_cache::{Atom, EmptyStaticAtomSet, Fault};
 
-const EXAMPLE_COUNTS: [(&str, u64); 15] = [
+pub const EXAMPLE_COUNTS: [(&str, u64); 15] = [
     ("a", 1),
     ("and", 3),
     ("be", 1),
@@ -33,10 +33,10 @@ const EXAMPLE_COUNTS: [(&str, u64); 15] = [
     ("will", 1),
 ];
 
-type Counts<'s> = Vec<(Atom<'s, EmptyStaticAtomSet>, u64)>;
+pub type Counts<'s> = Vec<(Atom<'s, EmptyStaticAtomSet>, u64)>;
 
 /// Whether these are the words and numbers of the counts.
-fn are(counts: &Counts, wanted: &[(&str, u64)]) -> bool {
+pub fn are(counts: &Counts, wanted: &[(&str, u64)]) -> bool {
     if counts.len() != wanted.len() {
         return false;
     }
@@ -50,31 +50,12 @@ fn are(counts: &Counts, wanted: &[(&str, u64)]) -> bool {
     true
 }
 
-/// The counts of a text. Where memory was refused, the call is made once more.
-fn counts_of<'s, R: Threads + Wait + Sync, G: Gate>(
-    rt: &'s R,
-    set: &'s Set<EmptyStaticAtomSet>,
-    text: &'s str,
-    n: u32,
-    gate: &'s G,
-) -> Result<Counts<'s>, AppFault>
-    requires low { 1 ≤ n }
-    requires high { n ≤ 64 }
-{
-    match count(rt, set, text, n, gate) {
-        Err(AppFault::Intern(Fault::Memory)) | Err(AppFault::Worker) => count(
-            rt, set, text, n, gate,
-        ),
-        answer => answer,
-    }
-}
-
 #[test]
 fn counts_of_the_example(rt: HostRuntime) -> Result<(), Fail> {
     let set = Set::<EmptyStaticAtomSet>::new(rt.alloc())?;
     let text = str::from_utf8(EXAMPLE).expect(&rt, "a text");
     for n in [1, 2, 3, 64] {
-        let counts = counts_of(&rt, &set, text, n, &Open).expect(&rt, "counts");
+        let counts = count(&rt, &set, text, n, &Open).expect(&rt, "counts");
         assert!(rt; are(&counts, &EXAMPLE_COUNTS), "by {n}");
     }
     assert!(rt; set.linked(&rt) == 0);
@@ -232,21 +213,5 @@ fn atoms_cross_threads(rt: HostRuntime) -> Result<(), Fail> {
     assert!(rt; atom.eq_str("interned"));
     drop(atom);
     assert!(rt; set.linked(&rt) == 0);
-    Ok(())
-}
-
-/// Each request for memory refused in turn: the second call gets the counts, and nothing stays of the first.
-#[test]
-fn refused_memory_of_workers(rt: HostRuntime) -> Result<(), Fail> {
-    let set = Set::<EmptyStaticAtomSet>::new(rt.alloc())?;
-    let text = str::from_utf8(EXAMPLE).expect(&rt, "a text");
-    let answer = count(&rt, &set, text, 3, &Open);
-    if let Err(fault) = &answer {
-        assert!(rt; *fault == AppFault::Intern(Fault::Memory) || *fault == AppFault::Worker);
-        assert!(rt; set.linked(&rt) == 0);
-    }
-    drop(answer);
-    let counts = counts_of(&rt, &set, text, 3, &Open).expect(&rt, "counts");
-    assert!(rt; are(&counts, &EXAMPLE_COUNTS));
     Ok(())
 }

@@ -16,7 +16,7 @@ use string_cache::Fault;
 
 const USAGE: &[u8] = b"usage: atoms words | count N | replay | generate KEY BOUND | check\n";
 
-const NO_MEMORY: &[u8] = b"atoms: no memory\n";
+pub const NO_MEMORY: &[u8] = b"atoms: no memory\n";
 
 const NOT_TEXT: &[u8] = b"atoms: input is not UTF-8\n";
 
@@ -28,7 +28,7 @@ pub struct Answer {
     pub faults: Page,
 }
 
-fn answer_once<R: Threads + Wait + Sync>(
+pub fn answer_of<R: Threads + Wait + Sync>(
     rt: &R,
     alloc: Global,
     args: &[String],
@@ -51,35 +51,13 @@ fn answer_once<R: Threads + Wait + Sync>(
     }
 }
 
-/// Where memory was refused, the program is run once more.
-pub fn answer_of<R: Threads + Wait + Sync>(
-    rt: &R,
-    alloc: Global,
-    args: &[String],
-    streams: &Streams,
-) -> Answer {
-    let first = answer_once(rt, alloc, args, streams);
-    if first.faults.written() == NO_MEMORY || first.faults.written() == NO_WORKER {
-        answer_once(rt, alloc, args, streams)
-    } else {
-        first
-    }
-}
-
-fn words_of_line_once(alloc: Global, line: &str) -> Result<Vec<String>, AllocError> {
+/// The arguments of a line, parted by single spaces.
+pub fn words_of_line(alloc: Global, line: &str) -> Result<Vec<String>, AllocError> {
     let mut args = Vec::new(alloc);
     for word in line.split(' ') {
         args.push(String::from_str(alloc, word)?)?;
     }
     Ok(args)
-}
-
-/// The arguments of a line, parted by single spaces. Where memory was refused, they are made once more.
-pub fn words_of_line(alloc: Global, line: &str) -> Result<Vec<String>, AllocError> {
-    match words_of_line_once(alloc, line) {
-        Ok(args) => Ok(args),
-        Err(_) => words_of_line_once(alloc, line),
-    }
 }
 
 #[test]
@@ -126,7 +104,7 @@ fn other_number_of_workers(rt: HostRuntime) -> Result<(), Fail> {
     Ok(())
 }
 
-const EXAMPLE_COUNTS: &[u8] = b"1 a
+pub const EXAMPLE_COUNTS: &[u8] = b"1 a
 3 and
 1 be
 1 here
@@ -267,7 +245,7 @@ fn printed_faults(rt: HostRuntime) {
 }
 
 /// The words of a command line, the program's name first.
-type CommandLine = &'static [&'static [u8]];
+pub type CommandLine = &'static [&'static [u8]];
 
 /// A process that was given a command line.
 #[derive(Drop)]
@@ -297,15 +275,12 @@ impl Env for Given {
     }
 }
 
-/// The arguments of a command line. Where memory was refused, they are read once more.
-fn arguments_of(alloc: Global, line: CommandLine) -> Result<Option<Vec<String>>, AppFault> {
-    match arguments(&(Given { line }, alloc)) {
-        Err(AppFault::Intern(Fault::Memory)) => arguments(&(Given { line }, alloc)),
-        other => other,
-    }
+/// The arguments of a command line.
+pub fn arguments_of(alloc: Global, line: CommandLine) -> Result<Option<Vec<String>>, AppFault> {
+    arguments(&(Given { line }, alloc))
 }
 
-const COUNT_LINE: CommandLine = &[b"atoms", b"count", b"3"];
+pub const COUNT_LINE: CommandLine = &[b"atoms", b"count", b"3"];
 
 const EMPTY_LINE: CommandLine = &[];
 
@@ -363,7 +338,7 @@ fn outcomes_of_arguments(rt: HostRuntime) -> Result<(), Fail> {
         let answer = ran(&rt, rt.alloc(), args);
         assert_eq!(rt; answer.status, status);
         assert!(rt; answer.output.written().is_empty());
-        assert!(rt; answer.faults.written() == faults || answer.faults.written() == NO_MEMORY);
+        assert!(rt; answer.faults.written() == faults);
     }
     Ok(())
 }

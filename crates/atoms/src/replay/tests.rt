@@ -1,4 +1,4 @@
-// The worked scripts, and each refusal and failure in turn.
+// The worked scripts, and scripts that are large or no scripts.
 #![tactic(auto)]
 
 mod lines;
@@ -13,28 +13,16 @@ use std::test::Fail;
 use string_cache::Fault;
 
 /// What `replay` answers and writes over these streams.
-fn replay_once(alloc: Global, streams: &Streams) -> (Result<(), AppFault>, Page) {
+fn replay_of(alloc: Global, streams: &Streams) -> (Result<(), AppFault>, Page) {
     let mut writer = streams.writer();
     let answer = replay(alloc, &mut streams.reader(), &mut writer);
     (answer, writer)
 }
 
-/// As `replay_once`. Where memory was refused, the call is made once more.
-fn replay_of(alloc: Global, streams: &Streams) -> (Result<(), AppFault>, Page) {
-    let first = replay_once(alloc, streams);
-    if first.0 == Err(AppFault::Intern(Fault::Memory)) {
-        replay_once(alloc, streams)
-    } else {
-        first
-    }
-}
-
-#[test]
-fn worked_scripts(rt: HostRuntime) -> Result<(), Fail> {
-    let args = words_of_line(rt.alloc(), "replay")?;
-    for (script, output) in [
-        (
-            b"1 intern tokenised
+/// Scripts with what they print, worked out by hand from the table of steps.
+pub const WORKED: [(&[u8], &[u8]); 7] = [
+    (
+        b"1 intern tokenised
 1 link
 1 leave
 2 intern tokenised
@@ -45,9 +33,8 @@ fn worked_scripts(rt: HostRuntime) -> Result<(), Fail> {
 2 leave
 2 free e1
 2 free e1
-"
-                .as_slice(),
-            b"taken
+",
+        b"taken
 linked e1 serial 1
 left
 taken
@@ -59,11 +46,10 @@ left
 freed
 no
 held e2 1
-"
-                .as_slice(),
-        ),
-        (
-            b"limits 1 1
+",
+    ),
+    (
+        b"limits 1 1
 1 intern tokenised
 1 link
 1 leave
@@ -80,9 +66,8 @@ held e2 1
 2 unlink e1
 2 leave
 2 free e1
-"
-                .as_slice(),
-            b"taken
+",
+        b"taken
 linked e1 serial 1
 left
 full
@@ -98,44 +83,39 @@ no
 unlinked
 left
 freed
-"
-                .as_slice(),
-        ),
-        (
-            b"1 intern interned
+",
+    ),
+    (
+        b"1 intern interned
 1 link noroom
 1 leave
 1 link
 1 intern short
-"
-                .as_slice(),
-            b"taken
+",
+        b"taken
 memory
 left
 no
 no
-"
-                .as_slice(),
-        ),
-        (
-            b"1 intern interned
+",
+    ),
+    (
+        b"1 intern interned
 1 link
 2 clone e1
 1 leave
 2 give e1
-"
-                .as_slice(),
-            b"taken
+",
+        b"taken
 linked e1 serial 1
 cloned 2
 left
 given 1
 held e1 1
-"
-                .as_slice(),
-        ),
-        (
-            b"1 intern interned
+",
+    ),
+    (
+        b"1 intern interned
 1 link
 1 leave
 1 intern interned
@@ -144,9 +124,8 @@ held e1 1
 1 leave
 1 add e1
 1 leave
-"
-                .as_slice(),
-            b"taken
+",
+        b"taken
 linked e1 serial 1
 left
 taken
@@ -156,25 +135,22 @@ no
 added 2
 left
 held e1 2
-"
-                .as_slice(),
-        ),
-        (
-            b"1 sweep 4095
+",
+    ),
+    (
+        b"1 sweep 4095
 1 leave
 1 sweep 4096
 1 give e1
-"
-                .as_slice(),
-            b"taken
+",
+        b"taken
 left
 no
 no
-"
-                .as_slice(),
-        ),
-        (
-            b"limits 2 2
+",
+    ),
+    (
+        b"limits 2 2
 1 intern interned
 1 link
 1 leave
@@ -201,9 +177,8 @@ no
 1 unlink e2
 1 leave
 1 free e2
-"
-                .as_slice(),
-            b"taken
+",
+        b"taken
 linked e1 serial 1
 left
 taken
@@ -229,10 +204,14 @@ spent
 unlinked
 left
 freed
-"
-                .as_slice(),
-        ),
-    ] {
+",
+    ),
+];
+
+#[test]
+fn worked_scripts(rt: HostRuntime) -> Result<(), Fail> {
+    let args = words_of_line(rt.alloc(), "replay")?;
+    for (script, output) in WORKED {
         let answer = answer_of(&rt, rt.alloc(), &args, &Streams::ample(script));
         assert_eq!(rt; answer.status, 0, "of {script:?}");
         assert!(rt; answer.output.written() == output, "of {script:?}");
@@ -250,42 +229,9 @@ fn not_a_text(rt: HostRuntime) {
     }
 }
 
-const SCRIPT: &[u8] = b"1 intern interned\n1 link\n2 clone e1\n1 leave\n2 give e1\n";
+pub const SCRIPT: &[u8] = b"1 intern interned\n1 link\n2 clone e1\n1 leave\n2 give e1\n";
 
-const OUTPUT: &[u8] = b"taken\nlinked e1 serial 1\ncloned 2\nleft\ngiven 1\nheld e1 1\n";
-
-/// What is written where memory was refused is nothing.
-#[test]
-fn refused_memory(rt: HostRuntime) {
-    match replay_once(rt.alloc(), &Streams::ample(SCRIPT)) {
-        (Ok(()), written) => assert!(rt; written.written() == OUTPUT),
-        (Err(fault), written) => {
-            assert_eq!(rt; fault, AppFault::Intern(Fault::Memory));
-            assert!(rt; written.written().is_empty());
-        }
-    }
-}
-
-/// A reader or a writer that fails: what is answered, and what was written till then.
-#[test]
-fn streams_fail(rt: HostRuntime) {
-    for (read_fails_at, takes, write_fails_at, fault, output) in [
-        (2, usize::MAX, 0, AppFault::Read, b"".as_slice()),
-        (0, 1, 15, AppFault::Write, b"taken\nlinked e".as_slice()),
-        (0, 0, 0, AppFault::Write, b"".as_slice()),
-    ] {
-        let streams = Streams {
-            text: SCRIPT,
-            gives: 10,
-            read_fails_at,
-            takes,
-            write_fails_at,
-        };
-        let (answer, written) = replay_of(rt.alloc(), &streams);
-        assert_eq!(rt; answer, Err(fault));
-        assert!(rt; written.written() == output, "at {fault:?}");
-    }
-}
+pub const OUTPUT: &[u8] = b"taken\nlinked e1 serial 1\ncloned 2\nleft\ngiven 1\nheld e1 1\n";
 
 /// A script that takes several reads, and an output of more than one piece.
 #[test]

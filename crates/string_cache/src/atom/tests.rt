@@ -1,12 +1,9 @@
-// Orders, hashes and cases with values that come from outside, atoms as keys of maps, and calls that ask for no memory.
+// Orders, hashes and cases with values that come from outside, and atoms as keys of maps.
 use super::{Atom, DefaultAtom};
 use crate::Fault;
 use crate::dynamic_set::Set;
-use crate::samples::{One, Twice};
+use crate::samples::One;
 use crate::static_sets::EmptyStaticAtomSet;
-use crate::tests::at_last;
-use crate::word::{Form, form_of, ticket_word};
-use std::alloc::Global;
 use std::borrow::CowStr;
 use std::cmp::Ordering;
 use std::collections::{BTreeMap, HashMap};
@@ -33,10 +30,6 @@ fn hash_numbers(rt: HostRuntime) -> Result<(), Fail> {
         let atom = Atom::from_str_in(&rt, &set, text)?;
         assert!(rt; atom.get_hash() == number, "of {text:?}");
     }
-    let set: Set<Twice> = Set::new(rt.alloc())?;
-    // It stands at its place 0, with the first of the two hashes.
-    let atom = Atom::from_str_in(&rt, &set, "sentence")?;
-    assert!(rt; atom.unsafe_data() == 2 && atom.get_hash() == 1);
     Ok(())
 }
 
@@ -184,56 +177,6 @@ fn keys_of_maps(rt: HostRuntime) -> Result<(), Fail> {
     for ((atom, count), wanted) in sorted.iter().zip(wanted.iter()) {
         assert!(rt; (atom.as_str(), *count) == *wanted);
     }
-    Ok(())
-}
-
-/// Passes also where any one request for memory is refused, as under `rt try --test --fail-alloc N`: the calls that are made
-/// once ask for none.
-#[test]
-fn calls_without_memory(rt: HostRuntime) -> Result<(), Fail> {
-    let alloc = rt.alloc();
-    let set: Set<One> = at_last(|| Set::new(alloc))?;
-    let upper = at_last(|| Atom::from_str_in(&rt, &set, "SENTENCE"))?;
-    assert!(rt; upper.to_ascii_lowercase_in(&rt, &set)?.unsafe_data() == 2);
-    assert!(rt; upper.to_ascii_uppercase_in(&rt, &set)?.is_dynamic());
-    assert!(rt; Atom::from_str_in(&rt, &set, "sentence")?.is_static());
-    assert!(rt; Atom::from_str_in(&rt, &set, "abcdefg")?.is_inline());
-    Ok(())
-}
-
-/// The atom of 65 letters, in upper case.
-fn upper_of_letters<'s, R: Wait>(
-    rt: &R,
-    alloc: Global,
-    set: &'s Set<EmptyStaticAtomSet>,
-) -> Result<DefaultAtom<'s>, Fault> {
-    let letters = "a".repeat(alloc, 65)?;
-    Atom::from_string_in(rt, set, letters)?.to_ascii_uppercase_in(rt, set)
-}
-
-/// Passes also where any one request for memory is refused: a call that is made again gives what it gives the first time.
-#[test]
-fn refused_calls_made_again(rt: HostRuntime) -> Result<(), Fail> {
-    let alloc = rt.alloc();
-    let set: Set<EmptyStaticAtomSet> = at_last(|| Set::new(alloc))?;
-    let owned = at_last(|| {
-        let text = String::from_str(alloc, "interned")?;
-        Atom::from_string_in(&rt, &set, text)
-    })?;
-    assert!(rt; owned.unsafe_data() == ticket_word(1, 0x210));
-    let cow = at_last(|| {
-        let text = CowStr::Owned(String::from_str(alloc, "tokenised")?);
-        Atom::from_cow_in(&rt, &set, text)
-    })?;
-    assert!(rt; cow.unsafe_data() == ticket_word(1, 0xe77));
-    let upper = at_last(|| upper_of_letters(&rt, alloc, &set))?;
-    assert!(rt; upper.as_bytes().len() == 65 && upper.as_bytes().iter().all(|&byte| byte == b'A'));
-    assert!(rt;
-        matches!(
-            form_of(upper.unsafe_data()),
-            Some(Form::Dynamic { serial: 1, .. })
-        )
-    );
     Ok(())
 }
 

@@ -3,7 +3,6 @@ use super::PrecomputedHash;
 use crate::dynamic_set::Set;
 use crate::samples::One;
 use crate::static_sets::EmptyStaticAtomSet;
-use crate::tests::at_last;
 use crate::{Atom, DefaultAtom, Fault};
 use serde_json::Value;
 use std::alloc::{AllocError, Global};
@@ -140,32 +139,5 @@ fn json_without_text(rt: HostRuntime) -> Result<(), Fail> {
         assert_eq!(rt; refused, Some(Fault::NotText), "of {json}");
         assert_eq!(rt; refused.map(|fault| fault.number()), Some(4), "of {json}");
     }
-    Ok(())
-}
-
-/// Passes also where any one request for memory is refused: a call that is made again gives what it gives the first time.
-#[test]
-fn refused_calls_made_again(rt: HostRuntime) -> Result<(), Fail> {
-    let alloc = rt.alloc();
-    let set: Set<EmptyStaticAtomSet> = at_last(|| Set::new(alloc))?;
-    let text = at_last(|| Ok(Value::String(String::from_str(alloc, "interned")?)))?;
-    let atom = at_last(|| Atom::from_json_in(&rt, &set, &text))?;
-    assert!(rt; atom.unsafe_data() == 0x4840);
-    let value = at_last(|| atom.to_json(alloc))?;
-    assert!(rt; value == text);
-    Ok(())
-}
-
-/// Passes also where any one request for memory is refused: atoms of short and static texts ask for none, nor does a value
-/// that isn't a text.
-#[test]
-fn json_without_memory(rt: HostRuntime) -> Result<(), Fail> {
-    let alloc = rt.alloc();
-    let set: Set<One> = at_last(|| Set::new(alloc))?;
-    let short = at_last(|| Ok(Value::String(String::from_str(alloc, "abcdefg")?)))?;
-    let long = at_last(|| Ok(Value::String(String::from_str(alloc, "sentence")?)))?;
-    assert!(rt; Atom::from_json_in(&rt, &set, &short)?.precomputed_hash() == 0x0404_0415);
-    assert!(rt; Atom::from_json_in(&rt, &set, &long)?.is_static());
-    assert!(rt; Atom::from_json_in(&rt, &set, &Value::Null).err() == Some(Fault::NotText));
     Ok(())
 }

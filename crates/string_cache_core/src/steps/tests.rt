@@ -1,4 +1,6 @@
 // The steps on small scripts. Expected replies are those of the table of steps, worked out by hand.
+mod merges;
+
 use super::{Step, StepReply, World};
 use crate::faults::Fault;
 use crate::static_sets::{EmptyStaticAtomSet, TextForm, form_of_text};
@@ -47,29 +49,7 @@ fn ticket_of(text: &str, serial: u64) -> u64 {
     }
 }
 
-// A new world, asked for once more where memory was refused.
-fn new_world(alloc: Global, limits: Limits) -> Result<World<EmptyStaticAtomSet>, Fault> {
-    match World::new(alloc, limits) {
-        Err(Fault::Memory) => World::new(alloc, limits),
-        made => made,
-    }
-}
-
-// One step, made once more where memory was refused: then the world is as it was.
-fn make_step(
-    world: &mut World<EmptyStaticAtomSet>,
-    alloc: Global,
-    party: u32,
-    step: Do,
-) -> Result<StepReply, Fail> {
-    match world.step(party, step_of(alloc, step)?) {
-        Err(Fault::Memory) => Ok(world.step(party, step_of(alloc, step)?)?),
-        made => Ok(made?),
-    }
-}
-
-// By `step` and by `run`: each row's step of its party has that reply, and then the entries are held so often. A run that
-// was refused memory goes on from the replies appended.
+// By `step` and by `run`: each row's step of its party has that reply, and then the entries are held so often.
 fn check(
     rt: &impl Abort,
     alloc: Global,
@@ -77,21 +57,17 @@ fn check(
     rows: &[(u32, Do, StepReply)],
     held: &[u64],
 ) -> Result<(), Fail> {
-    let mut stepped = new_world(alloc, limits)?;
+    let mut stepped = World::<EmptyStaticAtomSet>::new(alloc, limits)?;
     let mut script = Vec::new(alloc);
     let mut want = Vec::new(alloc);
     for (party, step, reply) in rows {
-        assert_eq!(rt; make_step(&mut stepped, alloc, *party, *step)?, *reply);
+        assert_eq!(rt; stepped.step(*party, step_of(alloc, *step)?)?, *reply);
         script.push((*party, step_of(alloc, *step)?))?;
         want.push(*reply)?;
     }
-    let mut ran = new_world(alloc, limits)?;
+    let mut ran = World::<EmptyStaticAtomSet>::new(alloc, limits)?;
     let mut given = Vec::new(alloc);
-    if ran.run(script.as_slice(), &mut given).is_err() {
-        if let Some(rest) = script.get(given.len()..) {
-            ran.run(rest, &mut given)?;
-        }
-    }
+    ran.run(script.as_slice(), &mut given)?;
     assert!(rt; given == want);
     for (k, count) in held.iter().enumerate() {
         let entry = k as u64 + 1;
@@ -268,7 +244,7 @@ fn twenty_thousand_steps_in_one_run(rt: HostRuntime) -> Result<(), Fail> {
         script.push((2, Step::Clone(1)))?;
         script.push((1, Step::Give(1)))?;
     }
-    let mut world = new_world(alloc, Limits::greatest())?;
+    let mut world = World::<EmptyStaticAtomSet>::new(alloc, Limits::greatest())?;
     let mut given = Vec::new(alloc);
     world.run(script.as_slice(), &mut given)?;
     let is_clone = |reply: &&StepReply| **reply == Cloned { holders: 2 };

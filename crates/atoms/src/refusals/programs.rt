@@ -1,0 +1,166 @@
+// The program's calls over readers, writers and texts. Until one is refused, what it wrote is a beginning of its output.
+ghost use Rattle.std.specs.Prelude.{◌≤◌};
+
+use super::{End, at_last, begin, finish};
+use crate::count::tests::{EXAMPLE_COUNTS, are};
+use crate::count::{Open, count};
+use crate::faults::AppFault;
+use crate::memory::{Bytes, Page, Streams};
+use crate::program::tests::{COUNT_LINE, NO_MEMORY, answer_of, arguments_of, words_of_line};
+use crate::replay::replay;
+use crate::replay::tests::WORKED;
+use crate::tests::{EXAMPLE, EXAMPLE_LINES};
+use crate::words::{words, words_alone};
+use std::alloc::Global;
+use std::io::Print;
+use std::process::Abort;
+use std::str;
+use std::sync::Wait;
+use std::test::Fail;
+use std::thread::Threads;
+use string_cache::EmptyStaticAtomSet;
+use string_cache::dynamic_set::Set;
+
+#[test]
+fn words_in_a_set(rt: HostRuntime) -> Result<(), Fail> {
+    let set = Set::<EmptyStaticAtomSet>::new(rt.alloc())?;
+    let mut page = Page::wide();
+    begin(&rt);
+    let answer = words(&rt, &set, &mut Bytes::whole(EXAMPLE), &mut page);
+    let ended = End::of(&answer);
+    finish(&rt, ended);
+    assert!(rt; set.linked(&rt) == 0);
+    if matches!(ended, End::Refused) {
+        assert!(rt; EXAMPLE_LINES.starts_with(page.written()));
+        page = Page::wide();
+        words(&rt, &set, &mut Bytes::whole(EXAMPLE), &mut page)?;
+    } else {
+        answer?;
+    }
+    assert!(rt; page.written() == EXAMPLE_LINES);
+    Ok(())
+}
+
+#[test]
+fn words_in_a_table(rt: HostRuntime) -> Result<(), Fail> {
+    let mut page = Page::wide();
+    begin(&rt);
+    let answer = words_alone(rt.alloc(), &mut Bytes::whole(EXAMPLE), &mut page);
+    let ended = End::of(&answer);
+    finish(&rt, ended);
+    if matches!(ended, End::Refused) {
+        assert!(rt; EXAMPLE_LINES.starts_with(page.written()));
+        page = Page::wide();
+        words_alone(rt.alloc(), &mut Bytes::whole(EXAMPLE), &mut page)?;
+    } else {
+        answer?;
+    }
+    assert!(rt; page.written() == EXAMPLE_LINES);
+    Ok(())
+}
+
+/// What a worked script prints.
+fn worked_script_is_replayed<R: Print + Abort>(
+    rt: &R,
+    alloc: Global,
+    (script, output): (&[u8], &[u8]),
+) -> Result<(), Fail> {
+    let mut page = Page::wide();
+    begin(rt);
+    let answer = replay(alloc, &mut Bytes::whole(script), &mut page);
+    let ended = End::of(&answer);
+    finish(rt, ended);
+    if matches!(ended, End::Refused) {
+        assert!(rt; page.written().is_empty());
+        page = Page::wide();
+        replay(alloc, &mut Bytes::whole(script), &mut page)?;
+    } else {
+        answer?;
+    }
+    assert!(rt; page.written() == output);
+    Ok(())
+}
+
+#[test]
+fn script_with_a_dying_entry_is_replayed(rt: HostRuntime) -> Result<(), Fail> {
+    worked_script_is_replayed(&rt, rt.alloc(), WORKED[0])
+}
+
+#[test]
+fn script_with_limits_is_replayed(rt: HostRuntime) -> Result<(), Fail> {
+    worked_script_is_replayed(&rt, rt.alloc(), WORKED[1])
+}
+
+#[test]
+fn script_without_room_is_replayed(rt: HostRuntime) -> Result<(), Fail> {
+    worked_script_is_replayed(&rt, rt.alloc(), WORKED[2])
+}
+
+/// The counts of the example by so many workers. After a refusal nothing stays linked.
+fn example_is_counted<R: Threads + Wait + Sync + Print + Abort>(
+    rt: &R,
+    alloc: Global,
+    n: u32,
+) -> Result<(), Fail>
+    requires low { 1 ≤ n }
+    requires high { n ≤ 64 }
+{
+    let set = Set::<EmptyStaticAtomSet>::new(alloc)?;
+    let text = str::from_utf8(EXAMPLE).expect(rt, "a text");
+    begin(rt);
+    let answer = count(rt, &set, text, n, &Open);
+    let ended = End::of(&answer);
+    finish(rt, ended);
+    let is_right = match &answer {
+        Ok(counts) => are(counts, &EXAMPLE_COUNTS),
+        Err(_) => matches!(ended, End::Refused),
+    };
+    drop(answer);
+    assert!(rt; is_right && set.linked(rt) == 0);
+    let again = count(rt, &set, text, n, &Open)?;
+    assert!(rt; are(&again, &EXAMPLE_COUNTS));
+    drop(again);
+    assert!(rt; set.linked(rt) == 0);
+    Ok(())
+}
+
+#[test]
+fn counts_by_one(rt: HostRuntime) -> Result<(), Fail> {
+    example_is_counted(&rt, rt.alloc(), 1)
+}
+
+#[test]
+fn counts_by_two(rt: HostRuntime) -> Result<(), Fail> {
+    example_is_counted(&rt, rt.alloc(), 2)
+}
+
+#[test]
+fn counts_by_sixty_four(rt: HostRuntime) -> Result<(), Fail> {
+    example_is_counted(&rt, rt.alloc(), 64)
+}
+
+/// The whole program, whose fault is a line.
+#[test]
+fn program_runs(rt: HostRuntime) -> Result<(), Fail> {
+    let args = words_of_line(rt.alloc(), "words")?;
+    begin(&rt);
+    let answer = answer_of(&rt, rt.alloc(), &args, &Streams::ample(EXAMPLE));
+    let is_refused = answer.status == 1;
+    finish(&rt, if is_refused { End::Refused } else { End::Given });
+    if is_refused {
+        assert!(rt; answer.faults.written() == NO_MEMORY);
+        assert!(rt; EXAMPLE_LINES.starts_with(answer.output.written()));
+    } else {
+        assert!(rt; answer.output.written() == EXAMPLE_LINES);
+    }
+    Ok(())
+}
+
+#[test]
+fn arguments_are_read(rt: HostRuntime) -> Result<(), Fail> {
+    let alloc = rt.alloc();
+    let wanted = words_of_line(alloc, "count 3")?;
+    let args = at_last(&rt, || arguments_of(alloc, COUNT_LINE))?;
+    assert!(rt; args.expect(&rt, "texts").as_slice() == wanted.as_slice());
+    Ok(())
+}

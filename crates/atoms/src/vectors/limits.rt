@@ -1,0 +1,50 @@
+// Sets with small limits, and no other thread.
+use std::test::Fail;
+use string_cache::dynamic_set::Set;
+use string_cache::word::Limits;
+use string_cache::{DefaultAtom, EmptyStaticAtomSet, Fault};
+
+/// The first ticket of "interned", and how far apart two tickets are that a bucket gives one after the other.
+const FIRST: u64 = 0x4840;
+
+const TICKET_UNIT: u64 = 16384;
+
+#[test]
+fn one_holder_and_one_serial(rt: HostRuntime) -> Result<(), Fail> {
+    let limits = Limits::new(1, 1).expect(&rt, "limits");
+    let set: Set<EmptyStaticAtomSet> = Set::with_limits(rt.alloc(), limits)?;
+    let atom = DefaultAtom::from_str_in(&rt, &set, "interned")?;
+    assert!(rt; atom.unsafe_data() == FIRST);
+    let json = atom.to_json(rt.alloc())?;
+    for again in [
+        DefaultAtom::from_str_in(&rt, &set, "interned").err(),
+        DefaultAtom::from_json_in(&rt, &set, &json).err(),
+        atom.to_ascii_lowercase_in(&rt, &set).err(),
+    ] {
+        assert_eq!(rt; again, Some(Fault::FullCount));
+    }
+    drop(atom);
+    let next = DefaultAtom::from_str_in(&rt, &set, "interned").err();
+    assert_eq!(rt; next, Some(Fault::TicketsSpent));
+    assert!(rt; DefaultAtom::from_str_in(&rt, &set, "abc")?.unsafe_data() == 0x6362_6131);
+    Ok(())
+}
+
+#[test]
+fn two_holders_and_two_serials(rt: HostRuntime) -> Result<(), Fail> {
+    let limits = Limits::new(2, 2).expect(&rt, "limits");
+    let set: Set<EmptyStaticAtomSet> = Set::with_limits(rt.alloc(), limits)?;
+    let first = DefaultAtom::from_str_in(&rt, &set, "interned")?;
+    let second = DefaultAtom::from_str_in(&rt, &set, "interned")?;
+    assert!(rt; first.unsafe_data() == FIRST && second.unsafe_data() == FIRST);
+    let third = DefaultAtom::from_str_in(&rt, &set, "interned").err();
+    assert_eq!(rt; third, Some(Fault::FullCount));
+    drop(first);
+    drop(second);
+    let next = DefaultAtom::from_str_in(&rt, &set, "interned")?;
+    assert!(rt; next.unsafe_data() == FIRST + TICKET_UNIT);
+    drop(next);
+    let spent = DefaultAtom::from_str_in(&rt, &set, "interned").err();
+    assert_eq!(rt; spent, Some(Fault::TicketsSpent));
+    Ok(())
+}

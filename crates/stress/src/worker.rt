@@ -1,0 +1,149 @@
+//! A worker: its atoms, and what it does with them.
+#![tactic(auto)]
+
+ghost use Rattle.std.specs.Prelude.{◌<◌, length};
+
+use crate::texts::{Case, TEXTS, Text};
+use rand::RngExt;
+use rand::seq::IndexedRandom;
+use rand_core::SeedableRng;
+use rand_xoshiro::Xoshiro256PlusPlus;
+use std::sync::Wait;
+use string_cache::dynamic_set::Set;
+use string_cache::{DefaultAtom, EmptyStaticAtomSet, Fault};
+
+/// The most atoms that a worker keeps.
+const MOST: usize = 8;
+
+/// An atom, and the text that it has to have.
+#[derive(Drop)]
+struct Kept<'s> {
+    atom: DefaultAtom<'s>,
+    text: Text,
+    case: Case,
+}
+
+#[derive(Drop)]
+pub struct Worker<'s, R: Wait> {
+    rt: &'s R,
+    set: &'s Set<EmptyStaticAtomSet>,
+    rng: Xoshiro256PlusPlus,
+    kept: Vec<Kept<'s>>,
+    /// How many atoms had another text.
+    wrong: u64,
+}
+
+impl<'s, R: Wait> Worker<'s, R> {
+    /// A worker without atoms. It does the same for the same seed.
+    pub fn new(rt: &'s R, set: &'s Set<EmptyStaticAtomSet>, seed: u64) -> Self {
+        Worker {
+            rt,
+            set,
+            rng: Xoshiro256PlusPlus::seed_from_u64(seed),
+            kept: Vec::new(set.allocator()),
+            wrong: 0,
+        }
+    }
+
+    /// Does so many things, and lets all atoms go. How many atoms had another text than theirs.
+    pub fn work(mut self, rounds: u64) -> Result<u64, Fault> {
+        for _ in 0..rounds {
+            self.act()?;
+        }
+        Ok(self.wrong)
+    }
+
+    /// Does one thing. More atoms are let go than made, so that entries come and go all the time.
+    fn act(&mut self) -> Result<(), Fault> {
+        match self.rng.random_range(0..1000u32) {
+            0..200 => self.intern(),
+            200..300 => self.copy(),
+            300..400 => self.change_case(),
+            400..999 => {
+                self.let_go();
+                Ok(())
+            }
+            _ => {
+                self.set.sweep(self.rt);
+                Ok(())
+            }
+        }
+    }
+
+    fn any_case(&mut self) -> Case {
+        if self.rng.random_range(0..2u32) == 0 {
+            Case::Lower
+        } else {
+            Case::Upper
+        }
+    }
+
+    /// The place of one of its atoms.
+    fn any_kept(&mut self) -> Option<usize> {
+        let count = self.kept.len();
+        if count == 0 {
+            return None;
+        }
+        Some(self.rng.random_range(0..count))
+    }
+
+    /// Keeps an atom while there is room, and sees whether it has its text.
+    fn keep(&mut self, atom: DefaultAtom<'s>, text: Text, case: Case) -> Result<(), Fault> {
+        if !atom.eq_str(text.in_case(case)) {
+            self.wrong = self.wrong.saturating_add(1);
+        }
+        if self.kept.len() < MOST {
+            self.kept.push(Kept { atom, text, case })?;
+        }
+        Ok(())
+    }
+
+    fn intern(&mut self) -> Result<(), Fault> {
+        let case = self.any_case();
+        let Some(text) = TEXTS.as_slice().choose(&mut self.rng) else {
+            return Ok(());
+        };
+        let atom = DefaultAtom::from_str_in(self.rt, self.set, text.in_case(case))?;
+        self.keep(atom, *text, case)
+    }
+
+    fn copy(&mut self) -> Result<(), Fault> {
+        let Some(at) = self.any_kept() else {
+            return Ok(());
+        };
+        let Some(Kept { atom, text, case }) = self.kept.get(at) else {
+            return Ok(());
+        };
+        let (atom, text, case) = (atom.clone_atom(self.rt)?, *text, *case);
+        self.keep(atom, text, case)
+    }
+
+    fn change_case(&mut self) -> Result<(), Fault> {
+        let case = self.any_case();
+        let Some(at) = self.any_kept() else {
+            return Ok(());
+        };
+        let Some(Kept { atom, text, .. }) = self.kept.get(at) else {
+            return Ok(());
+        };
+        let text = *text;
+        let atom = match case {
+            Case::Lower => atom.to_ascii_lowercase_in(self.rt, self.set)?,
+            Case::Upper => atom.to_ascii_uppercase_in(self.rt, self.set)?,
+        };
+        self.keep(atom, text, case)
+    }
+
+    /// Lets one of its atoms go, which has kept its text till then.
+    fn let_go(&mut self) {
+        let Some(at) = self.any_kept() else {
+            return;
+        };
+        if at < self.kept.len() {
+            let Kept { atom, text, case } = self.kept.swap_remove(at);
+            if !atom.eq_str(text.in_case(case)) {
+                self.wrong = self.wrong.saturating_add(1);
+            }
+        }
+    }
+}

@@ -1,0 +1,167 @@
+/*
+ * Preloaded by tools/refused.py over a built test: counts the requests for memory between the two lines "== .." that the test writes
+ * on its standard output, and refuses those from number REFUSE_FIRST to REFUSE_LAST. At the end it writes four numbers to the file
+ * descriptor REFUSE_REPORT: the requests, how many were refused, how many blocks more the program had after the call than before
+ * it, and how many it still had when it ended. Blocks that the C library asks for itself, as for a thread, count as requests alone.
+ *
+ * It includes nothing, so that the kit's compiler is enough. For x86-64 Linux with glibc.
+ */
+typedef unsigned long size_t;
+typedef long ssize_t;
+
+#define NULL ((void *)0)
+#define ENOMEM 12
+#define STANDARD_OUTPUT 1
+#define SYS_WRITE 1
+#define SYS_EXIT_GROUP 231
+#define AT_PHDR 3
+#define AT_PHNUM 5
+#define PT_LOAD 1
+#define PT_PHDR 6
+
+/* A program header of an ELF file of 64 bits. */
+struct part {
+    unsigned int type, flags;
+    unsigned long offset, address, physical, size_in_file, size, align;
+};
+
+extern void *__libc_malloc(size_t);
+extern void *__libc_calloc(size_t, size_t);
+extern void *__libc_realloc(void *, size_t);
+extern void *__libc_memalign(size_t, size_t);
+extern void __libc_free(void *);
+extern int *__errno_location(void);
+extern unsigned long getauxval(unsigned long);
+extern char *getenv(const char *);
+extern long atol(const char *);
+extern int dprintf(int, const char *, ...);
+extern int memcmp(const void *, const void *, size_t);
+extern size_t strlen(const char *);
+extern long syscall(long, ...);
+
+static _Atomic int calling;
+static _Atomic long requests, refused, blocks;
+static long blocks_before, blocks_after;
+static long refuse_first, refuse_last;
+static unsigned long program_start, program_end;
+
+static long number(const char *name) {
+    const char *text = getenv(name);
+    return text ? atol(text) : 0;
+}
+
+/* Where the program itself lies. */
+static void find_program(void) {
+    const struct part *parts = (const struct part *)getauxval(AT_PHDR);
+    unsigned long count = getauxval(AT_PHNUM), moved = 0;
+    for (unsigned long at = 0; at < count; at++)
+        if (parts[at].type == PT_PHDR)
+            moved = (unsigned long)parts - parts[at].address;
+    program_start = -1ul;
+    for (unsigned long at = 0; at < count; at++) {
+        unsigned long start = moved + parts[at].address;
+        if (parts[at].type != PT_LOAD)
+            continue;
+        if (start < program_start)
+            program_start = start;
+        if (start + parts[at].size > program_end)
+            program_end = start + parts[at].size;
+    }
+}
+
+__attribute__((constructor)) static void begin(void) {
+    find_program();
+    refuse_first = number("REFUSE_FIRST");
+    refuse_last = number("REFUSE_LAST");
+}
+
+/* How a built program ends. */
+__attribute__((noreturn)) void _exit(int status) {
+    dprintf((int)number("REFUSE_REPORT"), "%ld %ld %ld %ld\n", (long)requests, (long)refused, blocks_after - blocks_before,
+            (long)blocks);
+    for (;;)
+        syscall(SYS_EXIT_GROUP, status);
+}
+
+static int refuses(void) {
+    if (!calling)
+        return 0;
+    long at = ++requests;
+    if (at < refuse_first || at > refuse_last)
+        return 0;
+    refused++;
+    *__errno_location() = ENOMEM;
+    return 1;
+}
+
+/* Notes a block that the code at this address got (1) or gave back (-1). */
+static void note(void *caller, long change) {
+    unsigned long at = (unsigned long)caller;
+    if (at >= program_start && at < program_end)
+        blocks += change;
+}
+
+static void *noted(void *caller, void *block) {
+    if (block)
+        note(caller, 1);
+    return block;
+}
+
+void *malloc(size_t size) {
+    return refuses() ? NULL : noted(__builtin_return_address(0), __libc_malloc(size));
+}
+
+void *calloc(size_t count, size_t size) {
+    return refuses() ? NULL : noted(__builtin_return_address(0), __libc_calloc(count, size));
+}
+
+void *realloc(void *old, size_t size) {
+    if (refuses())
+        return NULL;
+    void *block = __libc_realloc(old, size);
+    return old ? block : noted(__builtin_return_address(0), block);
+}
+
+void *aligned_alloc(size_t align, size_t size) {
+    return refuses() ? NULL : noted(__builtin_return_address(0), __libc_memalign(align, size));
+}
+
+void *memalign(size_t align, size_t size) {
+    return refuses() ? NULL : noted(__builtin_return_address(0), __libc_memalign(align, size));
+}
+
+int posix_memalign(void **block, size_t align, size_t size) {
+    void *got = refuses() ? NULL : noted(__builtin_return_address(0), __libc_memalign(align, size));
+    if (!got)
+        return ENOMEM;
+    *block = got;
+    return 0;
+}
+
+void free(void *block) {
+    if (block)
+        note(__builtin_return_address(0), -1);
+    __libc_free(block);
+}
+
+static int begins(const char *text, size_t length, const char *word) {
+    return length >= strlen(word) && memcmp(text, word, strlen(word)) == 0;
+}
+
+/* The two names under which a built program writes. */
+ssize_t __write(int file, const void *bytes, size_t length) {
+    if (file == STANDARD_OUTPUT && calling && begins(bytes, length, "== ")) {
+        blocks_after = blocks;
+        calling = 0;
+    }
+    ssize_t taken = syscall(SYS_WRITE, file, bytes, length);
+    if (file == STANDARD_OUTPUT && !calling && begins(bytes, length, "== call")) {
+        blocks_before = blocks;
+        calling = 1;
+    }
+    return taken;
+}
+
+ssize_t write(int file, const void *bytes, size_t length) {
+    return __write(file, bytes, length);
+}

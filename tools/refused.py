@@ -1,0 +1,146 @@
+#!/usr/bin/env python3
+"""Refuses each request for memory of the calls that the tests in crates/atoms/src/refusals watch, one after another.
+
+Each such test makes one call between two lines of its output. It is run once for each request for memory of that call, with that one
+refused, until a run meets none left (tools/refuse.c, preloaded, counts and refuses): the call has to say that memory was refused, has
+to keep none where it says no more, and the test then sees that the call made again gives what it gives the first time. A test of
+`unasked` is run once with every request refused, and may meet none. However a test ends, the program has given back all that it got.
+
+The tests are those that `rt ci`, or `rt test` in crates/atoms, proved and built last.
+
+usage: tools/refused.py [--jobs N] [WORD..]     with words: only the tests whose names contain one of them
+"""
+
+import argparse
+import os
+import subprocess
+import sys
+import tempfile
+from concurrent.futures import ThreadPoolExecutor
+from dataclasses import dataclass
+from pathlib import Path
+
+TOP = Path(__file__).resolve().parent.parent
+TESTS = TOP / "crates" / "atoms" / "out" / "atoms_tests"
+SECONDS = 60  # for one run
+MOST = 100_000  # requests of one call
+EVERY = sys.maxsize
+# How many requests a call may do without, by the beginning of its test's name: each of two lists that are collected asks ahead for
+# the room that it may need, and goes on without it.
+SPARED = {"refusals::programs::counts_by_": 2}
+
+
+def compiler():
+    """The words that compile and link a library with the kit's own compiler."""
+    doc = subprocess.run(["rt", "doc"], stdout=subprocess.PIPE, check=True).stdout.decode().strip()
+    kit = Path(doc).parent / "toolchain"
+    linked = ["-shared", "-nostdlib", f"--ld-path={kit}/bin/ld.lld", f"{kit}/lib/libc.so.6"]
+    return [f"{kit}/bin/clang", "-O1", "-fPIC", "-fno-builtin", "-Wall", *linked]
+
+
+@dataclass
+class Run:
+    """What became of a test, with some requests refused."""
+
+    status: int
+    ended: str  # the line behind the call
+    requests: int
+    refused: int
+    kept: int  # blocks that the program had more after the call than before it
+    left: int  # blocks that it still had when it ended
+    said: str
+
+    def wrong(self):
+        """What is wrong with it, or None."""
+        if self.status != 0 or "test result: ok" not in self.said:
+            return f"the test fails: {self.said.strip()[-400:]}"
+        wanted = ("refused", "refused midway", "given") if self.refused else ("given",)
+        if self.ended not in wanted:
+            return f"the call ended as '{self.ended}'"
+        if self.ended == "refused" and self.kept > 0:
+            return f"{self.kept} blocks are kept after the refusal"
+        if self.left != 0:
+            return f"{self.left} blocks are left when the program has ended"
+        return None
+
+
+def run(library, test, first, last):
+    """One run of a test, with the requests from the first to the last of these numbers refused."""
+    report, told = os.pipe()
+    limits = {"REFUSE_FIRST": str(first), "REFUSE_LAST": str(last), "REFUSE_REPORT": str(told)}
+    how = {"stdin": subprocess.DEVNULL, "stdout": subprocess.PIPE, "stderr": subprocess.STDOUT, "pass_fds": [told]}
+    try:
+        ran = subprocess.run([TESTS, test], env={"LD_PRELOAD": library, **limits}, timeout=SECONDS, **how)
+        status, said = ran.returncode, ran.stdout.decode(errors="replace")
+    except subprocess.TimeoutExpired:
+        status, said = -1, f"it hasn't ended after {SECONDS} seconds"
+    os.close(told)
+    with os.fdopen(report) as it:
+        numbers = [int(word) for word in it.read().split()] or [0, 0, 0, 0]
+    lines = [line[3:] for line in said.splitlines() if line.startswith("== ")]
+    ended = lines[1] if len(lines) == 2 and lines[0] == "call" else f"no call, but {lines}"
+    return Run(status, ended, *numbers, said)
+
+
+def one_after_another(library, test):
+    """Refuses each request in turn. Whether all is well, and what to say."""
+    spare = sum(count for name, count in SPARED.items() if test.startswith(name))
+    for at in range(1, MOST):
+        ran = run(library, test, at, at)
+        wrong = ran.wrong()
+        if ran.refused and ran.ended == "given":
+            spare -= 1
+            if spare < 0:
+                wrong = "the call doesn't say that memory was refused"
+        if wrong:
+            return False, f"with request {at} refused: {wrong}"
+        if not ran.refused:
+            return True, f"{ran.requests} requests, each refused in turn"
+    return False, f"there is no end of requests after {MOST}"
+
+
+def all_at_once(library, test):
+    """Refuses every request. Whether there was none and all is well, and what to say."""
+    ran = run(library, test, 1, EVERY)
+    wrong = ran.wrong()
+    if ran.requests:
+        wrong = f"{ran.requests} requests, where none was to come"
+    return not wrong, wrong or "no request"
+
+
+def judge(library, test):
+    try:
+        well, text = (all_at_once if "::unasked::" in test else one_after_another)(library, test)
+    except (OSError, ValueError, TypeError) as why:
+        well, text = False, f"it can't be run: {why}"
+    print(f"refused {test.removeprefix('refusals::')}: {'' if well else 'WRONG: '}{text}", flush=True)
+    return well
+
+
+def main():
+    parser = argparse.ArgumentParser(description=__doc__, formatter_class=argparse.RawDescriptionHelpFormatter)
+    parser.add_argument("--jobs", type=int, default=os.cpu_count() or 1)
+    parser.add_argument("words", nargs="*")
+    given = parser.parse_args()
+    results = []
+    try:
+        listed = subprocess.run([TESTS, "--list"], stdout=subprocess.PIPE, check=True).stdout.decode().splitlines()
+        tests = [name for name, _, _ in (line.partition(": ") for line in listed) if name.startswith("refusals::")]
+        if given.words:
+            tests = [test for test in tests if any(word in test for word in given.words)]
+        with tempfile.TemporaryDirectory(prefix="refused-") as room:
+            library = f"{room}/refuse.so"
+            subprocess.run([*compiler(), "-o", library, TOP / "tools" / "refuse.c"], check=True)
+            with ThreadPoolExecutor(max(1, given.jobs)) as workers:
+                results = list(workers.map(lambda test: judge(library, test), tests))
+    except (OSError, subprocess.CalledProcessError) as why:
+        print(f"refused: {why}; the tests are built by rt ci, or by rt test in crates/atoms")
+    if not results:
+        print("refused: no test was run")
+        results = [False]
+    print(f"{results.count(True)} passed, {results.count(False)} failed")
+    return 0 if all(results) else 1
+
+
+if __name__ == "__main__":
+    sys.exit(main())
