@@ -1,5 +1,5 @@
 -- The bytes that were read are the text that a promise speaks of.
-use Rattle.std.proofs.Common.{◌≡◌, ℕ, List, Option, None, Some, sym, subst, ap, ◌∙◌, inr, codes, decimal, ◌<◌, ◌^◌, [], ◌∷◌, String, string_bytes, length, get_or, arith}
+use Rattle.std.proofs.Common.{◌≡◌, ℕ, List, Option, None, Some, sym, subst, ap, ◌∙◌, inr, codes, [], ◌∷◌, String, string_bytes, length, get_or, arith}
 use Rattle.std.specs.Prelude.{IfSome}
 use Rattle.std.specs.Io.KnownBytes.{Appends, Consumes, IsAtEnd}
 use Rattle.std.proofs.lemmas.Fmt.{decimal_injective}

@@ -1,6 +1,5 @@
-use Rattle.std.proofs.Common.{arith, subst, sym, ◌∙◌}
+use Rattle.std.proofs.Common.{arith, sym, ◌∙◌}
 use Rattle.atoms.proofs.TableCommandLemmas.{three_words}
-use Rattle.atoms.specs.Commands.{IsRequest}
 use Rattle.atoms.proofs.program.command_of.Goals as goal
 
 pub returns-in-len3-clause-other : goal.returns-in-len3-clause-other

@@ -1,4 +1,4 @@
-use Rattle.std.proofs.Common.{rules, ◌<◌, ◌^◌}
+use Rattle.std.proofs.Common.{rules}
 use Rattle.atoms.specs.Commands.{IsRequest}
 use Rattle.atoms.proofs.TableCommandLemmas.{one_request}
 use Rattle.atoms.proofs.program.request_of.Goals as goal
