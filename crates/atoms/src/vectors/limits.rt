@@ -48,3 +48,32 @@ fn two_holders_and_two_serials(rt: HostRuntime) -> Result<(), Fail> {
     assert_eq!(rt; spent, Some(Fault::TicketsSpent));
     Ok(())
 }
+
+/// Holders come and go below their limit, and have one word as long as one of them is left.
+#[test]
+fn holders_come_and_go(rt: HostRuntime) -> Result<(), Fail> {
+    let limits = Limits::new(2, 9).expect(&rt, "limits");
+    let set: Set<EmptyStaticAtomSet> = Set::with_limits(rt.alloc(), limits)?;
+    let first = DefaultAtom::from_str_in(&rt, &set, "interned")?;
+    let second = DefaultAtom::from_str_in(&rt, &set, "interned")?;
+    assert!(rt; first.unsafe_data() == FIRST && second.unsafe_data() == FIRST);
+    assert!(rt; set.linked(&rt) == 1);
+    for third in [
+        DefaultAtom::from_str_in(&rt, &set, "interned").err(),
+        first.clone_atom(&rt).err(),
+    ] {
+        assert_eq!(rt; third, Some(Fault::FullCount));
+    }
+    drop(second);
+    let cloned = first.clone_atom(&rt)?;
+    assert!(rt; cloned.unsafe_data() == FIRST);
+    drop(cloned);
+    let copied = DefaultAtom::from_atom(&rt, &first)?;
+    assert!(rt; copied.unsafe_data() == FIRST);
+    drop(first);
+    drop(copied);
+    assert!(rt; set.linked(&rt) == 0);
+    let next = DefaultAtom::from_str_in(&rt, &set, "interned")?;
+    assert!(rt; next.unsafe_data() == FIRST + TICKET_UNIT);
+    Ok(())
+}
