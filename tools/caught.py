@@ -1,9 +1,9 @@
 #!/usr/bin/env python3
 """Tries the wrong bodies that no contract sees: each has to fail its test, or not to compile.
 
-A file crates/NAME/caught/*.edit has a first line 'test: FUNCTION', which names the test, and then, as a must-fail edit, lines
-'file: src/..', 'old: TEXT' and 'new: TEXT'. Each edit is applied to a copy of the repository, whose tests run without proofs
-(rt try --test). Before that, each named test has to pass over the crate as it is.
+A file crates/NAME/caught/*.edit has a first line 'test: FUNCTION', which names the test by the end of its path, and then, as
+a must-fail edit, lines 'file: src/..', 'old: TEXT' and 'new: TEXT'. Each edit is applied to a copy of the repository, whose
+tests run without proofs (rt try --test) up to the named one. Before that, each named test has to pass over the crate as it is.
 
 Where a type alone forbids the body, the first line is 'error: TEXT': the compiler's error, which has to come.
 
@@ -85,12 +85,25 @@ def edited(edit, root):
     return texts
 
 
-def outcomes(crate):
-    """Runs the crate's tests without proofs: what became of each, by its name, and all that was said."""
+def ended(found, test):
+    """The outcomes, among those found, of the tests that the name means: a function's, or the end of a path to it."""
+    return [outcome for path, outcome in found.items() if f"::{path}".endswith(f"::{test}")]
+
+
+def outcomes(crate, test=None):
+    """Runs the crate's tests without proofs, up to the named one: what became of each, by its path, and all that was said."""
     command = ["rt", "try", "--test", "--seconds", SECONDS]
-    ran = subprocess.run(command, cwd=crate, stdin=subprocess.DEVNULL, stdout=subprocess.PIPE, stderr=subprocess.STDOUT)
-    said = ran.stdout.decode(errors="replace")
-    return {path.rsplit("::", 1)[-1]: outcome for path, outcome in TEST.findall(said)}, said
+    ran = subprocess.Popen(command, cwd=crate, stdin=subprocess.DEVNULL, stdout=subprocess.PIPE, stderr=subprocess.STDOUT)
+    found, said = {}, []
+    for line in ran.stdout:
+        said.append(line.decode(errors="replace"))
+        found.update(TEST.findall(said[-1]))
+        if test and ended(found, test):
+            ran.terminate()
+            break
+    ran.stdout.close()
+    ran.wait()
+    return found, "".join(said)
 
 
 def judge(edit, root):
@@ -103,7 +116,7 @@ def judge(edit, root):
     try:
         for file, text in texts.items():
             file.write_text(text, encoding="utf-8")
-        found, said = outcomes(root / "crates" / edit.crate.name)
+        found, said = outcomes(root / "crates" / edit.crate.name, edit.test)
     finally:
         for file, text in kept.items():
             file.write_bytes(text)
@@ -111,20 +124,20 @@ def judge(edit, root):
         if not found and edit.error in said:
             return True, f"doesn't compile, as it must not: {edit.error}"
         return False, f"COMPILED, or failed otherwise; it said: {said.strip()[:600]}"
-    outcome = found.get(edit.test)
-    if outcome == "FAILED":
+    outcome = ended(found, edit.test)
+    if outcome == ["FAILED"]:
         return True, f"{edit.test} fails, as it must"
-    if outcome is None:
+    if not outcome:
         return False, "BAD EDIT: no such test ran; it said: " + said.strip()[:600]
-    return False, f"NOT CAUGHT: {edit.test} ends with {outcome}"
+    return False, f"NOT CAUGHT: {edit.test} ends with {outcome[0]}"
 
 
 def judge_crate(crate, tests, root):
     """Whether all the named tests pass over the crate as it is, and what to say."""
     found, said = outcomes(root / "crates" / crate)
-    bad = sorted(test for test in tests if found.get(test) != "ok")
+    bad = sorted(test for test in tests if ended(found, test) != ["ok"])
     if bad:
-        return False, f"these tests don't pass over the crate as it is: {', '.join(bad)}; it said: {said.strip()[:600]}"
+        return False, f"these names aren't of one test that passes over the crate as it is: {', '.join(bad)}; it said: {said.strip()[:600]}"
     return True, f"{len(tests)} tests that catch wrong bodies pass over the crate as it is"
 
 
