@@ -125,9 +125,9 @@ module _ (pairs bound : ℕ) (hashes : List Hashes) (disps : List (ℕ × ℕ)) 
     }
 
   -- where no pair fits and there is only one, no displacements place the texts
-  pub none_places : pairs ≡ 1 → ((d1 d2 : ℕ) → d1 < bound → d2 < bound → Fits taken members (d1, d2) → ⊥)
-      → (d1 d2 : ℕ) → d1 < bound → d2 < bound → AreApart ((d1, d2) ∷ []) (length hashes) hashes → ⊥
-  none_places one none d1 d2 p q apart =
+  pub none_places : (first second : ℕ) → pairs ≡ 1 → ((d1 d2 : ℕ) → d1 < first → d2 < second → Fits taken members (d1, d2) → ⊥)
+      → (d1 d2 : ℕ) → d1 < first → d2 < second → AreApart ((d1, d2) ∷ []) (length hashes) hashes → ⊥
+  none_places most_first most_second one none d1 d2 p q apart =
       let d = get_or hashes 0 (record { g = 0; f1 = 0; f2 = 0 }) in
       let zero_pair : (h : Hashes) → h.g % 1 ≡ 0 = λ h. omega arith in
       let one_pair : (h k : Hashes) → pair_of pairs h ≡ pair_of pairs k = λ h k. ap (λ n. h.g % n) one ∙ zero_pair h ∙ sym (zero_pair k) ∙ ap (λ n. k.g % n) (sym one) in

@@ -5,7 +5,7 @@ ghost use Rattle.std.specs.Prelude.{◌≡◌, ◌<◌, ◌≤◌, ◌^◌, ◌�
 ghost use Rattle.table_generator.specs.Grouped.{AreGrouped, IsRunEnd};
 ghost use Rattle.table_generator.specs.Places.{AreApart, Places};
 
-use crate::search::{find_pair, mark};
+use crate::search::{Tried, find_pair, mark};
 use std::alloc::{AllocError, Global};
 use string_cache_core::phf::Hashes;
 
@@ -23,21 +23,22 @@ fn run_end(hashes: &[Hashes], start: usize, pairs: usize) -> usize
     end
 }
 
-/// Displacements below the bound that place the texts, of which those of one pair stand side by side. `None` where the search
-/// found none; where there is only one pair, there are none then.
+/// Displacements that place the texts, of which those of one pair stand side by side. `None` where the search found none;
+/// where there is only one pair, there are none among those to be tried then.
 pub fn displace(
     alloc: Global,
     hashes: &[Hashes],
     pairs: usize,
-    bound: u32,
+    tried: Tried,
 ) -> Result<Option<Vec<(u32, u32)>>, AllocError>
     requires pairs { 1 ≤ pairs }
-    requires bound { 1 ≤ bound }
+    requires some { 1 ≤ tried.first }
+    requires order { tried.second ≤ tried.first }
     requires few { length hashes.now < 2 ^ 32 }
     requires grouped { AreGrouped pairs hashes.now }
-    ensures found { IfOk result (λ o. IfSome o (λ disps. Places pairs bound hashes.now disps.items)) }
+    ensures found { IfOk result (λ o. IfSome o (λ disps. Places pairs tried.first hashes.now disps.items)) }
     ensures unplaced { IfOk result (λ o. o ≡ None → pairs ≡ 1
-        → (d1 d2 : ℕ) → d1 < bound → d2 < bound → AreApart ((d1, d2) ∷ []) (length hashes.now) hashes.now → ⊥) }
+        → (d1 d2 : ℕ) → d1 < tried.first → d2 < tried.second → AreApart ((d1, d2) ∷ []) (length hashes.now) hashes.now → ⊥) }
 {
     let mut disps = vec![in alloc; (0u32, 0u32); pairs]?;
     let mut taken = vec![in alloc; false; hashes.len()]?;
@@ -46,7 +47,7 @@ pub fn displace(
         let own = hashes[start].g as usize % pairs;
         let end = run_end(hashes, start, pairs);
         let members = &hashes[start..end];
-        let Some(pair) = find_pair(members, bound, &taken) else {
+        let Some(pair) = find_pair(members, tried, &taken) else {
             return Ok(None);
         };
         mark(members, pair, &mut taken);

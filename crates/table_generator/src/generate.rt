@@ -11,6 +11,7 @@ ghost use Rattle.table_generator.specs.Generated.{tables_of, texts_of, HasDouble
 
 use crate::displace::displace;
 use crate::items::{assemble, hashes_of_items, items_of};
+use crate::search::Tried;
 use crate::tables::{GenFault, Tables};
 use std::alloc::{AllocError, Global};
 
@@ -42,21 +43,35 @@ fn has_double(list: &[&str]) -> bool
     false
 }
 
-/// The displacements that are tried for `count` texts are below this. Where `count` divides 2^32, a displacement and its rest
-/// modulo `count` give each text one place, so no more than `count` are tried. Of three and of five texts all are. More than
-/// five try no more than `count` either: a hopeless search then ends.
-fn tried_bound(count: u32, bound: u32) -> u32
+/// The most first displacements that are tried for more than five texts, so that a hopeless search ends.
+const MOST_FIRST: u32 = 65_536;
+
+/// The displacements that are tried for `count` texts. Where `count` divides 2^32, a displacement and its rest modulo `count`
+/// give each text one place, so no more than `count` are tried. Of three and of five texts all are. Of other numbers no more
+/// than `count` second ones are, as they move the texts round, and `MOST_FIRST` first ones.
+fn tried(count: u32, bound: u32) -> Tried
     requires count { 1 ≤ count }
     requires bound { 1 ≤ bound }
-    ensures some { 1 ≤ result }
-    ensures most { result ≤ bound }
-    ensures reached { count ≤ 5 → (result ≡ bound) ⊎ ((2 ^ 32 % count ≡ 0) × ((d : ℕ) → d < bound → d % count < result)) }
+    ensures some { 1 ≤ result.first }
+    ensures order { result.second ≤ result.first }
+    ensures most { result.first ≤ bound }
+    ensures reached { count ≤ 5 → (result.second ≡ bound) ⊎ ((2 ^ 32 % count ≡ 0) × ((d : ℕ) → d < bound → d % count < result.second)) }
 {
     if count == 3 || count == 5 {
-        bound
-    } else {
-        bound.min(count)
+        return Tried {
+            first: bound,
+            second: bound,
+        };
     }
+    let second = bound.min(count);
+    if count.is_power_of_two() {
+        return Tried {
+            first: second,
+            second,
+        };
+    }
+    let first = second.max(bound.min(MOST_FIRST));
+    Tried { first, second }
 }
 
 /// Tables of the texts, or `None` where the search found none.
@@ -76,7 +91,7 @@ fn tables_in(
     let pairs = (list.len() + 4) / 5;
     let items = items_of(alloc, list, key, pairs)?;
     let hashes = hashes_of_items(alloc, &items)?;
-    let tried = tried_bound(list.len() as u32, bound);
+    let tried = tried(list.len() as u32, bound);
     let Some(disps) = displace(alloc, &hashes, pairs, tried)? else {
         return Ok(None);
     };
@@ -90,9 +105,10 @@ fn tables_in(
 /// found no tables: of at most five texts only where there are none, so never of one text with a bound of at least 1. Another
 /// key, or a greater bound, may find some.
 ///
-/// The search takes milliseconds for a thousand texts, and has an end: for a pair it tries at most as many pairs of displacements
-/// as the number of texts has squares, and of three or five texts `bound` times `bound`. Looking for equal texts compares each
-/// text with all before it, which is quick for thousands and slow for hundreds of thousands.
+/// The search takes milliseconds for a thousand texts, and has an end. What it tries for one pair, where that is hopeless, is at
+/// most 65,536 or `bound` displacements, whichever is less, times the number of texts; that number's square where it is a power of
+/// two; and `bound` times `bound` for three or five texts. Looking for equal texts compares each text with all before it, which is
+/// quick for thousands and slow for hundreds of thousands.
 pub fn generate(alloc: Global, list: &[&str], key: u64, bound: u32) -> Result<Tables, GenFault>
     ensures { TellsTables (texts_of list.now) key bound result }
 {

@@ -7,6 +7,15 @@ ghost use Rattle.table_generator.specs.Places.{place_by, Fits, Marks, IsPlaceOf}
 
 use string_cache_core::phf::Hashes;
 
+/// Which displacements are tried: all pairs of a first one and a second one below these numbers.
+#[derive(Clone, Copy)]
+pub struct Tried {
+    /// Another first displacement gives the texts of a pair places at other distances.
+    pub first: u32,
+    /// Another second displacement moves them all.
+    pub second: u32,
+}
+
 /// The place of a text with these hashes among `len` texts, under its pair of displacements.
 pub fn place_by(hashes: &Hashes, pair: (u32, u32), len: u32) -> usize
     requires { 1 ≤ len }
@@ -47,17 +56,16 @@ fn fits(members: &[Hashes], pair: (u32, u32), taken: &[bool]) -> bool
     true
 }
 
-/// The first pair below the bound that gives the texts different places, none of which is taken. It takes no memory, and tries
-/// at most `bound` times `bound` pairs.
-pub fn find_pair(members: &[Hashes], bound: u32, taken: &[bool]) -> Option<(u32, u32)>
+/// The first pair of those to be tried that gives the texts different places, none of which is taken. It takes no memory.
+pub fn find_pair(members: &[Hashes], tried: Tried, taken: &[bool]) -> Option<(u32, u32)>
     requires listed { 1 ≤ length taken.now }
     requires few { length taken.now < 2 ^ 32 }
     ensures { MatchOption result
-        ((d1 d2 : ℕ) → d1 < bound → d2 < bound → Fits taken.now members.now (d1, d2) → ⊥)
-        (λ pair. (pair.0 < bound) × (pair.1 < bound) × Fits taken.now members.now pair) }
+        ((d1 d2 : ℕ) → d1 < tried.first → d2 < tried.second → Fits taken.now members.now (d1, d2) → ⊥)
+        (λ pair. (pair.0 < tried.first) × (pair.1 < tried.second) × Fits taken.now members.now pair) }
 {
-    for d1 in 0..bound {
-        for d2 in 0..bound {
+    for d1 in 0..tried.first {
+        for d2 in 0..tried.second {
             if fits(members, (d1, d2), taken) {
                 return Some((d1, d2));
             }

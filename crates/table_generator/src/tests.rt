@@ -117,6 +117,25 @@ fn two_texts(rt: HostRuntime) -> Result<(), Fail> {
     Ok(())
 }
 
+/// Short lists are placed by one of the first four keys: more first displacements are tried than there are texts.
+#[test]
+fn short_lists(rt: HostRuntime) -> Result<(), Fail> {
+    let alloc = rt.alloc();
+    for count in 9..21 {
+        let texts = numbered(alloc, count)?;
+        let list = lent(alloc, &texts)?;
+        let mut is_placed = false;
+        for key in 0..4u64 {
+            match tables_of(alloc, &list, key, 1024) {
+                Ok(_) => is_placed = true,
+                Err(fault) => assert!(rt; fault == GenFault::NotPlaced),
+            }
+        }
+        assert!(rt; is_placed, "of {count} texts");
+    }
+    Ok(())
+}
+
 /// The tables of the names, under the first of a hundred keys that has some.
 fn tables_of_names(alloc: Global, names: &[&str]) -> Result<Tables, GenFault> {
     for key in 0..99u64 {

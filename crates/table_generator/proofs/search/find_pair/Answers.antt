@@ -8,7 +8,7 @@ loop-d2-preserved c = below_more (λ e2. Fits c.args.taken.now c.args.members.no
 
 pub loop-d1-preserved : goal.loop-d1-preserved
 loop-d1-preserved c = λ e1 e2 h1 h2.
-    below_more (λ e1. (e2 : ℕ) → e2 < c.args.bound → Fits c.args.taken.now c.args.members.now (e1, e2) → ⊥) c.loop-d1.d1
+    below_more (λ e1. (e2 : ℕ) → e2 < c.args.tried.second → Fits c.args.taken.now c.args.members.now (e1, e2) → ⊥) c.loop-d1.d1
     (λ k hk e hk2. c.loop-d1.invariant k e hk hk2) (λ e he. c.loop-d2.invariant e (omega (arith, he, c.loop-d2-test.false))) e1 h1 e2 h2
 
 pub returns : goal.returns
