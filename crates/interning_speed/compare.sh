@@ -1,23 +1,47 @@
 #!/usr/bin/env bash
-# Times the table and a plain map in turn, and prints the least time of each kind of call: ./compare.sh [TURNS]
+# Times the library and what one would write without it in turn, and prints the least time of each kind of call, in
+# nanoseconds, and the ratio of the two: ./compare.sh [TURNS]
 set -euo pipefail
 cd "$(dirname "$0")"
 turns=${1:-5}
 built=$(mktemp -d)
 trap 'rm -r "$built"' EXIT
 
-rt run -- counts 1000 > "$built/counts"
-rustc -O -o "$built/map" plain/map.rs
-for count in 10000 100000 1000000; do
-    echo "$count texts"
+rt run -- counts all 1000 4 > "$built/counts"
+rustc -O -o "$built/plain" plain/main.rs
+
+# The arguments are a subject, a number of texts or of rounds, and a number of threads.
+compare() {
     for ((turn = 0; turn < turns; turn++)); do
-        out/interning_speed times "$count" | sed 's/^/table, /'
-        "$built/map" "$count" | sed 's/^/plain map, /'
-    done | awk -F': ' '
+        out/interning_speed times "$@" | sed 's/^/ours|/'
+        "$built/plain" "$@" | sed 's/^/plain|/'
+    done | awk -F'[|]|: ' -v what="$*" '
         / ns$/ {
-            nanos = $2 + 0
-            if (!($1 in least)) { names[kinds++] = $1; least[$1] = nanos }
-            if (nanos < least[$1]) least[$1] = nanos
+            nanos = $3 + 0
+            if (!(($1, $2) in least)) { if ($1 == "ours") names[kinds++] = $2; least[$1, $2] = nanos }
+            if (nanos < least[$1, $2]) least[$1, $2] = nanos
         }
-        END { for (i = 0; i < kinds; i++) print "  " names[i] ": " least[names[i]] " ns" }'
+        END {
+            for (i = 0; i < kinds; i++) {
+                ours = least["ours", names[i]]
+                if (("plain", names[i]) in least) {
+                    plain = least["plain", names[i]]
+                    printf "%-22s %-36s %10.1f %10.1f %6.2f\n", what, names[i], ours, plain, plain > 0 ? ours / plain : 0
+                } else {
+                    printf "%-22s %-36s %10.1f %10s %6s\n", what, names[i], ours, "-", "-"
+                }
+            }
+        }'
+}
+
+printf '%-22s %-36s %10s %10s %6s\n' 'subject, N, threads' 'call' 'ours' 'plain' 'ratio'
+for texts in 10000 100000 1000000; do
+    compare table "$texts" 1
+done
+compare hot 200000 1
+for texts in 10000 100000; do
+    compare live "$texts" 1
+done
+for threads in 1 2 4; do
+    compare crowd 20000 "$threads"
 done

@@ -46,10 +46,11 @@ impl Random {
 pub struct Texts {
     first: Vec<String>,
     again: Vec<String>,
+    more: Vec<String>,
 }
 
 impl Texts {
-    /// So many texts.
+    /// So many texts, and a tenth as many more.
     pub fn new(alloc: Global, count: usize) -> Result<Texts, AllocError> {
         let mut random = Random {
             state: 0x9e37_79b9_7f4a_7c15,
@@ -64,7 +65,11 @@ impl Texts {
                 again.push(text.clone()?)?;
             }
         }
-        Ok(Texts { first, again })
+        let mut more = Vec::new(alloc);
+        for _text in 0..count / 10 {
+            more.push(random.text(alloc)?)?;
+        }
+        Ok(Texts { first, again, more })
     }
 
     /// The texts in their first order.
@@ -77,12 +82,17 @@ impl Texts {
         &self.again
     }
 
-    /// How many texts there are.
+    /// Other texts.
+    pub fn more(&self) -> &[String] {
+        &self.more
+    }
+
+    /// How many texts there are, without the other ones.
     pub fn len(&self) -> usize {
         self.first.len()
     }
 
-    /// How many bytes they have.
+    /// How many bytes these have.
     pub fn bytes(&self) -> u128 {
         let mut bytes = 0u128;
         for text in &self.first {

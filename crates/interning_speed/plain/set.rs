@@ -1,0 +1,191 @@
+//! A set that threads share, by std alone: 64 locked shards, each a `HashSet<Arc<str>>`. A text goes with its last atom.
+
+use crate::say;
+use crate::texts::Texts;
+use std::collections::hash_map::RandomState;
+use std::collections::HashSet;
+use std::hash::BuildHasher;
+use std::hint::black_box;
+use std::sync::{Arc, Mutex, MutexGuard};
+use std::thread;
+use std::time::Instant;
+
+const INLINE: [&str; 8] = ["a", "be", "div", "span", "table", "strong", "section", ""];
+const DYNAMIC: [&str; 8] = [
+    "background-color",
+    "border-collapse",
+    "font-family",
+    "grid-template-columns",
+    "justify-content",
+    "letter-spacing",
+    "transition-duration",
+    "vertical-align",
+];
+
+struct Set {
+    hasher: RandomState,
+    shards: [Mutex<HashSet<Arc<str>>>; 64],
+}
+
+struct Atom<'s> {
+    set: &'s Set,
+    text: Arc<str>,
+}
+
+impl Set {
+    fn new() -> Set {
+        Set {
+            hasher: RandomState::new(),
+            shards: std::array::from_fn(|_| Mutex::default()),
+        }
+    }
+
+    fn shard(&self, text: &str) -> MutexGuard<'_, HashSet<Arc<str>>> {
+        let shard = self.hasher.hash_one(text) as usize % self.shards.len();
+        self.shards[shard].lock().expect("no thread has panicked")
+    }
+
+    fn intern(&self, text: &str) -> Atom<'_> {
+        let mut shard = self.shard(text);
+        if let Some(text) = shard.get(text) {
+            return Atom {
+                set: self,
+                text: text.clone(),
+            };
+        }
+        let text: Arc<str> = text.into();
+        shard.insert(text.clone());
+        Atom { set: self, text }
+    }
+
+    fn len(&self) -> usize {
+        self.shards
+            .iter()
+            .map(|shard| shard.lock().expect("no thread has panicked").len())
+            .sum()
+    }
+}
+
+impl Clone for Atom<'_> {
+    fn clone(&self) -> Self {
+        Atom {
+            set: self.set,
+            text: self.text.clone(),
+        }
+    }
+}
+
+impl PartialEq for Atom<'_> {
+    fn eq(&self, other: &Self) -> bool {
+        Arc::ptr_eq(&self.text, &other.text)
+    }
+}
+
+impl Drop for Atom<'_> {
+    fn drop(&mut self) {
+        // Two are left: this one and the set's. Another thread may intern the text till the shard is locked.
+        if Arc::strong_count(&self.text) == 2 {
+            let mut shard = self.set.shard(&self.text);
+            if Arc::strong_count(&self.text) == 2 {
+                shard.remove(&*self.text);
+            }
+        }
+    }
+}
+
+fn intern_all<'s>(set: &'s Set, texts: &[String]) -> Vec<Atom<'s>> {
+    texts.iter().map(|text| set.intern(text)).collect()
+}
+
+pub fn live(texts: &Texts) {
+    let set = &Set::new();
+    let intern = |name, texts: &[String]| {
+        let start = Instant::now();
+        let atoms = intern_all(set, texts);
+        say(name, texts.len(), atoms.len(), start.elapsed());
+        atoms
+    };
+    let drop_all = |name, mut atoms: Vec<Atom>, is_last: bool| {
+        let (calls, before, start) = (atoms.len(), set.len(), Instant::now());
+        while let Some(atom) = atoms.pop() {
+            drop(atom);
+        }
+        let time = start.elapsed();
+        let gone = before - set.len();
+        say(name, calls, if is_last { gone } else { calls - gone }, time);
+    };
+    let first = intern("intern of a new text", &texts.first);
+    let again = intern("intern of a text that is there", &texts.again);
+    let start = Instant::now();
+    let clones = again.clone();
+    say("clone", again.len(), clones.len(), start.elapsed());
+    drop_all("drop of a clone", clones, false);
+    drop(first);
+    let newest = intern("intern of one more new text", &texts.more);
+    drop_all("last drop, of the newest", newest, true);
+    drop_all("last drop, of any", again, true);
+}
+
+fn over_and_over(name: &str, rounds: usize, len: usize, mut call: impl FnMut(usize) -> bool) {
+    let (mut done, start) = (0, Instant::now());
+    for _ in 0..rounds {
+        for at in 0..len {
+            done += usize::from(black_box(call(black_box(at))));
+        }
+    }
+    say(name, rounds * len, done, start.elapsed());
+}
+
+pub fn hot(rounds: usize) {
+    let set = Set::new();
+    let held: Vec<Atom> = DYNAMIC.iter().map(|text| set.intern(text)).collect();
+    let short: Vec<Atom> = INLINE.iter().map(|text| set.intern(text)).collect();
+    let again: Vec<Atom> = DYNAMIC.iter().map(|text| set.intern(text)).collect();
+    over_and_over("intern and drop, inline", rounds, short.len(), |at| {
+        set.intern(INLINE[at]).text.len() == INLINE[at].len()
+    });
+    over_and_over(
+        "intern and drop, dynamic and held",
+        rounds,
+        held.len(),
+        |at| set.intern(DYNAMIC[at]).text.len() == DYNAMIC[at].len(),
+    );
+    over_and_over("clone and drop", rounds, held.len(), |at| {
+        held[at].clone().text.len() > 7
+    });
+    over_and_over("== of one text", rounds, held.len(), |at| {
+        held[at] == again[at]
+    });
+    over_and_over("== of two texts", rounds, held.len(), |at| {
+        held[at] != again[7 - at]
+    });
+}
+
+pub fn crowd(texts: &Texts, workers: usize) {
+    let set = &Set::new();
+    let start = Instant::now();
+    let held: Vec<Vec<Atom>> = thread::scope(|scope| {
+        let own = |n: usize| {
+            if n % 2 == 0 {
+                &texts.first
+            } else {
+                &texts.again
+            }
+        };
+        let started: Vec<_> = (0..workers)
+            .map(|n| scope.spawn(move || intern_all(set, own(n))))
+            .collect();
+        started
+            .into_iter()
+            .map(|worker| worker.join().expect("no thread panics"))
+            .collect()
+    });
+    let time = start.elapsed();
+    let done = held.iter().map(Vec::len).sum();
+    say(
+        "intern and hold, by all threads",
+        texts.first.len() * workers,
+        done,
+        time,
+    );
+}
