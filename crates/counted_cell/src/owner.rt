@@ -1,5 +1,5 @@
 //! The owner of a cell.
-ghost use Rattle.std.specs.Prelude.{◌≡◌, ◌^◌, ◌<◌, ◌≤◌, IfOk, IfSome};
+ghost use Rattle.std.specs.Prelude.{◌≡◌, ◌^◌, ◌<◌, ◌≤◌, IfErr, IfOk};
 ghost use Rattle.counted_cell.specs.Cell.{block_size, most_bytes};
 
 use crate::block::{FreeRight, allocate, deallocate};
@@ -106,21 +106,23 @@ impl<A: Allocator> Owner<A> {
     }
 
     /// One share more of the cell.
+    #[inline]
     pub fn add<R: Wait>(&self, rt: &R) -> Reply
         ensures { IsReply self.now result }
     {
         Reply::one_more(rt, &self.cell)
     }
 
-    /// Where the count reads 0: that no share is left.
-    pub fn dying(&self) -> Option<NoShares>
-        ensures { IfSome result (λ none. none ≡ self.now.name) }
+    /// Where the count reads 0: that no share is left. Where it reads 1 or more: that one was.
+    pub fn dying(&self) -> Result<NoShares, SharesLeft>
+        ensures dying { IfOk result (λ none. none ≡ self.now.name) }
+        ensures held { IfErr result (λ some. some ≡ self.now.name) }
     {
         let (seen, reading) = self.cell.load();
         if seen == 0 {
-            Some(NoShares { reading })
+            Ok(NoShares { reading })
         } else {
-            None
+            Err(SharesLeft { reading })
         }
     }
 

@@ -23,6 +23,7 @@ impl Reply {
     ghost use Rattle.counted_cell.specs.Reply.{IsReply};
 
     /// One share more of the cell. Where another step came between, it tries again from the count that it found.
+    #[inline]
     pub(crate) fn one_more<R: Wait>(rt: &R, cell: &CellRef<Content>) -> Reply
         requires reads { CanRead cell.now.right }
         requires limit { (cell.now.value.label.limit ≡ cell.now.name.limit) × (cell.now.name.limit < 2 ^ 63) }

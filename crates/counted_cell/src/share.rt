@@ -61,6 +61,7 @@ impl Share {
     }
 
     /// One share more of the same cell. Where the cell has as many as it may have, nothing has changed.
+    #[inline]
     pub fn add<R: Wait>(&self, rt: &R) -> Result<Share, AtLimit>
         ensures added { IfOk result (λ share. share ≡ self.now) }
         ensures full { IfErr result (λ full. full ≡ self.now.name) }
@@ -76,6 +77,7 @@ impl Share {
     }
 
     /// Takes the share off the count, and tells what that left.
+    #[inline]
     pub fn give(self) -> Given
         ensures { result.name ≡ self.name }
     {

@@ -109,18 +109,18 @@ fn a_cell_keeps_its_text(rt: HostRuntime) -> Result<(), Fail> {
 #[test]
 fn replies(rt: HostRuntime) -> Result<(), Fail> {
     let (owner, first) = make(rt.alloc(), 2, "interned")?;
-    assert!(rt; owner.dying().is_none());
+    assert!(rt; owner.dying().is_err());
     let second = share_answer(first.share.add(&rt)).share(&rt);
     assert!(rt; matches!(reply_answer(owner.add(&rt)), Answer::Full));
     assert!(rt; matches!(share_answer(first.share.add(&rt)), Answer::Full));
     assert!(rt; !first.gives_last());
     let third = reply_answer(owner.add(&rt)).share(&rt);
     assert!(rt; !second.gives_last());
-    assert!(rt; owner.dying().is_none());
+    assert!(rt; owner.dying().is_err());
     assert!(rt; third.gives_last());
-    assert!(rt; owner.dying().is_some());
+    assert!(rt; owner.dying().is_ok());
     assert!(rt; matches!(reply_answer(owner.add(&rt)), Answer::Dying));
-    assert!(rt; owner.dying().is_some());
+    assert!(rt; owner.dying().is_ok());
     assert!(rt; frees(owner));
     Ok(())
 }

@@ -123,6 +123,7 @@ impl<'s, Static: StaticAtomSet> Atom<'s, Static> {
     ///
     /// It is refused for a dynamic text alone, and with `FullCount` alone: where its entry has as many holders as the set's
     /// limits allow.
+    #[inline]
     pub fn clone_atom<R: Wait>(&self, rt: &R) -> Result<Self, Fault>
         ensures same { IfOk result (λ atom. atom ≡ self.now) }
         ensures refused { IfErr result (λ fault. fault ≡ Fault.FullCount) }
@@ -261,8 +262,12 @@ impl<'s, Static: StaticAtomSet> PartialEq for Atom<'s, Static> {
 
     ghost laws = { on_per (λ a. a.text) (Cmp.partial_equiv_from_equiv nat_list_eq_equiv) };
 
+    #[inline]
     fn eq(&self, other: &Self) -> bool {
-        self.as_str() == other.as_str()
+        match (&self.form, &other.form) {
+            (Form::Dynamic(one), Form::Dynamic(two)) => one.has_text_of(two),
+            _ => self.as_str() == other.as_str(),
+        }
     }
 }
 

@@ -148,6 +148,7 @@ pub fn sip24(bytes: &[u8], k0: u64, k1: u64) -> u64
 }
 
 /// The hashes of a text under a key: SipHash-1-3 with 128 bits, under the keys 0 and `key`.
+#[inline(always)] // so that where nothing wants the second half, it isn't computed
 #[tactic(auto, unfolding(crate::specs::Phf::hashes_of, crate::specs::Phf::first_half, crate::specs::Phf::second_half, crate::specs::Phf::xor_v1, crate::specs::Phf::xor_v2))]
 pub fn hash(text: &str, key: u64) -> Hashes
     ensures { result ≡ hashes_of text.now key }
@@ -169,6 +170,7 @@ pub fn hash(text: &str, key: u64) -> Hashes
 }
 
 /// The place of a text with these hashes, in static tables of `len` texts.
+#[inline]
 pub fn place(hashes: &Hashes, disps: &[(u32, u32)], len: u32) -> u32
     requires displaced { 1 ≤ length disps.now }
     requires listed { 1 ≤ len }

@@ -108,6 +108,7 @@ pub enum TextForm {
 }
 
 /// The form of a text under the tables of `S`. It hashes a text of more than 7 bytes once.
+#[inline]
 pub fn form_of_text<S: StaticAtomSet>(text: &str) -> TextForm
     ensures { result ≡ form_of_text S.tables text.now }
 {

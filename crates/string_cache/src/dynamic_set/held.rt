@@ -1,5 +1,5 @@
 // A share with its set: what a dynamic atom holds.
-ghost use Rattle.std.specs.Prelude.{◌≡◌, IfErr, IfOk};
+ghost use Rattle.std.specs.Prelude.{◌≡◌, ◌↔◌, IfErr, IfOk, IsTrue};
 
 use super::set::Set;
 use super::share::Share;
@@ -31,6 +31,7 @@ impl<'s, Static: StaticAtomSet> Model for Held<'s, Static> {
 }
 
 impl<'s, Static: StaticAtomSet> Drop for Held<'s, Static> {
+    #[inline]
     fn drop(self) {
         let Self { share, set } = self;
         set.give_back(share);
@@ -65,6 +66,15 @@ impl<'s, Static: StaticAtomSet> Held<'s, Static> {
         self.share.text()
     }
 
+    /// Whether both entries have the same text. Texts with different hashes aren't compared.
+    #[inline]
+    pub(crate) fn has_text_of(&self, other: &Held<'s, Static>) -> bool
+        ensures { IsTrue result ↔ (self.now.text ≡ other.now.text) }
+    {
+        let (own, others) = (&self.share, &other.share);
+        own.label().hash == others.label().hash && own.text() == others.text()
+    }
+
     /// The hash of the entry's text.
     pub(crate) fn hash(&self) -> u64
         ensures { result ≡ self.now.hash }
@@ -73,6 +83,7 @@ impl<'s, Static: StaticAtomSet> Held<'s, Static> {
     }
 
     /// One share more of the same entry. It is refused for `FullCount` alone, where the entry has as many as it may have.
+    #[inline]
     pub fn clone_share<R: Wait>(&self, rt: &R) -> Result<Held<'s, Static>, Fault>
         ensures same { IfOk result (λ held. held ≡ self.now) }
         ensures full { IfErr result (λ fault. fault ≡ Fault.FullCount) }

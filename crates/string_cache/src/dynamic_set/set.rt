@@ -109,12 +109,22 @@ impl<Static: StaticAtomSet> Set<Static> {
     }
 
     /// Gives a share back. Where it was its entry's last, tries the lock of the entry's bucket, once, and prunes the bucket.
+    #[inline]
     pub(super) fn give_back(&self, share: Share) {
-        let at = usize::from(bucket_of(share.label().hash));
+        let hash = share.label().hash;
         if share.give().last().is_some() {
-            if let Some(mut bucket) = self.buckets[at].try_lock() {
-                bucket.prune(&mut OwnCounts);
-            }
+            self.try_prune(hash);
+        }
+    }
+
+    /// Tries the lock of a hash's bucket, once, and prunes the bucket. It stands apart, so that the end of a share that isn't the
+    /// last stays short.
+    #[cold]
+    #[inline(never)]
+    fn try_prune(&self, hash: u64) {
+        let at = usize::from(bucket_of(hash));
+        if let Some(mut bucket) = self.buckets[at].try_lock() {
+            bucket.prune(&mut OwnCounts);
         }
     }
 }

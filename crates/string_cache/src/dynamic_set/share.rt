@@ -78,7 +78,7 @@ impl Entry {
 
     /// Whether no share is left. Then none will ever be.
     pub fn dying(&self) -> bool {
-        self.owner.dying().is_some()
+        self.owner.dying().is_ok()
     }
 }
 
