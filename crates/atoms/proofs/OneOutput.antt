@@ -6,7 +6,7 @@ use Rattle.std.specs.Str.Parse.{digits_value}
 use Rattle.std.proofs.lemmas.Fmt.{decimal_is_IsNumeral, decimal_nonempty, decimal_injective}
 use Rattle.std.proofs.Math.ListN.{get_or-append}
 use Rattle.string_cache.specs.Bounds.{Bounds}
-use Rattle.string_cache.specs.Layout.{most_buckets}
+use Rattle.string_cache.specs.Layout.{usual_buckets}
 use Rattle.string_cache.specs.Tables.{Tables}
 use Rattle.string_cache.specs.World.{World}
 use Rattle.string_cache.specs.declared.steps.Step.{Step}
@@ -123,7 +123,7 @@ module _ (t : Tables) (l m : Bounds) (s u : Script) (a b : List ℕ) (p : IsOutp
   one_of_run : SameLines l m s u → a ≡ b
   one_of_run lines =
       let same = one_run t lines.lines s u lines.one lines.other p.run.appended q.run.appended (sym (ap length p.run.is) ∙ p.all) (sym (ap length q.run.is) ∙ q.all)
-      (opening m most_buckets) p.world q.world (subst (λ limits. Leads t (opening limits most_buckets) (events_of s p.run.appended) p.world) lines.same p.run.leads) q.run.leads in
+      (opening m usual_buckets) p.world q.world (subst (λ limits. Leads t (opening limits usual_buckets) (events_of s p.run.appended) p.world) lines.same p.run.leads) q.run.leads in
       p.is ∙ ap (λ rs. output_of rs p.world) (p.run.is ∙ same.0 ∙ sym q.run.is) ∙ ap (λ w. output_of q.replies w) same.1 ∙ sym q.is
 
 pub one_output : (t : Tables) (bytes a b : List ℕ) → IsReplay t bytes a → IsReplay t bytes b → a ≡ b

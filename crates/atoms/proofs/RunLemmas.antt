@@ -3,7 +3,7 @@ use Rattle.std.proofs.Common.{◌≡◌, ℕ, ◌+◌, ◌<◌, ◌≤◌, List,
 use Rattle.std.specs.List.{flat_map}
 use Rattle.std.proofs.lemmas.Grind.{flat_map-append}
 use Rattle.string_cache.specs.Bounds.{Bounds}
-use Rattle.string_cache.specs.Layout.{most_buckets}
+use Rattle.string_cache.specs.Layout.{usual_buckets}
 use Rattle.string_cache.specs.Tables.{Tables}
 use Rattle.string_cache.specs.World.{World}
 use Rattle.string_cache.specs.declared.steps.Step.{Step}
@@ -53,11 +53,11 @@ pub record Running (t : Tables) (limits : Bounds) (text rest : List ℕ) (world 
   pub good : SpellSteps lines (made ++ chunk)
   pub all : length replies ≡ length made
   pub printed : out ≡ flat_map reply_line replies
-  pub onward : (s : Script) (r : List StepReply) (v : World) → HasRun t world s [] r v → HasRun t (opening limits most_buckets) (made ++ s) [] (replies ++ r) v
+  pub onward : (s : Script) (r : List StepReply) (v : World) → HasRun t world s [] r v → HasRun t (opening limits usual_buckets) (made ++ s) [] (replies ++ r) v
   pub counted : most ≡ length lines
   pub few : length lines + length rest ≤ length text
 
-pub running_begins : (t : Tables) (limits : Bounds) (text : List ℕ) (world : World) (chunk : Script) (out : List ℕ) → world ≡ opening limits most_buckets → chunk ≡ [] → out ≡ [] → Running t limits text text world chunk out 0
+pub running_begins : (t : Tables) (limits : Bounds) (text : List ℕ) (world : World) (chunk : Script) (out : List ℕ) → world ≡ opening limits usual_buckets → chunk ≡ [] → out ≡ [] → Running t limits text text world chunk out 0
 running_begins t limits text world chunk out opens none empty = record {
   lines = [];
   made = [];
@@ -105,21 +105,21 @@ module _ {t : Tables} {limits : Bounds} {text rest : List ℕ} {world : World} {
     all = omega (arith, length-append p.replies ran.replies, length-append p.made chunk, p.all, ran.all);
     printed = ran.is ∙ ap (λ v. v ++ flat_map reply_line ran.replies) p.printed ∙ sym (flat_map-append reply_line p.replies ran.replies);
     onward = λ s r v run.
-        subst (λ (z : Script). HasRun t (opening limits most_buckets) z [] ((p.replies ++ ran.replies) ++ r) v) (sym (append_assoc p.made chunk s))
-        (subst (λ (rs : List StepReply). HasRun t (opening limits most_buckets) (p.made ++ (chunk ++ s)) [] rs v) (sym (append_assoc p.replies ran.replies r))
+        subst (λ (z : Script). HasRun t (opening limits usual_buckets) z [] ((p.replies ++ ran.replies) ++ r) v) (sym (append_assoc p.made chunk s))
+        (subst (λ (rs : List StepReply). HasRun t (opening limits usual_buckets) (p.made ++ (chunk ++ s)) [] rs v) (sym (append_assoc p.replies ran.replies r))
         (p.onward (chunk ++ s) (ran.replies ++ r) v (run_join t world world' v chunk s ran.replies r ran.run run ran.all)));
     counted = p.counted;
     few = p.few;
   }
 
   module _ (none : script_lines rest ≡ []) (world' : World) (out' : List ℕ) (ran : RunsOn t world world' chunk out out') where
-    whole_run : HasRun t (opening limits most_buckets) (p.made ++ chunk) [] (p.replies ++ ran.replies) world'
+    whole_run : HasRun t (opening limits usual_buckets) (p.made ++ chunk) [] (p.replies ++ ran.replies) world'
     whole_run = p.onward chunk ran.replies world' ran.run
 
     -- no more entries than lines
     pub running_few : length world'.entries ≤ most
     running_few =
-        let few = run_few t limits most_buckets (opening limits most_buckets) (p.made ++ chunk) [] (p.replies ++ ran.replies) world' refl whole_run in
+        let few = run_few t limits usual_buckets (opening limits usual_buckets) (p.made ++ chunk) [] (p.replies ++ ran.replies) world' refl whole_run in
         omega (arith, few, spell_length p.lines (p.made ++ chunk) p.good, p.counted)
 
     pub running_ends : (output : List ℕ) → output ≡ out' ++ held_lines_from 1 world'.entries → (steps : Script) × SpellSteps (script_lines text) steps × IsOutput t limits steps output

@@ -4,7 +4,7 @@ use Rattle.std.specs.List.{flat_map}
 use Rattle.string_cache.specs.Bounds.{Bounds}
 use Rattle.string_cache.specs.declared.steps.StepReply.{StepReply}
 use Rattle.string_cache.specs.declared.steps.StepReply.TheVariants as reply
-use Rattle.string_cache.specs.Layout.{most_buckets, ticket_unit}
+use Rattle.string_cache.specs.Layout.{usual_buckets, ticket_unit}
 use Rattle.string_cache.specs.Tables.{Tables}
 use Rattle.string_cache.specs.World.{Entry, World}
 use Rattle.string_cache.specs.Steps.{opening}
@@ -58,7 +58,7 @@ pub record RunsOn (t : Tables) (old new : World) (steps : Script) (before after 
 pub record IsOutput (t : Tables) (limits : Bounds) (steps : Script) (output : List ℕ) : Type 0 where
   pub replies : List StepReply
   pub world : World
-  pub run : HasRun t (opening limits most_buckets) steps [] replies world
+  pub run : HasRun t (opening limits usual_buckets) steps [] replies world
   pub all : length replies ≡ length steps
   pub is : output ≡ output_of replies world
 

@@ -4,7 +4,7 @@ use Rattle.string_cache_core.specs.Tables.{Tables, form_of_text, text_at, IsStat
 use Rattle.string_cache_core.specs.declared.static_sets.TextForm.TheVariants as form
 use Rattle.string_cache_core.specs.Word.{inline_word, static_word, IsInlineText}
 use Rattle.string_cache.specs.AtomValue.{AtomValue}
-use Rattle.string_cache.specs.Chain.{IsRight}
+use Rattle.string_cache.specs.Chain.{IsOfBucket}
 use Rattle.string_cache.specs.declared.atom.Form.{Form}
 use Rattle.string_cache.specs.declared.atom.Form.TheVariants.{Inline, Static, Dynamic}
 
@@ -15,7 +15,7 @@ value_of_form t (Static index) = record { text = text_at t index; word = static_
 value_of_form t (Dynamic held) = record { text = held.text; word = held.ticket }
 
 -- the text is one of this form
-abbrev pub IsOwnForm : {X : Type 0} → Tables → ℕ → Form X → Type 0
-IsOwnForm t buckets (Inline text) = IsInlineText text
-IsOwnForm t buckets (Static index) = IsStaticIndex t index × (index < length t.atoms)
-IsOwnForm t buckets (Dynamic held) = (form_of_text t held.text ≡ form.Dynamic held.hash) × IsRight t buckets held
+abbrev pub IsOwnForm : {X : Type 0} → Tables → Form X → Type 0
+IsOwnForm t (Inline text) = IsInlineText text
+IsOwnForm t (Static index) = IsStaticIndex t index × (index < length t.atoms)
+IsOwnForm t (Dynamic held) = (form_of_text t held.text ≡ form.Dynamic held.hash) × IsOfBucket t held

@@ -8,7 +8,6 @@ ghost use Rattle.std.specs.Cmp.{on_per};
 ghost use Rattle.std.specs.Cmp.Lexicographic.{pointwise, nat_list_eq_equiv};
 ghost use Rattle.std.specs.Cow.{cow_str_bytes};
 ghost use Rattle.string_cache_core.specs.Faults.{IsInternFault};
-ghost use Rattle.string_cache_core.specs.Layout.{most_buckets};
 ghost use Rattle.string_cache_core.specs.Tables.{IsPerfectTable, IsStaticIndex, form_of_text, hash_number, is_dynamic, is_dynamic_form, is_inline_form, is_static_form, text_at};
 ghost use Rattle.string_cache_core.specs.Word.{IsInlineText, inline_word, static_word};
 ghost use Rattle.string_cache.specs.AtomForm.{IsOwnForm, value_of_form};
@@ -55,16 +54,15 @@ impl<'s, Static: StaticAtomSet> Model for Atom<'s, Static> {
     ghost Value = { AtomValue };
 
     ghost use Rattle.string_cache.specs.AtomForm.{value_of_form, IsOwnForm};
-    ghost use Rattle.string_cache_core.specs.Layout.{most_buckets};
 
     ghost view = { λ a. value_of_form Static.tables a.form };
 
-    ghost invariant = { λ a. IsOwnForm Static.tables most_buckets a.form };
+    ghost invariant = { λ a. IsOwnForm Static.tables a.form };
 }
 
 impl<'s, Static: StaticAtomSet> Atom<'s, Static> {
     fn of_form(form: Form<'s, Static>) -> Self
-        requires { IsOwnForm Static.tables most_buckets form }
+        requires { IsOwnForm Static.tables form }
         ensures { result ≡ value_of_form Static.tables form.entry }
     {
         Atom { form }
@@ -204,7 +202,7 @@ impl<'s, Static: StaticAtomSet> Atom<'s, Static> {
     /// The word: the inline word of the text, the static word of its place, or the ticket of its entry.
     pub fn unsafe_data(&self) -> u64
         ensures word { result ≡ self.now.word }
-        ensures of_text { IsWordOf Static.tables most_buckets self.now.text result }
+        ensures of_text { IsWordOf Static.tables self.now.text result }
     {
         match &self.form {
             Form::Inline(text) => text.word(),

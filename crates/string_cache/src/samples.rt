@@ -6,6 +6,9 @@ ghost use Rattle.string_cache_core.specs.Tables.{entry_hash};
 
 use crate::phf::hash;
 use crate::static_sets::{PhfStrSet, StaticAtomSet};
+use crate::word::Buckets;
+use std::alloc::Global;
+use std::test::Fail;
 
 /// The hash of a text's entry.
 #[tactic(auto, unfolding(string_cache_core::specs::Tables::entry_hash))]
@@ -13,6 +16,15 @@ pub fn hash_of<Static: StaticAtomSet>(text: &str) -> u64
     ensures { result ≡ entry_hash Static.tables text.now }
 {
     hash(text, Static::get().key).entry_hash()
+}
+
+/// The numbers of buckets that tests take: one bucket, the usual number, and the most.
+pub fn bucket_numbers(alloc: Global) -> Result<Vec<Buckets>, Fail> {
+    let mut numbers = Vec::new(alloc);
+    for bits in [0, 12, 14] {
+        numbers.push(Buckets::new(bits).ok_or("bits")?)?;
+    }
+    Ok(numbers)
 }
 
 /// One text, whose place is always 0.

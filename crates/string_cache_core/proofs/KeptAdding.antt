@@ -17,6 +17,7 @@ use Rattle.string_cache_core.specs.Map.{Holding}
 use Rattle.string_cache_core.specs.Tables.{Tables, entry_hash, form_of_text, fixed_word}
 use Rattle.string_cache_core.specs.Word.{ticket_of}
 use Rattle.string_cache_core.specs.Kept.{Pair, pairs_of, tickets_of, IsGiven, IsKeptTable}
+use Rattle.string_cache_core.proofs.BucketCounts.{bucket-below, bucket-within}
 use Rattle.string_cache_core.proofs.KeptPairs.{lookup-pairs, updates-pairs, pair_of_ticket, given-grows, last-set, last-grows}
 use Rattle.string_cache_core.proofs.KeptTickets.{at-push, is-nowhere}
 use Rattle.string_cache_core.proofs.Tickets.{ticket_of-same}
@@ -49,16 +50,17 @@ module _ {Y S : Type 0} (m r n : HashMap (String Y) Holding S) (key : String Y) 
 
 module _ (t : Tables) (lasts : List ℕ) (pairs : List Pair) (tickets new : List ℕ) (bytes : ℕ) (text : List ℕ) (bucket serial : ℕ)
     (dynamic : fixed_word (form_of_text t text) ≡ None) (own : bucket ≡ entry_hash t text % length lasts) (range : serial < serial_bound) (next : serial ≡ slice_index lasts bucket + 1) (small : length text < 2 ^ 64)
-    (inserted : new ≡ insert_key nat_eq tickets (ticket_of serial bucket)) (kept : IsKeptTable t lasts pairs tickets bytes) where
+    {bits : ℕ} (inserted : new ≡ insert_key nat_eq tickets (ticket_of serial bucket)) (kept : IsKeptTable t bits lasts pairs tickets bytes) where
   below : bucket < most_buckets
-  below = let b = kept.buckets in omega (arith, own, b)
+  below = subst (λ (b : ℕ). b < most_buckets) (sym own) (bucket-below (entry_hash t text) bits (length lasts) kept.buckets kept.few)
 
   within : bucket < length lasts
-  within = let b = kept.buckets in let l = below in omega (arith, b, l)
+  within = subst (λ (b : ℕ). b < length lasts) (sym own) (bucket-within (entry_hash t text) bits (length lasts) kept.buckets)
 
-  pub kept-added : IsKeptTable t (slice_set lasts bucket serial) (pairs ++ (text, record { ticket = ticket_of serial bucket; holders = 1 }) ∷ []) new (bytes + length text)
+  pub kept-added : IsKeptTable t bits (slice_set lasts bucket serial) (pairs ++ (text, record { ticket = ticket_of serial bucket; holders = 1 }) ∷ []) new (bytes + length text)
   kept-added = record {
     buckets = length-set lasts bucket serial ∙ kept.buckets;
+    few = subst (λ (n : ℕ). n ≤ most_buckets) (sym (length-set lasts bucket serial)) kept.few;
     given = λ j pair h. elim (at-push pairs (text, record { ticket = ticket_of serial bucket; holders = 1 }) j pair h) [
       | inl old ↦ grows pair (kept.given j pair old)
       | inr added ↦ subst (λ (pair : Pair). IsGiven t (length (slice_set lasts bucket serial)) (slice_index (slice_set lasts bucket serial)) pair.0 pair.1) added.1 this

@@ -1,5 +1,5 @@
 -- A new table.
-use Rattle.std.proofs.Common.{◌≡◌, ◌∙◌, ap, sym, subst, refl, ℕ, zero, suc, List, [], length, replicate, None}
+use Rattle.std.proofs.Common.{◌≡◌, ◌∙◌, ap, sym, subst, refl, ℕ, ◌^◌, ◌≤◌, zero, suc, List, [], length, replicate, None}
 use Rattle.std.specs.Prelude.{slice_index, String}
 use Rattle.std.specs.HashMap.{HashMap}
 use Rattle.std.proofs.lemmas.List.{length-replicate}
@@ -14,17 +14,18 @@ zeros-at zero i = refl
 zeros-at (suc n) zero = refl
 zeros-at (suc n) (suc i) = zeros-at n i
 
-module _ {Y S : Type 0} (t : Tables) (lasts : List ℕ) (m : HashMap (String Y) Holding S) (tickets : List ℕ) (zeros : lasts ≡ replicate most_buckets zero) (none : m.entries ≡ []) (no_ticket : tickets ≡ []) where
-  pub new-kept : IsKeptTable t lasts (pairs_of m.entries) tickets 0
-  new-kept = subst (λ (es : List (String Y × Holding)). IsKeptTable t lasts (pairs_of es) tickets 0) (sym none) (record {
-    buckets = ap length zeros ∙ length-replicate most_buckets zero;
+module _ {Y S : Type 0} (t : Tables) (bits : ℕ) (lasts : List ℕ) (m : HashMap (String Y) Holding S) (tickets : List ℕ) (few : 2 ^ bits ≤ most_buckets) (zeros : lasts ≡ replicate (2 ^ bits) zero) (none : m.entries ≡ []) (no_ticket : tickets ≡ []) where
+  pub new-kept : IsKeptTable t bits lasts (pairs_of m.entries) tickets 0
+  new-kept = subst (λ (es : List (String Y × Holding)). IsKeptTable t bits lasts (pairs_of es) tickets 0) (sym none) (record {
+    buckets = ap length zeros ∙ length-replicate (2 ^ bits) zero;
+    few = subst (λ (n : ℕ). n ≤ most_buckets) (sym (ap length zeros ∙ length-replicate (2 ^ bits) zero)) few;
     given = λ at pair h. absurd (none_some h);
     short = λ at pair h. absurd (none_some h);
     index = no_ticket;
     counted = refl;
   })
 
-module _ {Y S : Type 0} (lasts : List ℕ) (m : HashMap (String Y) Holding S) (zeros : lasts ≡ replicate most_buckets zero) (none : m.entries ≡ []) where
-  pub new-map : shows lasts (pairs_of m.entries) ≡ empty_map most_buckets
+module _ {Y S : Type 0} (bits : ℕ) (lasts : List ℕ) (m : HashMap (String Y) Holding S) (zeros : lasts ≡ replicate (2 ^ bits) zero) (none : m.entries ≡ []) where
+  pub new-map : shows lasts (pairs_of m.entries) ≡ empty_map (2 ^ bits)
   new-map = ap (λ (es : List (String Y × Holding)). shows lasts (pairs_of es)) none
-      ∙ (λ i. record { buckets = (ap length zeros ∙ length-replicate most_buckets zero) i; held = λ text. None; last = λ bucket. (ap (λ (ls : List ℕ). slice_index ls bucket) zeros ∙ zeros-at most_buckets bucket) i })
+      ∙ (λ i. record { buckets = (ap length zeros ∙ length-replicate (2 ^ bits) zero) i; held = λ text. None; last = λ bucket. (ap (λ (ls : List ℕ). slice_index ls bucket) zeros ∙ zeros-at (2 ^ bits) bucket) i })

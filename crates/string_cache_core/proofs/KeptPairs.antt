@@ -156,9 +156,10 @@ module _ {Y S : Type 0} (t : Tables) (lasts : List ℕ) (m n : HashMap (String Y
     pub is-written : n ≡ with_value_at m at (holds_now pair.1 holders)
     is-written = written pair.1 (value-at m.entries at pair there)
 
-    pub written-kept : 0 < holders → IsKeptTable t lasts (pairs_of m.entries) tickets bytes → IsKeptTable t lasts (pairs_of n.entries) tickets bytes
-    written-kept some kept = subst (λ (k : HashMap (String Y) Holding S). IsKeptTable t lasts (pairs_of k.entries) tickets bytes) (sym is-written) (record {
+    pub written-kept : {bits : ℕ} → 0 < holders → IsKeptTable t bits lasts (pairs_of m.entries) tickets bytes → IsKeptTable t bits lasts (pairs_of n.entries) tickets bytes
+    written-kept {bits} some kept = subst (λ (k : HashMap (String Y) Holding S). IsKeptTable t bits lasts (pairs_of k.entries) tickets bytes) (sym is-written) (record {
       buckets = kept.buckets;
+      few = kept.few;
       given = all-set (λ pair. IsGiven t (length lasts) (slice_index lasts) pair.0 pair.1) m.entries at (holds_now pair.1 holders)
           (λ own h. given-held t (length lasts) (slice_index lasts) own.0 own.1 (holds_now pair.1 holders) (ap (λ (p : Pair). p.1.ticket) (the_same _ _ (sym h ∙ there))) some (kept.given at own h)) kept.given;
       short = all-set (λ pair. length pair.0 < 2 ^ 64) m.entries at (holds_now pair.1 holders) (λ own h. kept.short at own h) kept.short;
@@ -202,6 +203,6 @@ found-is limits lasts es text at key v entry of_key value = record {
 }
 
 -- the same pairs and tickets, wherever they lie
-pub kept-moved : (t : Tables) (lasts : List ℕ) (old new : List Pair) (tickets moved : List ℕ) (bytes : ℕ) → new ≡ old → moved ≡ tickets → IsKeptTable t lasts old tickets bytes → IsKeptTable t lasts new moved bytes
-kept-moved t lasts old new tickets moved bytes same stays kept =
-    subst (λ pairs. IsKeptTable t lasts pairs moved bytes) (sym same) (subst (λ ts. IsKeptTable t lasts old ts bytes) (sym stays) kept)
+pub kept-moved : (t : Tables) {bits : ℕ} (lasts : List ℕ) (old new : List Pair) (tickets moved : List ℕ) (bytes : ℕ) → new ≡ old → moved ≡ tickets → IsKeptTable t bits lasts old tickets bytes → IsKeptTable t bits lasts new moved bytes
+kept-moved t {bits} lasts old new tickets moved bytes same stays kept =
+    subst (λ pairs. IsKeptTable t bits lasts pairs moved bytes) (sym same) (subst (λ ts. IsKeptTable t bits lasts old ts bytes) (sym stays) kept)

@@ -88,7 +88,7 @@ from-where xs ys at n s j x h = (
 
 module _ {Y S : Type 0} (t : Tables) (lasts : List ℕ) (m n : HashMap (String Y) Holding S) (tickets left : List ℕ) (bytes at ticket : ℕ) (taken : String Y × Holding)
     (entry : slice_get m.entries at ≡ Some taken) (entries : n.entries ≡ swap_remove m.entries at taken) (len : length n.entries + 1 ≡ length m.entries)
-    (removed : left ≡ swap_remove tickets at ticket) (kept : IsKeptTable t lasts (pairs_of m.entries) tickets bytes) where
+    (removed : left ≡ swap_remove tickets at ticket) {bits : ℕ} (kept : IsKeptTable t bits lasts (pairs_of m.entries) tickets bytes) where
   pairs-swapped : Swapped (pairs_of m.entries) (pairs_of n.entries) at (length n.entries)
   pairs-swapped = map-swapped (λ e. (string_bytes e.0, e.1)) m.entries n.entries at (length n.entries)
       (subst (λ es. Swapped m.entries es at (length n.entries)) (sym entries) (swapped m.entries at (length n.entries) taken (slice_get_within m.entries at taken entry) len))
@@ -128,9 +128,10 @@ module _ {Y S : Type 0} (t : Tables) (lasts : List ℕ) (m n : HashMap (String Y
   pub bytes-there : length (string_bytes taken.0) ≤ bytes
   bytes-there = let sum = bytes-left in omega (arith, sum)
 
-  pub kept-taken : IsKeptTable t lasts (pairs_of n.entries) left (bytes - length (string_bytes taken.0))
+  pub kept-taken : IsKeptTable t bits lasts (pairs_of n.entries) left (bytes - length (string_bytes taken.0))
   kept-taken = record {
     buckets = kept.buckets;
+    few = kept.few;
     given = stays (λ pair. IsGiven t (length lasts) (slice_index lasts) pair.0 pair.1) kept.given;
     short = stays (λ pair. length pair.0 < 2 ^ 64) kept.short;
     index = tickets-left;

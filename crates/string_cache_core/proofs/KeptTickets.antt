@@ -61,7 +61,7 @@ one-place (x ∷ xs) zero (suc other) ticket d h k = absurd (apart-from x xs d.0
 one-place (x ∷ xs) (suc at) zero ticket d h k = absurd (apart-from x xs d.0 at (h ∙ sym k))
 one-place (x ∷ xs) (suc at) (suc other) ticket d h k = ap suc (one-place xs at other ticket d.1 h k)
 
-module _ (t : Tables) (lasts : List ℕ) (pairs : List Pair) (tickets : List ℕ) (bytes : ℕ) (kept : IsKeptTable t lasts pairs tickets bytes) where
+module _ (t : Tables) (lasts : List ℕ) (pairs : List Pair) (tickets : List ℕ) (bytes : ℕ) {bits : ℕ} (kept : IsKeptTable t bits lasts pairs tickets bytes) where
   -- where a pair stands, its ticket stands
   ticket-at : (at : ℕ) (pair : Pair) → slice_get pairs at ≡ Some pair → slice_get tickets at ≡ Some pair.1.ticket
   ticket-at at pair h = ap (λ ts. slice_get ts at) kept.index ∙ ticket-there pairs at pair h
@@ -84,7 +84,7 @@ module _ (t : Tables) (lasts : List ℕ) (pairs : List Pair) (tickets : List ℕ
         ap (λ (x : Pair). x.0) (the_same _ _ (sym a.1 ∙ ap (slice_get pairs) at ∙ b.1));
   }
 
-module _ {Y : Type 0} (t : Tables) (limits : Bounds) (lasts : List ℕ) (es : List (String Y × Holding)) (tickets : List ℕ) (bytes : ℕ) (kept : IsKeptTable t lasts (pairs_of es) tickets bytes) (distinct : IsDistinct string_eq (keys_of es)) where
+module _ {Y : Type 0} (t : Tables) (limits : Bounds) (lasts : List ℕ) (es : List (String Y × Holding)) (tickets : List ℕ) (bytes : ℕ) {bits : ℕ} (kept : IsKeptTable t bits lasts (pairs_of es) tickets bytes) (distinct : IsDistinct string_eq (keys_of es)) where
   pub is-placed : (ticket at stored : ℕ) → slice_get tickets at ≡ Some stored → Some stored ≡ find (nat_eq ticket) tickets → IsPlace (record { limits = limits; lasts = lasts; pairs = pairs_of es }) ticket at
   is-placed ticket at stored there found =
       let h : slice_get tickets at ≡ Some ticket = there ∙ ap (λ (n : ℕ). Some n) (found-ticket tickets ticket stored (sym found)) in

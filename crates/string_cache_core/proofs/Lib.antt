@@ -1,3 +1,4 @@
+pub mod BucketCounts
 pub mod BytesValue
 pub mod CallerLemmas
 pub mod CallsKeep

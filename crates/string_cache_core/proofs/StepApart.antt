@@ -10,9 +10,10 @@ use Rattle.string_cache_core.specs.declared.steps.Step.TheVariants.{TakeIntern, 
 use Rattle.string_cache_core.specs.declared.steps.StepReply.{StepReply}
 use Rattle.string_cache_core.specs.Steps.{bucket_of, pass_of, is_free, is_linked_in, wants, has, take_bucket, add, link, clone, give, unlink, all_found_dying, all_looked_at, replaced, without_party, finds_dying, looks_at, decides, last_of, step}
 use Rattle.string_cache_core.specs.World.{Entry, Pass, World, is_linked, is_unlinked_by}
+use Rattle.string_cache_core.specs.Listed.{AreWithin}
 use Rattle.string_cache_core.specs.Runs.{Event, Leads}
 use Rattle.string_cache_core.specs.Sound.{At, SoundPass, DiffersFrom, Apart, SoundWorld}
-use Rattle.string_cache_core.proofs.StepLists.{at_set_cases, at_push_cases, at_set_same, at_push_old, at_one, bind_case, guard_case, if_case, find-all}
+use Rattle.string_cache_core.proofs.StepLists.{at_set_cases, at_push_cases, at_set_same, at_push_old, at_one, bind_case, guard_case, if_case, find-all, all_at}
 use Rattle.string_cache_core.proofs.StepSound.{all_replaced, all_without_party}
 use Rattle.string_cache_core.proofs.StepEntries.{set_other, sound_by}
 use Rattle.string_cache_core.proofs.StepHistory.{keeps}
@@ -267,6 +268,10 @@ module _ (tables : Tables) where
     ]
 
   -- an entry of the text that a pass wants stands in the pass's bucket
+  -- each pass holds one of the world's buckets
+  pub all_within : (w : World) → SoundWorld tables w → AreWithin w
+  all_within w held at pass there = (all_at (SoundPass tables (length w.lasts) w.entries) w.passes at pass there held.sound.each).below
+
   pub placed_in : (w : World) → SoundWorld tables w → (party : ℕ) (pass found : Pass) (text : List ℕ) → pass_of w party ≡ Some found → pass ≡ found → pass.wanted ≡ Some text
       → (k : ℕ) (x : Entry) → At w.entries k x → x.text ≡ text → x.bucket ≡ pass.bucket
   placed_in w held party pass found text there same wanted k x at is =

@@ -5,11 +5,10 @@ use Rattle.std.specs.List.{list_all, position, position_or_len, remove}
 use Rattle.std.specs.Option.{option_map_or}
 use Rattle.std.specs.Str.{bytes_eq}
 use Rattle.std.proofs.lemmas.Bool.{eqb-true, and_parts, and_from, or_cases, cases_Bool, ltb-true, ltb-false}
-use Rattle.string_cache_core.specs.Layout.{most_buckets}
 use Rattle.string_cache_core.specs.World.{Entry, Pass, World, is_linked}
 use Rattle.string_cache_core.specs.Steps.{has, without_one, is_linked_in, is_looked_at, all_looked_at, is_found_dying, all_found_dying}
 use Rattle.string_cache_core.specs.Sound.{At}
-use Rattle.string_cache_core.specs.Listed.{entry_in, is_seen, is_dying, AreListed, AreListsKept}
+use Rattle.string_cache_core.specs.Listed.{entry_in, is_seen, is_dying, AreListed, AreListsKept, AreWithin}
 use Rattle.string_cache_core.proofs.StepLists.{get_or_at, at_one, at_set_same, at_set_cases, at_push_cases, if_case, numbered_at, numbered_all, implied, has_first, has_then, has_old, has_new}
 use Rattle.string_cache_core.proofs.StepSound.{same_text}
 use Rattle.string_cache_core.proofs.StepPlaces.{there_is}
@@ -197,35 +196,35 @@ at_place xs k item d h is =
     let same : item ≡ there.0 = is ∙ get_or_at xs k d there.0 there.1 in
     there.1 ∙ ap Some (sym same)
 
-module _ (es : List Entry) (lasts : List ℕ) (lists : List (List ℕ)) (kept : AreListsKept es lasts lists) where
-  pub kept_change : (k : ℕ) (item y d : Entry) → k < length es → item ≡ get_or es k d → y.bucket ≡ item.bucket → (is_linked y.place ≡ true → is_linked item.place ≡ true) → AreListsKept (slice_set es k y) lasts lists
+module _ {bits : ℕ} (es : List Entry) (lasts : List ℕ) (lists : List (List ℕ)) (kept : AreListsKept bits es lasts lists) where
+  pub kept_change : (k : ℕ) (item y d : Entry) → k < length es → item ≡ get_or es k d → y.bucket ≡ item.bucket → (is_linked y.place ≡ true → is_linked item.place ≡ true) → AreListsKept bits (slice_set es k y) lasts lists
   kept_change k item y d h is bucket was = record {
     buckets = kept.buckets;
     lists = kept.lists;
     listed = listed_set es lists kept.listed k item y (at_place es k item d h is) bucket was;
   }
 
-  pub kept_out : (k : ℕ) (item y d : Entry) (b : ℕ) (numbers new e : List ℕ) → k < length es → item ≡ get_or es k d → is_linked y.place ≡ false → b < most_buckets → numbers ≡ get_or lists b e
-      → new ≡ without_one (k + 1) numbers → AreListsKept (slice_set es k y) lasts (slice_set lists b new)
+  pub kept_out : (k : ℕ) (item y d : Entry) (b : ℕ) (numbers new e : List ℕ) → k < length es → item ≡ get_or es k d → is_linked y.place ≡ false → b < length lasts → numbers ≡ get_or lists b e
+      → new ≡ without_one (k + 1) numbers → AreListsKept bits (slice_set es k y) lasts (slice_set lists b new)
   kept_out k item y d b numbers new e h is gone below list out = record {
     buckets = kept.buckets;
     lists = length-set lists b new ∙ kept.lists;
     listed = subst (λ (ns : List ℕ). AreListed (slice_set es k y) (slice_set lists b ns)) (sym out)
-        (listed_out es lists kept.listed k item y b numbers (at_place es k item d h is) gone (at_place lists b numbers e (let n = kept.lists in omega (arith, n, below)) list));
+        (listed_out es lists kept.listed k item y b numbers (at_place es k item d h is) gone (at_place lists b numbers e (let n = kept.lists in let m = kept.buckets in omega (arith, n, m, below)) list));
   }
 
-  pub kept_link : (y : Entry) (numbers new e : List ℕ) (n serial : ℕ) (es' : List Entry) → y.bucket < most_buckets → numbers ≡ get_or lists y.bucket e → new ≡ numbers ++ n ∷ [] → n ≡ length es + 1
-      → es' ≡ es ++ y ∷ [] → AreListsKept es' (slice_set lasts y.bucket serial) (slice_set lists y.bucket new)
+  pub kept_link : (y : Entry) (numbers new e : List ℕ) (n serial : ℕ) (es' : List Entry) → y.bucket < length lasts → numbers ≡ get_or lists y.bucket e → new ≡ numbers ++ n ∷ [] → n ≡ length es + 1
+      → es' ≡ es ++ y ∷ [] → AreListsKept bits es' (slice_set lasts y.bucket serial) (slice_set lists y.bucket new)
   kept_link y numbers new e n serial es' below list is number pushed = record {
     buckets = length-set lasts y.bucket serial ∙ kept.buckets;
     lists = length-set lists y.bucket new ∙ kept.lists;
-    listed = listed_link es lists kept.listed y numbers (at_place lists y.bucket numbers e (let m = kept.lists in omega (arith, m, below)) list) es' pushed
+    listed = listed_link es lists kept.listed y numbers (at_place lists y.bucket numbers e (let n = kept.lists in let m = kept.buckets in omega (arith, n, m, below)) list) es' pushed
         (slice_set lists y.bucket new) (ap (λ (ns : List ℕ). slice_set lists y.bucket ns) is ∙ ap (λ (i : ℕ). slice_set lists y.bucket (numbers ++ i ∷ [])) number);
   }
 
-module _ (w : World) (pass : Pass) (lasts : List ℕ) (lists : List (List ℕ)) (kept : AreListsKept w.entries lasts lists) (below : pass.bucket < most_buckets) (numbers e : List ℕ) (list : numbers ≡ get_or lists pass.bucket e) where
+module _ {bits : ℕ} (w : World) (pass : Pass) (lasts : List ℕ) (lists : List (List ℕ)) (kept : AreListsKept bits w.entries lasts lists) (below : pass.bucket < length lasts) (numbers e : List ℕ) (list : numbers ≡ get_or lists pass.bucket e) where
   there : At lists pass.bucket numbers
-  there = at_place lists pass.bucket numbers e (let m = kept.lists in omega (arith, m, below)) list
+  there = at_place lists pass.bucket numbers e (let n = kept.lists in let m = kept.buckets in omega (arith, n, m, below)) list
 
   pub seen_by_list : list_all (is_seen w.entries pass.bucket pass.looked) numbers ≡ all_looked_at w pass
   seen_by_list = seen_same w pass lists numbers kept.listed there
@@ -235,7 +234,16 @@ module _ (w : World) (pass : Pass) (lasts : List ℕ) (lists : List (List ℕ)) 
 
 -- ---- as the code reads it
 
-module _ (old w : World) (same : old ≡ w) (mine pass : Pass) (is : mine ≡ pass) (lasts : List ℕ) (lists : List (List ℕ)) (kept : AreListsKept old.entries lasts lists) (below : mine.bucket < most_buckets)
+-- the pass that was read at a place holds one of the world's buckets
+pub within_at : (old w : World) (same : old ≡ w) → AreWithin w → (at : ℕ) (pass mine : Pass) → At w.passes at pass → mine ≡ pass → mine.bucket < length old.lasts
+within_at old w same within at pass mine there is =
+    subst (λ (p : Pass). p.bucket < length old.lasts) (sym is) (subst (λ (v : World). pass.bucket < length v.lasts) (sym same) (within at pass there))
+
+pub within_read : (old w : World) (same : old ≡ w) → AreWithin w → (at : ℕ) → at < length w.passes → (mine read d : Pass) → read ≡ get_or old.passes at d → mine ≡ read → mine.bucket < length old.lasts
+within_read old w same within at h mine read d is view =
+    within_at old w same within at read mine (subst (λ (v : World). At v.passes at read) same (at_place old.passes at read d (subst (λ (v : World). at < length v.passes) (sym same) h) is)) view
+
+module _ {bits : ℕ} (old w : World) (same : old ≡ w) (mine pass : Pass) (is : mine ≡ pass) (lasts : List ℕ) (lists : List (List ℕ)) (kept : AreListsKept bits old.entries lasts lists) (below : mine.bucket < length lasts)
     (numbers e : List ℕ) (list : numbers ≡ get_or lists mine.bucket e) (es : List Entry) (entries : es ≡ old.entries) where
   pub seen_in : (looked : List ℕ) → looked ≡ mine.looked → (result : Bool) → result ≡ list_all (is_seen es mine.bucket looked) numbers → result ≡ all_looked_at w pass
   seen_in looked looks result r =

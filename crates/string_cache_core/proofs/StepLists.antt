@@ -102,6 +102,11 @@ module _ {X : Type 0} where
       (λ pz e. let f : z ≡ x = cc in subst P f all.0)
       (λ pz e. find-all p P xs x e all.1) h
 
+  pub all_at : (P : X → Type 0) (xs : List X) (k : ℕ) (x : X) → At xs k x → AllByRecursion P xs → P x
+  all_at P [] k x at all = absurd (let e : ◌≡◌ {A = Option X} None (Some x) = at in cc)
+  all_at P (y ∷ ys) zero x at all = subst P (let e : ◌≡◌ {A = Option X} (Some y) (Some x) = at in cc) all.0
+  all_at P (y ∷ ys) (suc k) x at all = all_at P ys k x at all.1
+
   pub all_push : (P : X → Type 0) (xs : List X) (y : X) → AllByRecursion P xs → P y → AllByRecursion P (xs ++ y ∷ [])
   all_push P [] y all py = (py, tt)
   all_push P (z ∷ xs) y all py = (all.0, all_push P xs y all.1 py)

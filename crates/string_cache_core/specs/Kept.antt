@@ -39,9 +39,11 @@ pub record IsGiven (t : Tables) (buckets : ℕ) (last : ℕ → ℕ) (text : Lis
   pub is : had.ticket ≡ ticket_of serial (entry_hash t text % buckets)
   pub held : 0 < had.holders
 
--- The tickets stand in a list of their own, each at the place of its text, and the bytes of the texts are counted.
-pub record IsKeptTable (t : Tables) (lasts : List ℕ) (pairs : List Pair) (tickets : List ℕ) (bytes : ℕ) : Type 0 where
-  pub buckets : length lasts ≡ most_buckets
+-- There are 2 ^ bits buckets. The tickets stand in a list of their own, each at the place of its text, and the bytes of the
+-- texts are counted.
+pub record IsKeptTable (t : Tables) (bits : ℕ) (lasts : List ℕ) (pairs : List Pair) (tickets : List ℕ) (bytes : ℕ) : Type 0 where
+  pub buckets : length lasts ≡ 2 ^ bits
+  pub few : length lasts ≤ most_buckets
   pub given : (at : ℕ) (pair : Pair) → slice_get pairs at ≡ Some pair → IsGiven t (length lasts) (slice_index lasts) pair.0 pair.1
   pub short : (at : ℕ) (pair : Pair) → slice_get pairs at ≡ Some pair → length pair.0 < 2 ^ 64
   pub index : tickets ≡ tickets_of pairs

@@ -1,9 +1,8 @@
 -- Words of private contracts of steps: the numbers of each bucket's entries.
-use Rattle.std.specs.Prelude.{◌≡◌, ℕ, ◌&&◌, ◌||◌, not, Bool, true, zero, suc, List, length, Option, None, slice_get}
+use Rattle.std.specs.Prelude.{◌≡◌, ℕ, ◌^◌, ◌<◌, ◌&&◌, ◌||◌, not, Bool, true, zero, suc, List, length, Option, None, slice_get}
 use Rattle.std.specs.Option.{option_map_or}
 use Rattle.std.specs.Str.{bytes_eq}
-use Rattle.string_cache_core.specs.Layout.{most_buckets}
-use Rattle.string_cache_core.specs.World.{Entry, is_linked}
+use Rattle.string_cache_core.specs.World.{Entry, Pass, World, is_linked}
 use Rattle.string_cache_core.specs.Steps.{has, is_linked_in}
 use Rattle.string_cache_core.specs.Sound.{At}
 
@@ -24,8 +23,12 @@ is_dying entries text dying number = option_map_or (λ entry. not (is_linked ent
 abbrev pub AreListed : List Entry → List (List ℕ) → Type 0
 AreListed entries lists = (k : ℕ) (x : Entry) (numbers : List ℕ) → At entries k x → is_linked x.place ≡ true → At lists x.bucket numbers → has numbers (suc k) ≡ true
 
--- there are as many buckets as tickets tell apart, with a list for each
-pub record AreListsKept (entries : List Entry) (lasts : List ℕ) (linked : List (List ℕ)) : Type 0 where
-  pub buckets : length lasts ≡ most_buckets
-  pub lists : length linked ≡ most_buckets
+-- each party that isn't idle holds one of the world's buckets
+abbrev pub AreWithin : World → Type 0
+AreWithin w = (at : ℕ) (pass : Pass) → At w.passes at pass → pass.bucket < length w.lasts
+
+-- there are 2 ^ bits buckets, with a list for each
+pub record AreListsKept (bits : ℕ) (entries : List Entry) (lasts : List ℕ) (linked : List (List ℕ)) : Type 0 where
+  pub buckets : length lasts ≡ 2 ^ bits
+  pub lists : length linked ≡ 2 ^ bits
   pub listed : AreListed entries linked

@@ -3,10 +3,10 @@
 //! from texts to tickets and holders.
 #![tactic(auto)]
 
-ghost use Rattle.std.specs.Prelude.{◌≡◌, ◌+◌, false, length, IfOk, OnOk, OnErr, Some};
+ghost use Rattle.std.specs.Prelude.{◌≡◌, ◌+◌, ◌^◌, false, length, IfOk, OnOk, OnErr, Some};
 ghost use Rattle.std.specs.Option.{option_map};
 ghost use Rattle.string_cache_core.specs.Faults.{RefusesUnchanged};
-ghost use Rattle.string_cache_core.specs.Layout.{most_buckets};
+ghost use Rattle.string_cache_core.specs.Layout.{usual_buckets};
 ghost use Rattle.string_cache_core.specs.Steps.{IsStep, entry_at, opening};
 ghost use Rattle.string_cache_core.specs.Theorem.{HasRun};
 ghost use Rattle.string_cache_core.specs.PassSteps.{PassIsSteps};
@@ -20,7 +20,7 @@ mod tests;
 
 use crate::faults::Fault;
 use crate::static_sets::StaticAtomSet;
-use crate::word::Limits;
+use crate::word::{Buckets, Limits};
 use state::State;
 use std::alloc::Global;
 use std::marker::{Model, PhantomData};
@@ -97,7 +97,7 @@ pub enum StepReply {
     Left,
 }
 
-/// A world of `MOST_BUCKETS` buckets and of the entries that were ever linked in them, in which parties make steps.
+/// A world of buckets and of the entries that were ever linked in them, in which parties make steps.
 #[derive(Drop)]
 pub struct World<S: StaticAtomSet> {
     state: State,
@@ -119,12 +119,20 @@ impl<S: StaticAtomSet> World<S> {
     ghost use Rattle.string_cache_core.specs.World as world;
     ghost use Rattle.string_cache_core.specs.World.{is_linked};
 
-    /// A world in which nothing is linked, nothing is held, and all parties are idle.
+    /// A world with the usual number of buckets, in which nothing is linked, nothing is held, and all parties are idle.
     pub fn new(alloc: Global, limits: Limits) -> Result<Self, Fault>
-        ensures ok { IfOk result (λ world. world ≡ opening limits most_buckets) }
+        ensures ok { IfOk result (λ world. world ≡ opening limits usual_buckets) }
         ensures err { OnErr result (result ≡ Err Fault.Memory) }
     {
-        let state = State::new(alloc, limits)?;
+        World::with_buckets(alloc, limits, Buckets::usual())
+    }
+
+    /// A world with so many buckets, in which nothing is linked, nothing is held, and all parties are idle.
+    pub fn with_buckets(alloc: Global, limits: Limits, buckets: Buckets) -> Result<Self, Fault>
+        ensures ok { IfOk result (λ world. world ≡ opening limits (2 ^ buckets)) }
+        ensures err { OnErr result (result ≡ Err Fault.Memory) }
+    {
+        let state = State::new(alloc, limits, buckets)?;
         Ok(World {
             state,
             of: PhantomData,

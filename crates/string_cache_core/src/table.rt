@@ -9,7 +9,7 @@ ghost use Rattle.string_cache_core.specs.Calls.{Answers, AnswersAll};
 ghost use Rattle.std.specs.List.{IsDistinct, sum_by};
 ghost use Rattle.std.specs.Map.{keys_of};
 ghost use Rattle.std.specs.Str.{bytes_eq};
-ghost use Rattle.string_cache_core.specs.Layout.{holder_bound, most_buckets, serial_bound};
+ghost use Rattle.string_cache_core.specs.Layout.{holder_bound, serial_bound, usual_buckets};
 ghost use Rattle.string_cache_core.specs.Map.{Holding, InternMap, IsHeldTicket, Intern, MapReply, MayReply, empty_map, with_held, with_last, bucket_in};
 ghost use Rattle.string_cache_core.specs.Table.{Adds, Interns, Clones, Gives, AreHeld, GivesOnce, HasOneTextEach, HasWord, IsFixedWord, IsHeld, IsTextOf, KeepsWord, as_word};
 ghost use Rattle.string_cache_core.specs.Tables.{form_of_text, fixed_word, entry_hash};
@@ -23,7 +23,7 @@ mod tests;
 
 use crate::Fault;
 use crate::static_sets::{StaticAtomSet, TextForm, form_of_text, static_text};
-use crate::word::{Form, Limits, MOST_BUCKETS, bucket_of, form_of, static_word, ticket_word};
+use crate::word::{Buckets, Form, Limits, form_of, static_word, ticket_word};
 pub use call::{Call, TableReply};
 use held::{Held, write_holders};
 use indexmap::{IndexMap, IndexSet};
@@ -34,7 +34,8 @@ use std::marker::{Model, PhantomData};
 #[derive(Drop)]
 pub struct Table<S: StaticAtomSet> {
     limits: Limits,
-    lasts: Vec<u64>,
+    buckets: Buckets,
+    lasts: Vec<u64>, // a bucket's last serial
     entries: IndexMap<String, Held>,
     tickets: IndexSet<u64>, // each at the place of its entry
     bytes: u128, // of all texts together
@@ -49,31 +50,43 @@ impl<S: StaticAtomSet> Model for Table<S> {
 
     ghost view = { λ a. record { limits = a.limits; lasts = a.lasts.items; pairs = pairs_of a.entries.entries } };
 
-    ghost invariant = { λ a. IsKeptTable S.tables a.lasts.items (pairs_of a.entries.entries) a.tickets.keys a.bytes };
+    ghost invariant = { λ a. IsKeptTable S.tables a.buckets a.lasts.items (pairs_of a.entries.entries) a.tickets.keys a.bytes };
 }
 
 impl<S: StaticAtomSet> Table<S> {
     ghost use Rattle.string_cache_core.specs.Kept.{Kept, Pair, map_of, IsSoundMap};
     ghost use Rattle.string_cache_core.specs.Places.{IsPlace, IsFound};
 
-    /// A table in which nothing is held, with the greatest limits. `Memory` where its buckets find none.
+    /// A table in which nothing is held, with the greatest limits and the usual number of buckets. `Memory` where its buckets
+    /// find none.
     pub fn new(alloc: Global) -> Result<Self, Fault>
-        ensures empty { IfOk result (λ table. map_of table ≡ empty_map most_buckets) }
+        ensures empty { IfOk result (λ table. map_of table ≡ empty_map usual_buckets) }
         ensures limits { IfOk result (λ table. table.limits ≡ record { holders = holder_bound - 1; serials = serial_bound - 1 }) }
         ensures fault { IfErr result (λ fault. fault ≡ Memory) }
     {
         Table::with_limits(alloc, Limits::greatest())
     }
 
-    /// A table in which nothing is held, with these limits. `Memory` where its buckets find none.
+    /// A table in which nothing is held, with these limits and the usual number of buckets. `Memory` where its buckets find
+    /// none.
     pub fn with_limits(alloc: Global, limits: Limits) -> Result<Self, Fault>
-        ensures empty { IfOk result (λ table. map_of table ≡ empty_map most_buckets) }
+        ensures empty { IfOk result (λ table. map_of table ≡ empty_map usual_buckets) }
+        ensures limits { IfOk result (λ table. table.limits ≡ limits) }
+        ensures fault { IfErr result (λ fault. fault ≡ Memory) }
+    {
+        Table::with_buckets(alloc, limits, Buckets::usual())
+    }
+
+    /// A table in which nothing is held, with these limits and so many buckets. `Memory` where its buckets find none.
+    pub fn with_buckets(alloc: Global, limits: Limits, buckets: Buckets) -> Result<Self, Fault>
+        ensures empty { IfOk result (λ table. map_of table ≡ empty_map (2 ^ buckets)) }
         ensures limits { IfOk result (λ table. table.limits ≡ limits) }
         ensures fault { IfErr result (λ fault. fault ≡ Memory) }
     {
         Ok(Table {
             limits,
-            lasts: vec![in alloc; 0; MOST_BUCKETS]?,
+            buckets,
+            lasts: vec![in alloc; 0; buckets.number()]?,
             entries: IndexMap::new(alloc),
             tickets: IndexSet::new(alloc),
             bytes: 0,
@@ -266,11 +279,10 @@ impl<S: StaticAtomSet> Table<S> {
 
     /// The bucket of a dynamic text with this hash, and the bucket's last serial.
     fn bucket_and_last(&self, hash: u64) -> (u16, u64)
-        ensures buckets { (map_of self.now).buckets ≡ most_buckets }
         ensures bucket { result.0 ≡ hash % (map_of self.now).buckets }
         ensures last { result.1 ≡ (map_of self.now).last result.0 }
     {
-        let bucket = bucket_of(hash);
+        let bucket = self.buckets.bucket_of(hash);
         (bucket, self.lasts[bucket as usize])
     }
 

@@ -8,8 +8,8 @@ use crate::static_sets::{
     EmptyStaticAtomSet, PhfStrSet, StaticAtomSet, TextForm, check_parts, form_of_text, static_text,
 };
 use crate::word::{
-    Form, HOLDER_BOUND, InlineText, Limits, MOST_BUCKETS, SERIAL_BOUND, form_of, pack_inline_word,
-    static_word, ticket_word, unpack_inline,
+    Buckets, Form, HOLDER_BOUND, InlineText, Limits, MOST_BUCKETS, SERIAL_BOUND, form_of,
+    pack_inline_word, static_word, ticket_word, unpack_inline,
 };
 use std::fmt::Write;
 use std::test::Fail;
@@ -76,7 +76,9 @@ fn words_of_nothing(rt: HostRuntime) {
         0xff11,
         0x80_c021,
         0x80a0_ed31,
-        0x3ffc,
+        0x4000,
+        0x7ffc,
+        0xfffc,
     ] {
         assert_eq!(rt; form_of(word), None, "of {word:#x}");
         assert_eq!(rt; unpack_inline(word), None, "of {word:#x}");
@@ -92,22 +94,23 @@ fn other_words(rt: HostRuntime) {
         form_of(0xffff_ffff_0000_0002),
         Some(Form::Static(u32::MAX))
     );
-    assert_eq!(rt; form_of(0x4000), ticket(1, 0));
-    assert_eq!(rt; form_of(0x7ffc), ticket(1, last));
+    assert_eq!(rt; form_of(0x1_0000), ticket(1, 0));
+    assert_eq!(rt; form_of(0x1_fffc), ticket(1, last));
     assert_eq!(rt;
         form_of(0xffff_ffff_ffff_fffc),
         ticket(SERIAL_BOUND - 1, last)
     );
     assert_eq!(rt; ticket_word(SERIAL_BOUND - 1, last), 0xffff_ffff_ffff_fffc);
-    assert_eq!(rt; ticket_word(1, 0), 0x4000);
+    assert_eq!(rt; ticket_word(1, 0), 0x1_0000);
+    assert_eq!(rt; ticket_word(1, 4095), 0x1_3ffc);
+    assert_eq!(rt; ticket_word(1, 16383), 0x1_fffc);
     assert_eq!(rt; static_word(0), 2);
     assert_eq!(rt; static_word(3), 0x3_0000_0002);
 }
 
 #[test]
 fn limits(rt: HostRuntime) {
-    assert_eq!(rt; (HOLDER_BOUND, SERIAL_BOUND), (1 << 63, 1 << 50));
-    assert_eq!(rt; MOST_BUCKETS, 4096);
+    assert_eq!(rt; (HOLDER_BOUND, SERIAL_BOUND), (1 << 63, 1 << 48));
     for (holders, serials) in [(0, 1), (1, 0), (HOLDER_BOUND, 1), (1, SERIAL_BOUND)] {
         assert_eq!(rt; Limits::new(holders, serials), None);
     }
@@ -117,6 +120,19 @@ fn limits(rt: HostRuntime) {
         Limits::new(HOLDER_BOUND - 1, SERIAL_BOUND - 1),
         Some(Limits::greatest())
     );
+}
+
+#[test]
+fn numbers_of_buckets(rt: HostRuntime) {
+    assert_eq!(rt; MOST_BUCKETS, 16384);
+    for (bits, number) in [(0, 1), (1, 2), (12, 4096), (14, MOST_BUCKETS)] {
+        let buckets = Buckets::new(bits).expect(&rt, "a number of buckets");
+        assert_eq!(rt; (buckets.bits(), buckets.number()), (bits, number));
+        assert_eq!(rt; usize::from(buckets.bucket_of(u64::MAX)), number - 1);
+        assert_eq!(rt; buckets.bucket_of(0xffff_ffff_ffff_0000), 0);
+    }
+    assert_eq!(rt; (Buckets::new(15), Buckets::new(255)), (None, None));
+    assert_eq!(rt; Buckets::usual().bits(), 12);
 }
 
 /// The vector that was published with SipHash.

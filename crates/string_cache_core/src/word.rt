@@ -1,10 +1,10 @@
 //! The word of an atom: an inline text, an index into static tables, or a ticket.
 #![tactic(auto)]
 
-ghost use Rattle.std.specs.Prelude.{◌≡◌, ℕ, ◌-◌, ◌%◌, ◌<◌, ◌≤◌, ◌↔◌, length, IsSome, IfSome};
+ghost use Rattle.std.specs.Prelude.{◌≡◌, ℕ, ◌-◌, ◌%◌, ◌^◌, ◌<◌, ◌≤◌, ◌↔◌, length, IsSome, IfSome};
 ghost use Rattle.string_cache_core.specs.Bounds.{AreBounds};
 ghost use Rattle.string_cache_core.specs.Form.{IsFormOf};
-ghost use Rattle.string_cache_core.specs.Layout.{holder_bound, most_buckets, serial_bound};
+ghost use Rattle.string_cache_core.specs.Layout.{holder_bound, most_bits, most_buckets, serial_bound, usual_bits};
 ghost use Rattle.string_cache_core.specs.Word.{IsInlineText, IsInlineWord, inline_word, ticket_of, static_word, IsTicket};
 
 use std::fmt::{self, Debug, Formatter, Write};
@@ -12,15 +12,19 @@ use std::marker::Model;
 use std::str;
 
 /// The most buckets that tickets tell apart.
-pub const MOST_BUCKETS: usize = 4096;
+pub const MOST_BUCKETS: usize = 1 << MOST_BITS;
 /// Serials are below: a ticket has 64 bits.
-pub const SERIAL_BOUND: u64 = 1 << 50;
+pub const SERIAL_BOUND: u64 = 1 << 48;
 /// Numbers of holders are below.
 pub const HOLDER_BOUND: u64 = 1 << 63;
 
 const BUCKET_SHIFT: u32 = 2; // above the tag
 
-const SERIAL_SHIFT: u32 = 14; // above the bucket
+const SERIAL_SHIFT: u32 = 16; // above the bucket
+
+const MOST_BITS: u8 = 14; // of a bucket
+
+const USUAL_BITS: u8 = 12; // where no other number of buckets is chosen
 
 /// A text of at most 7 bytes, as an inline word holds it.
 #[derive(Clone, Copy, PartialEq, Eq)]
@@ -146,14 +150,6 @@ pub fn static_word(index: u32) -> u64
     u64::from(index) << 32 | 2
 }
 
-/// The bucket of a dynamic text with this hash: its low bits.
-pub fn bucket_of(hash: u64) -> u16
-    ensures bucket { result ≡ hash % most_buckets }
-    ensures range { result < most_buckets }
-{
-    (hash % MOST_BUCKETS as u64) as u16
-}
-
 /// The word of an entry, of the serial that its bucket gave it and the bucket.
 pub fn ticket_word(serial: u64, bucket: u16) -> u64
     requires { IsTicket serial bucket }
@@ -181,6 +177,71 @@ pub fn form_of(word: u64) -> Option<Form>
         })
     } else {
         None
+    }
+}
+
+/// How many buckets there are: 2 to the power of its bits, from 1 bucket to `MOST_BUCKETS`. In a clause it is its bits.
+#[derive(Clone, Copy, Debug, PartialEq, Eq)]
+pub struct Buckets {
+    bits: u8,
+}
+
+impl Model for Buckets {
+    ghost use Rattle.std.specs.Prelude.{ℕ, ◌≤◌};
+    ghost use Rattle.string_cache_core.specs.Layout.{most_bits};
+
+    ghost Value = { ℕ };
+
+    ghost view = { λ b. b.bits };
+
+    ghost invariant = { λ b. b.bits ≤ most_bits };
+
+    ghost inverse = { λ v. record { bits = v } };
+}
+
+impl Buckets {
+    /// The number of buckets with so many bits, from 0 to 14. `None` above.
+    pub fn new(bits: u8) -> Option<Buckets>
+        ensures range { IsSome result ↔ (bits ≤ most_bits) }
+        ensures bits { IfSome result (λ buckets. buckets ≡ bits) }
+    {
+        if bits > MOST_BITS {
+            return None;
+        }
+        Some(Buckets { bits })
+    }
+
+    /// The usual number of buckets, which has 12 bits.
+    pub fn usual() -> Buckets
+        ensures { result ≡ usual_bits }
+    {
+        Buckets { bits: USUAL_BITS }
+    }
+
+    /// The bits of the number of buckets.
+    pub fn bits(&self) -> u8
+        ensures value { result ≡ self.now }
+        ensures range { result ≤ most_bits }
+    {
+        self.bits
+    }
+
+    /// The number of buckets.
+    #[tactic(auto, using(crate::proofs::BucketCounts::number_range))]
+    pub fn number(&self) -> usize
+        ensures value { result ≡ 2 ^ self.now }
+        ensures range { (1 ≤ result) × (result ≤ most_buckets) }
+    {
+        1 << self.bits
+    }
+
+    /// The bucket of a dynamic text with this hash: the low bits of the hash.
+    pub fn bucket_of(&self, hash: u64) -> u16
+        ensures bucket { result ≡ hash % 2 ^ self.now }
+        ensures below { result < 2 ^ self.now }
+        ensures range { result < most_buckets }
+    {
+        (hash % self.number() as u64) as u16
     }
 }
 

@@ -7,7 +7,7 @@ use string_cache::word::Limits;
 use string_cache::{Atom, DefaultAtom, EmptyStaticAtomSet, Fault};
 
 /// The first ticket of "interned": its bucket is 0x210, the low bits of its SipHash by OpenSSL.
-const FIRST: u64 = 0x4840;
+const FIRST: u64 = 0x1_0840;
 
 #[test]
 fn set_is_made(rt: HostRuntime) -> Result<(), Fail> {

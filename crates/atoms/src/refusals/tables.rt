@@ -8,7 +8,7 @@ use string_cache::word::Limits;
 use string_cache::{EmptyStaticAtomSet, Fault};
 
 /// The first ticket of "interned", and the next one.
-const FIRST: u64 = 0x4840;
+const FIRST: u64 = 0x1_0840;
 
 const SECOND: u64 = 0x8840;
 

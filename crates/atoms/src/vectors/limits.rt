@@ -5,9 +5,9 @@ use string_cache::word::Limits;
 use string_cache::{DefaultAtom, EmptyStaticAtomSet, Fault};
 
 /// The first ticket of "interned", and how far apart two tickets are that a bucket gives one after the other.
-const FIRST: u64 = 0x4840;
+const FIRST: u64 = 0x1_0840;
 
-const TICKET_UNIT: u64 = 16384;
+const TICKET_UNIT: u64 = 65536;
 
 #[test]
 fn one_holder_and_one_serial(rt: HostRuntime) -> Result<(), Fail> {

@@ -25,35 +25,44 @@ fn words_of_each_form(rt: HostRuntime) {
         (0x71, InlineText::new("\0\0\0\0\0\0\0").map(Form::Inline)),
         (0x2, Some(Form::Static(0))),
         (
-            0x4000,
+            0x1_0000,
             Some(Form::Dynamic {
                 serial: 1,
                 bucket: 0,
             }),
         ),
         (
-            0x7ffc,
+            0x1_fffc,
             Some(Form::Dynamic {
                 serial: 1,
-                bucket: 4095,
+                bucket: 16383,
             }),
         ),
     ] {
         assert!(rt; form.is_some() && form_of(word) == form, "of {word:#x}");
     }
-    assert_eq!(rt; ticket_word((1 << 50) - 1, 4095), 0xffff_ffff_ffff_fffc);
+    assert_eq!(rt; ticket_word(1, 4095), 0x1_3ffc);
+    assert_eq!(rt; ticket_word(1, 16383), 0x1_fffc);
+    assert_eq!(rt; ticket_word((1 << 48) - 1, 16383), 0xffff_ffff_ffff_fffc);
 }
 
 #[test]
 fn limits_in_range(rt: HostRuntime) {
-    for (holders, serials) in [(0, 1), (1, 0), (1 << 63, 1), (1, 1 << 50)] {
+    for (holders, serials) in [
+        (0, 1),
+        (1, 0),
+        (1 << 63, 1),
+        (1, 1 << 48),
+        (1, 1 << 50),
+        ((1 << 63) - 1, (1 << 50) - 1),
+    ] {
         assert_eq!(rt;
             Limits::new(holders, serials),
             None,
             "of {holders}, {serials}"
         );
     }
-    for (holders, serials) in [(1, 1), ((1 << 63) - 1, (1 << 50) - 1)] {
+    for (holders, serials) in [(1, 1), (1, (1 << 48) - 1), ((1 << 63) - 1, (1 << 48) - 1)] {
         let limits = Limits::new(holders, serials).expect(&rt, "limits");
         assert_eq!(rt; (limits.holders(), limits.serials()), (holders, serials));
     }

@@ -1,10 +1,9 @@
 // A bucket: what one lock holds.
 ghost use Rattle.std.specs.Prelude.{◌≡◌, ◌<◌, [], length, IfOk, IfErr, Some, None};
 ghost use Rattle.std.specs.List.{AllByRecursion};
-ghost use Rattle.string_cache_core.specs.Layout.{most_buckets};
 ghost use Rattle.string_cache_core.specs.Tables.{entry_hash};
 ghost use Rattle.string_cache_core.specs.Faults.{IsInternFault};
-ghost use Rattle.string_cache.specs.Chain.{IsRight};
+ghost use Rattle.string_cache.specs.Chain.{IsOfBucket, IsRight};
 ghost use Rattle.string_cache.specs.Counted.{GivesShares, IsPass};
 ghost use Rattle.string_cache.specs.Link.{IsLink, IsIntern};
 ghost use Rattle.string_cache.specs.PassLeft.{IsPassLeft};
@@ -18,14 +17,15 @@ use std::marker::{Model, PhantomData};
 use std::sync::Wait;
 use string_cache_core::Fault;
 use string_cache_core::static_sets::StaticAtomSet;
-use string_cache_core::word::{Limits, bucket_of, ticket_word};
+use string_cache_core::word::{Buckets, Limits, ticket_word};
 
 /// What one lock of a set holds: entries, newest first, and the serial that it gave last.
 ///
-/// Each entry's hash is that of its text, its ticket is that of its serial in the bucket of the
-/// hash, and no serial is given twice. Which lock a bucket stands under isn't known here.
+/// It is one of so many buckets. Each entry's hash is that of its text, its ticket is that of its serial in the bucket of
+/// the hash, and no serial is given twice. Which lock a bucket stands under isn't known here.
 #[derive(Drop)]
 pub struct Bucket<Static: StaticAtomSet> {
+    buckets: Buckets,
     entries: Entries,
     last: u64,
     alloc: Global,
@@ -35,21 +35,22 @@ pub struct Bucket<Static: StaticAtomSet> {
 impl<Static: StaticAtomSet> Model for Bucket<Static> {
     ghost use Rattle.std.specs.Prelude.{◌≡◌, []};
     ghost use Rattle.string_cache.specs.Chain.{Chain, IsKept};
-    ghost use Rattle.string_cache_core.specs.Layout.{most_buckets};
 
     ghost Value = { Chain };
 
-    ghost view = { λ b. record { entries = b.entries.left; last = b.last } };
+    ghost view = { λ b. record { bits = b.buckets; entries = b.entries.left; last = b.last } };
 
-    ghost invariant = { λ b. (b.entries.passed ≡ []) × IsKept Static.tables most_buckets (record { entries = b.entries.left; last = b.last }) };
+    ghost invariant = { λ b. (b.entries.passed ≡ []) × IsKept Static.tables (record { bits = b.buckets; entries = b.entries.left; last = b.last }) };
 }
 
 impl<Static: StaticAtomSet> Bucket<Static> {
-    /// A bucket without entries, which has given no serial.
-    pub fn new(alloc: Global) -> Self
-        ensures { result ≡ record { entries = []; last = 0 } }
+    /// A bucket without entries, which has given no serial: one of so many.
+    pub fn new(alloc: Global, buckets: Buckets) -> Self
+        ensures { result ≡ record { bits = buckets; entries = []; last = 0 } }
     {
+        let _ = buckets.bits(); // whose contract says how many they are at most
         Bucket {
+            buckets,
             entries: Entries::new(alloc),
             last: 0,
             alloc,
@@ -78,6 +79,7 @@ impl<Static: StaticAtomSet> Bucket<Static> {
     ) -> Pass<C::Share>
         requires { hash ≡ entry_hash Static.tables text.now }
         ensures pass { IsPass C.adds C.dies (Some text.now) counts.old self.old.entries result counts.new self.new.entries }
+        ensures bits { self.new.bits ≡ self.old.bits }
         ensures last { self.new.last ≡ self.old.last }
     {
         let answer = pass_left(rt, &mut self.entries, text, hash, counts);
@@ -88,6 +90,7 @@ impl<Static: StaticAtomSet> Bucket<Static> {
     /// One pass over all entries, which looks for no text: asks `counts` of each by `dying`, and unlinks those that are.
     pub fn prune<C: Counts>(&mut self, counts: &mut C)
         ensures pass { IsPass C.adds C.dies None counts.old self.old.entries Pass.Absent counts.new self.new.entries }
+        ensures bits { self.new.bits ≡ self.old.bits }
         ensures last { self.new.last ≡ self.old.last }
     {
         prune_left(&mut self.entries, counts);
@@ -101,15 +104,15 @@ impl<Static: StaticAtomSet> Bucket<Static> {
     /// leaves the bucket as it was.
     pub fn link(&mut self, text: &str, hash: u64, limits: &Limits) -> Result<Share, Fault>
         requires { hash ≡ entry_hash Static.tables text.now }
-        ensures link { IsLink most_buckets limits.now.serials text.now hash self.old result self.new }
-        ensures right { IfOk result (λ s. IsRight Static.tables most_buckets s) }
+        ensures link { IsLink limits.now.serials text.now hash self.old result self.new }
+        ensures right { IfOk result (λ s. IsRight Static.tables self.old.bits s) }
     {
         let greatest = limits.serials();
         if self.last >= greatest {
             return Err(Fault::TicketsSpent);
         }
         let serial = self.last + 1;
-        let ticket = ticket_word(serial, bucket_of(hash));
+        let ticket = ticket_word(serial, self.buckets.bucket_of(hash));
         let (entry, share) = Entry::new(self.alloc, ticket, text, hash, limits.holders())?;
         if let Err(refused) = self.entries.add_head(entry) {
             // The share goes first, so that the entry ends without any.
@@ -136,8 +139,8 @@ impl<Static: StaticAtomSet> Bucket<Static> {
         counts: &mut C,
     ) -> Result<Share, Fault>
         requires { hash ≡ entry_hash Static.tables text.now }
-        ensures intern { IsIntern C.adds C.dies most_buckets limits.now.serials text.now hash counts.old self.old result counts.new self.new }
-        ensures share { GivesShares C.adds → IfOk result (λ s. (s.text ≡ text.now) × IsRight Static.tables most_buckets s) }
+        ensures intern { IsIntern C.adds C.dies limits.now.serials text.now hash counts.old self.old result counts.new self.new }
+        ensures share { GivesShares C.adds → IfOk result (λ s. (s.text ≡ text.now) × IsRight Static.tables self.old.bits s) }
     {
         let _ = &self.entries; // so that the proof sees what the bucket keeps
         match self.pass(rt, text, hash, counts) {
@@ -148,6 +151,7 @@ impl<Static: StaticAtomSet> Bucket<Static> {
     }
 
     /// A share of the text's entry, by the counts that the entries have themselves.
+    #[tactic(auto, using(crate::proofs::Shares::of_bucket))]
     pub(super) fn share_of<R: Wait>(
         &mut self,
         rt: &R,
@@ -157,9 +161,10 @@ impl<Static: StaticAtomSet> Bucket<Static> {
     ) -> Result<Share, Fault>
         requires { hash ≡ entry_hash Static.tables text.now }
         ensures text { IfOk result (λ s. s.text ≡ text.now) }
-        ensures right { IfOk result (λ s. IsRight Static.tables most_buckets s) }
+        ensures right { IfOk result (λ s. IsOfBucket Static.tables s) }
         ensures refused { IfErr result IsInternFault }
     {
+        let _ = self.buckets.bits(); // whose contract says how many they are at most
         self.intern(rt, text, hash, limits, &mut OwnCounts)
     }
 }

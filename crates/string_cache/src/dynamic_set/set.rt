@@ -1,9 +1,9 @@
 // The set: buckets behind locks.
 ghost use Rattle.std.specs.Prelude.{◌≡◌, ◌-◌, IfOk, IfErr};
 ghost use Rattle.string_cache_core.specs.Faults.{IsInternFault};
-ghost use Rattle.string_cache_core.specs.Layout.{holder_bound, most_buckets, serial_bound};
+ghost use Rattle.string_cache_core.specs.Layout.{holder_bound, serial_bound};
 ghost use Rattle.string_cache_core.specs.Tables.{entry_hash};
-ghost use Rattle.string_cache.specs.Chain.{IsRight};
+ghost use Rattle.string_cache.specs.Chain.{IsOfBucket};
 
 use super::bucket::Bucket;
 use super::counts::OwnCounts;
@@ -14,30 +14,30 @@ use std::marker::Model;
 use std::sync::{Mutex, Wait};
 use string_cache_core::Fault;
 use string_cache_core::static_sets::StaticAtomSet;
-use string_cache_core::word::{Limits, MOST_BUCKETS, bucket_of};
+use string_cache_core::word::{Buckets, Limits};
 
-/// The dynamic texts of a static type, in `MOST_BUCKETS` buckets. Threads share it.
+/// The dynamic texts of a static type, in buckets by their hashes. Threads share it.
 #[derive(Drop)]
 pub struct Set<Static: StaticAtomSet> {
     pub(super) buckets: Vec<Mutex<Bucket<Static>>>,
+    count: Buckets,
     limits: Limits,
     alloc: Global,
 }
 
 impl<Static: StaticAtomSet> Model for Set<Static> {
-    ghost use Rattle.std.specs.Prelude.{◌≡◌, vec_len};
+    ghost use Rattle.std.specs.Prelude.{◌≡◌, ◌^◌, vec_len};
     ghost use Rattle.string_cache.specs.SetValue.{SetValue};
-    ghost use Rattle.string_cache_core.specs.Layout.{most_buckets};
 
     ghost Value = { SetValue };
 
     ghost view = { λ s. record { limits = s.limits } };
 
-    ghost invariant = { λ s. vec_len s.buckets ≡ most_buckets };
+    ghost invariant = { λ s. vec_len s.buckets ≡ 2 ^ s.count };
 }
 
 impl<Static: StaticAtomSet> Set<Static> {
-    /// A set without texts, with the greatest limits. It is refused for `Memory` alone.
+    /// A set without texts, with the greatest limits and the usual number of buckets. It is refused for `Memory` alone.
     pub fn new(alloc: Global) -> Result<Self, Fault>
         ensures limits { IfOk result (λ set. set.limits ≡ record { holders = holder_bound - 1; serials = serial_bound - 1 }) }
         ensures refused { IfErr result (λ fault. fault ≡ Fault.Memory) }
@@ -45,17 +45,26 @@ impl<Static: StaticAtomSet> Set<Static> {
         Self::with_limits(alloc, Limits::greatest())
     }
 
-    /// A set without texts, with these limits. It is refused for `Memory` alone.
+    /// A set without texts, with these limits and the usual number of buckets. It is refused for `Memory` alone.
     pub fn with_limits(alloc: Global, limits: Limits) -> Result<Self, Fault>
         ensures limits { IfOk result (λ set. set.limits ≡ limits) }
         ensures refused { IfErr result (λ fault. fault ≡ Fault.Memory) }
     {
-        let mut buckets = Vec::with_capacity(alloc, MOST_BUCKETS)?;
-        for _ in 0..MOST_BUCKETS {
-            buckets.push(Mutex::new(Bucket::new(alloc)))?;
+        Self::with_buckets(alloc, limits, Buckets::usual())
+    }
+
+    /// A set without texts, with these limits and so many buckets. It is refused for `Memory` alone.
+    pub fn with_buckets(alloc: Global, limits: Limits, count: Buckets) -> Result<Self, Fault>
+        ensures limits { IfOk result (λ set. set.limits ≡ limits) }
+        ensures refused { IfErr result (λ fault. fault ≡ Fault.Memory) }
+    {
+        let mut buckets = Vec::with_capacity(alloc, count.number())?;
+        for _ in 0..count.number() {
+            buckets.push(Mutex::new(Bucket::new(alloc, count)))?;
         }
         Ok(Set {
             buckets,
+            count,
             limits,
             alloc,
         })
@@ -100,10 +109,10 @@ impl<Static: StaticAtomSet> Set<Static> {
     ) -> Result<Held<'s, Static>, Fault>
         requires { hash ≡ entry_hash Static.tables text.now }
         ensures text { IfOk result (λ held. held.text ≡ text.now) }
-        ensures right { IfOk result (λ held. IsRight Static.tables most_buckets held) }
+        ensures right { IfOk result (λ held. IsOfBucket Static.tables held) }
         ensures refused { IfErr result IsInternFault }
     {
-        let mut bucket = self.buckets[usize::from(bucket_of(hash))].lock(rt);
+        let mut bucket = self.buckets[usize::from(self.count.bucket_of(hash))].lock(rt);
         let share = bucket.share_of(rt, text, hash, &self.limits)?;
         Ok(Held::new(share, self))
     }
@@ -122,7 +131,7 @@ impl<Static: StaticAtomSet> Set<Static> {
     #[cold]
     #[inline(never)]
     fn try_prune(&self, hash: u64) {
-        let at = usize::from(bucket_of(hash));
+        let at = usize::from(self.count.bucket_of(hash));
         if let Some(mut bucket) = self.buckets[at].try_lock() {
             bucket.prune(&mut OwnCounts);
         }

@@ -1,4 +1,5 @@
 // One bucket: passes with counts that are made up, its shares, and its serials.
+mod bits;
 mod holders;
 mod links;
 mod locks;
@@ -9,7 +10,7 @@ use super::{Bucket, CountReply, Counts, Entry, Pass, Share};
 use crate::Fault;
 use crate::samples::hash_of;
 use crate::static_sets::EmptyStaticAtomSet;
-use crate::word::{Limits, ticket_word};
+use crate::word::{Buckets, Limits, ticket_word};
 use std::sync::Wait;
 use std::test::Fail;
 
@@ -122,7 +123,7 @@ fn passes(rt: HostRuntime) -> Result<(), Fail> {
         (0, 0, 0, 0, [0, 0, 0]),
     ] {
         let limits = Limits::greatest();
-        let mut bucket = Bucket::new(rt.alloc());
+        let mut bucket = Bucket::new(rt.alloc(), Buckets::usual());
         let one = link(&mut bucket, "tokenised", &limits)?;
         let two = link(&mut bucket, "tokenised", &limits)?;
         let three = link(&mut bucket, "tokenised", &limits)?;
@@ -151,7 +152,7 @@ fn intern<R: Wait>(
 #[test]
 fn shares_of_a_bucket(rt: HostRuntime) -> Result<(), Fail> {
     let limits = Limits::new(2, 2).expect(&rt, "limits");
-    let mut bucket = Bucket::new(rt.alloc());
+    let mut bucket = Bucket::new(rt.alloc(), Buckets::usual());
     let one = intern(&rt, &mut bucket, "tokenised", &limits)?;
     let two = intern(&rt, &mut bucket, "tokenised", &limits)?;
     assert!(rt; one.ticket() == two.ticket());
@@ -170,7 +171,7 @@ fn shares_of_a_bucket(rt: HostRuntime) -> Result<(), Fail> {
 #[test]
 fn share_outlives_its_bucket(rt: HostRuntime) -> Result<(), Fail> {
     let limits = Limits::greatest();
-    let mut bucket = Bucket::new(rt.alloc());
+    let mut bucket = Bucket::new(rt.alloc(), Buckets::usual());
     let taken_out = link(&mut bucket, "tokenised", &limits)?;
     let mut fake = Fake {
         added: 0,
@@ -189,7 +190,7 @@ fn share_outlives_its_bucket(rt: HostRuntime) -> Result<(), Fail> {
 #[test]
 fn spent_tickets(rt: HostRuntime) -> Result<(), Fail> {
     let limits = Limits::new(1, 2).expect(&rt, "limits");
-    let mut bucket = Bucket::new(rt.alloc());
+    let mut bucket = Bucket::new(rt.alloc(), Buckets::usual());
     for serial in [1, 2] {
         let share = link(&mut bucket, "tokenised", &limits)?;
         assert!(rt; share.ticket() == ticket_word(serial, 0xe77));
@@ -204,7 +205,7 @@ fn spent_tickets(rt: HostRuntime) -> Result<(), Fail> {
 #[test]
 fn short_text_of_a_bucket(rt: HostRuntime) -> Result<(), Fail> {
     let limits = Limits::greatest();
-    let mut bucket = Bucket::new(rt.alloc());
+    let mut bucket = Bucket::new(rt.alloc(), Buckets::usual());
     let share = intern(&rt, &mut bucket, "foo", &limits)?;
     assert!(rt; share.ticket() == ticket_word(1, 0x283));
     let again = intern(&rt, &mut bucket, "foo", &limits)?;

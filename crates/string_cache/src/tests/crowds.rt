@@ -1,26 +1,17 @@
 // Texts of one bucket, and many workers at them.
 use crate::dynamic_set::Set;
-use crate::samples::hash_of;
+use crate::samples::{bucket_numbers, hash_of};
 use crate::static_sets::EmptyStaticAtomSet;
 use crate::table::Table;
-use crate::word::{MOST_BUCKETS, bucket_of};
+use crate::word::{Buckets, Limits};
 use crate::{Atom, DefaultAtom, Fault};
 use std::alloc::{AllocError, Global};
 use std::process::Abort;
 use std::sync::Wait;
 use std::test::Fail;
-use std::thread;
+use std::thread::{self, Threads};
 
-/// One text more than there are buckets.
-fn words(alloc: Global) -> Result<Vec<String>, AllocError> {
-    let mut texts = Vec::new(alloc);
-    for n in 0..=MOST_BUCKETS {
-        texts.push(format!(in alloc; "word{n:04}")?)?;
-    }
-    Ok(texts)
-}
-
-/// So many texts.
+/// So many texts: `w0000000`, `w0000001` and so on.
 fn numbers(alloc: Global, count: usize) -> Result<Vec<String>, AllocError> {
     let mut texts = Vec::new(alloc);
     for n in 0..count {
@@ -29,15 +20,20 @@ fn numbers(alloc: Global, count: usize) -> Result<Vec<String>, AllocError> {
     Ok(texts)
 }
 
-fn bucket_of_text(text: &str) -> u16 {
-    bucket_of(hash_of::<EmptyStaticAtomSet>(text))
+fn bucket_of_text(buckets: Buckets, text: &str) -> u16 {
+    buckets.bucket_of(hash_of::<EmptyStaticAtomSet>(text))
 }
 
 /// The bucket that is the first to have so many of the texts.
-fn crowded_bucket(alloc: Global, texts: &[String], wanted: u32) -> Result<u16, Fail> {
-    let mut counts = vec![in alloc; 0u32; MOST_BUCKETS]?;
+fn crowded_bucket(
+    alloc: Global,
+    buckets: Buckets,
+    texts: &[String],
+    wanted: u32,
+) -> Result<u16, Fail> {
+    let mut counts = vec![in alloc; 0u32; buckets.number()]?;
     for text in texts {
-        let bucket = bucket_of_text(text);
+        let bucket = bucket_of_text(buckets, text);
         if let Some(count) = counts.get_mut(usize::from(bucket)) {
             *count = count.saturating_add(1);
             if *count == wanted {
@@ -49,11 +45,16 @@ fn crowded_bucket(alloc: Global, texts: &[String], wanted: u32) -> Result<u16, F
 }
 
 /// So many of the texts, all of one bucket.
-fn bucket_mates(alloc: Global, texts: &[String], wanted: u32) -> Result<Vec<String>, Fail> {
-    let bucket = crowded_bucket(alloc, texts, wanted)?;
+fn bucket_mates(
+    alloc: Global,
+    buckets: Buckets,
+    texts: &[String],
+    wanted: u32,
+) -> Result<Vec<String>, Fail> {
+    let bucket = crowded_bucket(alloc, buckets, texts, wanted)?;
     let mut mates = Vec::new(alloc);
     for text in texts {
-        if bucket_of_text(text) == bucket && mates.len() < wanted as usize {
+        if bucket_of_text(buckets, text) == bucket && mates.len() < wanted as usize {
             mates.push(text.clone()?)?;
         }
     }
@@ -64,10 +65,11 @@ fn bucket_mates(alloc: Global, texts: &[String], wanted: u32) -> Result<Vec<Stri
 fn keeps_apart_in_a_set<R: Wait>(
     rt: &R,
     alloc: Global,
+    buckets: Buckets,
     first: &str,
     second: &str,
 ) -> Result<bool, Fault> {
-    let set: Set<EmptyStaticAtomSet> = Set::new(alloc)?;
+    let set: Set<EmptyStaticAtomSet> = Set::with_buckets(alloc, Limits::greatest(), buckets)?;
     let one = DefaultAtom::from_str_in(rt, &set, first)?;
     let two = DefaultAtom::from_str_in(rt, &set, second)?;
     let clones = (one.clone_atom(rt)?, two.clone_atom(rt)?);
@@ -100,10 +102,12 @@ fn clone_word(
 fn keeps_apart_in_a_table(
     rt: &impl Abort,
     alloc: Global,
+    buckets: Buckets,
     first: &str,
     second: &str,
 ) -> Result<bool, Fault> {
-    let mut table = Table::<EmptyStaticAtomSet>::new(alloc)?;
+    let limits = Limits::greatest();
+    let mut table = Table::<EmptyStaticAtomSet>::with_buckets(alloc, limits, buckets)?;
     let one = table.intern(first)?;
     let two = table.intern(second)?;
     let is_same = clone_word(rt, &mut table, one)? == one
@@ -117,17 +121,21 @@ fn keeps_apart_in_a_table(
     Ok(one != two && is_same && is_kept && is_left && table.entries() == 0)
 }
 
+/// Of one text more than there are buckets two have one bucket.
 #[test]
 fn two_texts_of_one_bucket(rt: HostRuntime) -> Result<(), Fail> {
     let alloc = rt.alloc();
-    let mates = bucket_mates(alloc, &words(alloc)?, 2)?;
-    let [first, second] = mates.as_slice() else {
-        return Err("not two texts".into());
-    };
-    assert!(rt; first != second);
-    assert!(rt; bucket_of_text(first) == bucket_of_text(second));
-    assert!(rt; keeps_apart_in_a_set(&rt, alloc, first, second)?);
-    assert!(rt; keeps_apart_in_a_table(&rt, alloc, first, second)?);
+    for buckets in bucket_numbers(alloc)? {
+        let texts = numbers(alloc, buckets.number() + 1)?;
+        let mates = bucket_mates(alloc, buckets, &texts, 2)?;
+        let [first, second] = mates.as_slice() else {
+            return Err("not two texts".into());
+        };
+        assert!(rt; first != second);
+        assert!(rt; bucket_of_text(buckets, first) == bucket_of_text(buckets, second));
+        assert!(rt; keeps_apart_in_a_set(&rt, alloc, buckets, first, second)?);
+        assert!(rt; keeps_apart_in_a_table(&rt, alloc, buckets, first, second)?);
+    }
     Ok(())
 }
 
@@ -149,18 +157,35 @@ fn turn_over<R: Wait>(
     Ok(is_same)
 }
 
-/// Of so many texts eleven at least have one bucket, as ten for each would be fewer.
+/// Workers at eleven texts of one bucket, in a set of so many buckets. As ten texts for each bucket would be fewer, some
+/// bucket has eleven.
+fn check_workers<R: Threads + Wait + Sync>(rt: &R, alloc: Global, bits: u8) -> Result<bool, Fail> {
+    let buckets = Buckets::new(bits).ok_or("bits")?;
+    let texts = numbers(alloc, 10 * buckets.number() + 1)?;
+    let mates = bucket_mates(alloc, buckets, &texts, 11)?;
+    let set: Set<EmptyStaticAtomSet> = Set::with_buckets(alloc, Limits::greatest(), buckets)?;
+    let (shared, texts) = (&set, mates.as_slice());
+    let turns = thread::map_indices(rt, alloc, 64, &|_| turn_over(rt, shared, texts))?;
+    let is_same = turns.len() == 64 && turns.iter().all(|turn| *turn == Ok(true));
+    set.sweep(rt);
+    Ok(mates.len() == 11 && is_same && set.linked(rt) == 0)
+}
+
 #[test]
 fn many_workers_at_one_bucket(rt: HostRuntime) -> Result<(), Fail> {
-    let alloc = rt.alloc();
-    let mates = bucket_mates(alloc, &numbers(alloc, 10 * MOST_BUCKETS + 1)?, 11)?;
-    assert!(rt; mates.len() == 11);
-    let set: Set<EmptyStaticAtomSet> = Set::new(alloc)?;
-    let (handle, shared, texts) = (&rt, &set, mates.as_slice());
-    let turns = thread::map_indices(&rt, alloc, 64, &|_| turn_over(handle, shared, texts))?;
-    assert!(rt; turns.len() == 64 && turns.iter().all(|turn| *turn == Ok(true)));
-    set.sweep(&rt);
-    assert!(rt; set.linked(&rt) == 0);
+    assert!(rt; check_workers(&rt, rt.alloc(), 12)?);
+    Ok(())
+}
+
+#[test]
+fn many_workers_at_the_only_bucket(rt: HostRuntime) -> Result<(), Fail> {
+    assert!(rt; check_workers(&rt, rt.alloc(), 0)?);
+    Ok(())
+}
+
+#[test]
+fn many_workers_at_one_of_the_most_buckets(rt: HostRuntime) -> Result<(), Fail> {
+    assert!(rt; check_workers(&rt, rt.alloc(), 14)?);
     Ok(())
 }
 

@@ -1,13 +1,14 @@
 // What a world keeps. No bag of tickets is kept: an entry's count is how often the bag has its ticket.
 #![tactic(auto)]
 
-ghost use Rattle.std.specs.Prelude.{◌≡◌, ℕ, ◌%◌, ◌^◌, ◌<◌, ◌==◌, ◌&&◌, not, nat_lt, List, length, IfOk, OnErr, MatchOption, IfSome, IfNone, is_none, slice_get, Some, None, true, false};
+ghost use Rattle.std.specs.Prelude.{◌≡◌, ℕ, ◌%◌, ◌^◌, ◌<◌, ◌≤◌, ◌==◌, ◌&&◌, not, nat_lt, List, length, IfOk, OnErr, MatchOption, IfSome, IfNone, is_none, slice_get, Some, None, true, false};
 ghost use Rattle.std.specs.List.{position, list_all};
 ghost use Rattle.std.specs.Option.{option_map, option_map_or};
 ghost use Rattle.string_cache_core.specs.Layout.{holder_bound, most_buckets, serial_bound};
 ghost use Rattle.string_cache_core.specs.World.{is_unlinked_by};
 ghost use Rattle.string_cache_core.specs.Sound.{SoundTable};
 ghost use Rattle.string_cache_core.specs.Steps.{all_found_dying, all_looked_at, entry_at, has, is_free, is_linked_in, last_of, opening, pass_of, wants};
+ghost use Rattle.string_cache_core.specs.Listed.{AreWithin};
 ghost use Rattle.string_cache_core.specs.StepPlaces.{PassAt, EntryAt};
 
 mod changes;
@@ -17,13 +18,14 @@ use super::entry::Entry;
 use super::listed::Listed;
 use super::pass::Pass;
 use crate::faults::Fault;
-use crate::word::{Limits, MOST_BUCKETS};
+use crate::word::{Buckets, Limits};
 use std::alloc::Global;
 use std::marker::Model;
 
 #[derive(Drop)]
 pub struct State {
     limits: Limits,
+    buckets: Buckets,
     lasts: Vec<u64>,
     entries: Vec<Entry>,
     // Of each bucket the numbers of its linked entries.
@@ -41,7 +43,7 @@ impl Model for State {
 
     ghost view = { λ a. record { limits = a.limits; lasts = a.lasts.items; entries = a.entries.items; passes = a.passes.items; bag = held_places a.entries.items } };
 
-    ghost invariant = { λ a. AreListsKept a.entries.items a.lasts.items a.linked.items };
+    ghost invariant = { λ a. AreListsKept a.buckets a.entries.items a.lasts.items a.linked.items };
 }
 
 fn place_of(passes: &[Pass], party: u32) -> Option<usize>
@@ -56,12 +58,12 @@ fn is_free(passes: &[Pass], bucket: u16) -> bool
     passes.iter().all(|pass| pass.bucket != bucket)
 }
 
-fn empty_lists(alloc: Global) -> Result<Vec<Listed>, Fault>
-    ensures ok { IfOk result (λ lists. length lists.items ≡ most_buckets) }
+fn empty_lists(alloc: Global, count: usize) -> Result<Vec<Listed>, Fault>
+    ensures ok { IfOk result (λ lists. length lists.items ≡ count) }
     ensures err { OnErr result (result ≡ Err Fault.Memory) }
 {
-    let mut lists = Vec::with_capacity(alloc, MOST_BUCKETS)?;
-    for _turn in 0..MOST_BUCKETS {
+    let mut lists = Vec::with_capacity(alloc, count)?;
+    for _turn in 0..count {
         lists.push(Listed::new(alloc))?;
     }
     Ok(lists)
@@ -70,14 +72,17 @@ fn empty_lists(alloc: Global) -> Result<Vec<Listed>, Fault>
 impl State {
     ghost use Rattle.string_cache_core.specs.World as world;
 
-    pub fn new(alloc: Global, limits: Limits) -> Result<State, Fault>
-        ensures ok { IfOk result (λ state. state ≡ opening limits most_buckets) }
+    pub fn new(alloc: Global, limits: Limits, buckets: Buckets) -> Result<State, Fault>
+        ensures ok { IfOk result (λ state. state ≡ opening limits (2 ^ buckets)) }
+        ensures few { (1 ≤ 2 ^ buckets) × (2 ^ buckets ≤ most_buckets) }
         ensures err { OnErr result (result ≡ Err Fault.Memory) }
     {
-        let lasts = vec![in alloc; 0; MOST_BUCKETS]?;
-        let linked = empty_lists(alloc)?;
+        let count = buckets.number();
+        let lasts = vec![in alloc; 0; count]?;
+        let linked = empty_lists(alloc, count)?;
         Ok(State {
             limits,
+            buckets,
             lasts,
             entries: Vec::new(alloc),
             linked,
@@ -109,7 +114,7 @@ impl State {
         ensures value { result ≡ hash % length self.now.lasts }
         ensures below { result < most_buckets }
     {
-        (hash % self.lasts.len() as u64) as u16
+        self.buckets.bucket_of(hash)
     }
 
     // The bucket of that number, where there is one.
@@ -117,7 +122,7 @@ impl State {
         ensures some { IfSome result (λ bucket. (bucket ≡ number) × (nat_lt number (length self.now.lasts) ≡ true) × (bucket < most_buckets)) }
         ensures none { IfNone result (nat_lt number (length self.now.lasts) ≡ false) }
     {
-        if (number as usize) < self.lasts.len() {
+        if (number as usize) < self.buckets.number() {
             Some(number as u16)
         } else {
             None
@@ -139,7 +144,8 @@ impl State {
     }
 
     fn last_at(&self, at: usize) -> u64
-        requires { at < length self.now.passes }
+        requires pass { at < length self.now.passes }
+        requires below { AreWithin self.now }
         ensures { (pass : world.Pass) → slice_get self.now.passes at ≡ Some pass → result ≡ last_of self.now pass.bucket }
     {
         let pass = &self.passes[at];
@@ -184,6 +190,7 @@ impl State {
     // Whether the pass has found each linked entry of the text dying.
     fn all_dying(&self, at: usize, text: &str) -> bool
         requires pass { at < length self.now.passes }
+        requires below { AreWithin self.now }
         requires placed { (pass : world.Pass) (k : ℕ) (entry : world.Entry) → slice_get self.now.passes at ≡ Some pass → slice_get self.now.entries k ≡ Some entry
             → entry.text ≡ text.now → entry.bucket ≡ pass.bucket }
         ensures { (pass : world.Pass) → slice_get self.now.passes at ≡ Some pass → result ≡ all_found_dying self.now pass text.now }
@@ -195,6 +202,7 @@ impl State {
 
     fn may_link(&self, at: usize) -> bool
         requires pass { at < length self.now.passes }
+        requires below { AreWithin self.now }
         requires placed { (pass : world.Pass) (text : List ℕ) (k : ℕ) (entry : world.Entry) → slice_get self.now.passes at ≡ Some pass → pass.wanted ≡ Some text
             → slice_get self.now.entries k ≡ Some entry → entry.text ≡ text → entry.bucket ≡ pass.bucket }
         ensures { (pass : world.Pass) → slice_get self.now.passes at ≡ Some pass
@@ -226,7 +234,8 @@ impl State {
 
     // Whether the pass has looked at each entry of its bucket.
     fn all_seen(&self, at: usize) -> bool
-        requires { at < length self.now.passes }
+        requires pass { at < length self.now.passes }
+        requires below { AreWithin self.now }
         ensures { (pass : world.Pass) → slice_get self.now.passes at ≡ Some pass → result ≡ all_looked_at self.now pass }
     {
         let pass = &self.passes[at];
@@ -235,7 +244,8 @@ impl State {
     }
 
     fn may_leave(&self, at: usize) -> bool
-        requires { at < length self.now.passes }
+        requires pass { at < length self.now.passes }
+        requires below { AreWithin self.now }
         ensures { (pass : world.Pass) → slice_get self.now.passes at ≡ Some pass → result ≡ (is_none pass.wanted && all_looked_at self.now pass) }
     {
         let pass = &self.passes[at];

@@ -4,7 +4,7 @@ mod merges;
 use super::{Step, StepReply, World};
 use crate::faults::Fault;
 use crate::static_sets::{EmptyStaticAtomSet, TextForm, form_of_text};
-use crate::word::{Limits, MOST_BUCKETS, SERIAL_BOUND, bucket_of};
+use crate::word::{Buckets, Limits, SERIAL_BOUND};
 use StepReply::{
     Added, Cloned, Dying, Freed, Full, Given, Kept, Left, Linked, Memory, No, Spent, Taken,
     Unlinked,
@@ -41,15 +41,22 @@ fn step_of(alloc: Global, step: Do) -> Result<Step, AllocError> {
     })
 }
 
-// The ticket of a bucket's serial, the bucket being that of the text.
-fn ticket_of(text: &str, serial: u64) -> u64 {
+// The ticket of a bucket's serial, the bucket being that of the text, one of so many.
+fn ticket_in(buckets: Buckets, text: &str, serial: u64) -> u64 {
     match form_of_text::<EmptyStaticAtomSet>(text) {
-        TextForm::Dynamic(hash) => (serial % SERIAL_BOUND) << 14 | u64::from(bucket_of(hash)) << 2,
+        TextForm::Dynamic(hash) => {
+            (serial % SERIAL_BOUND) << 16 | u64::from(buckets.bucket_of(hash)) << 2
+        }
         _ => 0,
     }
 }
 
-// By `step` and by `run`: each row's step of its party has that reply, and then the entries are held so often.
+// The same of the usual number of buckets.
+fn ticket_of(text: &str, serial: u64) -> u64 {
+    ticket_in(Buckets::usual(), text, serial)
+}
+
+// `check_in` with the usual number of buckets.
 fn check(
     rt: &impl Abort,
     alloc: Global,
@@ -57,7 +64,19 @@ fn check(
     rows: &[(u32, Do, StepReply)],
     held: &[u64],
 ) -> Result<(), Fail> {
-    let mut stepped = World::<EmptyStaticAtomSet>::new(alloc, limits)?;
+    check_in(rt, alloc, limits, Buckets::usual(), rows, held)
+}
+
+// By `step` and by `run`: each row's step of its party has that reply, and then the entries are held so often.
+fn check_in(
+    rt: &impl Abort,
+    alloc: Global,
+    limits: Limits,
+    buckets: Buckets,
+    rows: &[(u32, Do, StepReply)],
+    held: &[u64],
+) -> Result<(), Fail> {
+    let mut stepped = World::<EmptyStaticAtomSet>::with_buckets(alloc, limits, buckets)?;
     let mut script = Vec::new(alloc);
     let mut want = Vec::new(alloc);
     for (party, step, reply) in rows {
@@ -65,7 +84,7 @@ fn check(
         script.push((*party, step_of(alloc, *step)?))?;
         want.push(*reply)?;
     }
-    let mut ran = World::<EmptyStaticAtomSet>::new(alloc, limits)?;
+    let mut ran = World::<EmptyStaticAtomSet>::with_buckets(alloc, limits, buckets)?;
     let mut given = Vec::new(alloc);
     ran.run(script.as_slice(), &mut given)?;
     assert!(rt; given == want);
@@ -204,13 +223,78 @@ fn an_undecided_pass_stays(rt: HostRuntime) -> Result<(), Fail> {
 
 #[test]
 fn sweeps_of_the_last_buckets(rt: HostRuntime) -> Result<(), Fail> {
+    for (bits, number) in [(0, 1), (12, 4096), (14, 16384)] {
+        let rows = [
+            (1, Do::Sweep(number - 1), Taken),
+            (1, Do::Leave, Left),
+            (1, Do::Sweep(number), No),
+            (1, Do::Give(1), No),
+        ];
+        let buckets = Buckets::new(bits).ok_or("bits")?;
+        check_in(&rt, rt.alloc(), Limits::greatest(), buckets, &rows, &[])?;
+    }
+    Ok(())
+}
+
+// A party that interns in the only bucket looks at the other text's entry too, and waits for who holds the bucket.
+#[test]
+fn one_bucket_for_all_texts(rt: HostRuntime) -> Result<(), Fail> {
+    let (first, second) = (0x1_0000, 0x2_0000);
     let rows = [
-        (1, Do::Sweep(MOST_BUCKETS as u32 - 1), Taken),
+        (1, Do::Intern("interned"), Taken),
+        (2, Do::Intern("tokenised"), No),
+        (
+            1,
+            Do::Link(true),
+            Linked {
+                entry: 1,
+                ticket: first,
+            },
+        ),
         (1, Do::Leave, Left),
-        (1, Do::Sweep(MOST_BUCKETS as u32), No),
-        (1, Do::Give(1), No),
+        (2, Do::Intern("tokenised"), Taken),
+        (
+            2,
+            Do::Link(true),
+            Linked {
+                entry: 2,
+                ticket: second,
+            },
+        ),
+        (2, Do::Leave, No),
+        (2, Do::Unlink(1), Kept),
+        (2, Do::Leave, Left),
     ];
-    check(&rt, rt.alloc(), Limits::greatest(), &rows, &[])
+    let buckets = Buckets::new(0).ok_or("bits")?;
+    check_in(&rt, rt.alloc(), Limits::greatest(), buckets, &rows, &[1, 1])
+}
+
+#[test]
+fn most_buckets_keep_texts_apart(rt: HostRuntime) -> Result<(), Fail> {
+    let buckets = Buckets::new(14).ok_or("bits")?;
+    let rows = [
+        (1, Do::Intern("interned"), Taken),
+        (2, Do::Intern("tokenised"), Taken),
+        (
+            1,
+            Do::Link(true),
+            Linked {
+                entry: 1,
+                ticket: ticket_in(buckets, "interned", 1),
+            },
+        ),
+        (
+            2,
+            Do::Link(true),
+            Linked {
+                entry: 2,
+                ticket: ticket_in(buckets, "tokenised", 1),
+            },
+        ),
+        (2, Do::Leave, Left),
+        (1, Do::Leave, Left),
+    ];
+    check_in(&rt, rt.alloc(), Limits::greatest(), buckets, &rows, &[1, 1])
 }
 
 #[test]

@@ -1,14 +1,13 @@
 //! Words, tickets and refusals of a table, with values from outside.
 
-ghost use Rattle.std.specs.Prelude.{◌<◌};
-ghost use Rattle.string_cache_core.specs.Layout.{most_buckets};
+ghost use Rattle.std.specs.Prelude.{◌^◌, ◌<◌};
 
 use super::{Call, Table, TableReply};
 use crate::Fault;
 use crate::phf::hash;
 use crate::samples::One;
 use crate::static_sets::{EmptyStaticAtomSet, StaticAtomSet};
-use crate::word::{Form, Limits, MOST_BUCKETS, bucket_of, form_of, ticket_word};
+use crate::word::{Buckets, Form, Limits, form_of};
 use std::alloc::Global;
 use std::process::Abort;
 use std::test::Fail;
@@ -60,7 +59,7 @@ fn is_first(word: u64) -> bool {
 }
 
 /// The unit of a ticket: two that a bucket gives one after the other differ by it.
-const TICKET_UNIT: u64 = 16384;
+const TICKET_UNIT: u64 = 65536;
 
 fn next_ticket(word: u64) -> Option<u64> {
     word.checked_add(TICKET_UNIT)
@@ -219,7 +218,7 @@ fn a_text_has_no_more_holders_than_its_limit(rt: HostRuntime) -> Result<(), Fail
 fn a_run_leaves_spent_tickets_spent(rt: HostRuntime) -> Result<(), Fail> {
     let alloc = rt.alloc();
     let mut table = Table::<EmptyStaticAtomSet>::new(alloc)?;
-    let word = 0x4840; // the first of bucket 0x210, the low bits of the text's hash 0x556a_6dba_06a4_7210
+    let word = 0x1_0840; // the first of bucket 0x210, the low bits of the text's hash 0x556a_6dba_06a4_7210
     let mut calls = Vec::new(alloc);
     calls.push(intern_call(alloc, "interned")?)?;
     calls.push(intern_call(alloc, "interned")?)?;
@@ -267,18 +266,18 @@ fn a_large_text_is_interned(rt: HostRuntime) -> Result<(), Fail> {
 }
 
 /// The bucket of a text without static tables.
-fn bucket_of_text(text: &str) -> u16
-    ensures { result < most_buckets }
+fn bucket_of_text(buckets: Buckets, text: &str) -> u16
+    ensures { result < 2 ^ buckets }
 {
-    bucket_of(hash(text, 0).entry_hash())
+    buckets.bucket_of(hash(text, 0).entry_hash())
 }
 
 /// Two texts with one bucket: there is one text more than buckets.
-fn bucket_mates(alloc: Global) -> Result<(String, String), Fail> {
-    let mut first = vec![in alloc; None; MOST_BUCKETS]?;
-    for number in 0..=MOST_BUCKETS {
+fn bucket_mates(alloc: Global, buckets: Buckets) -> Result<(String, String), Fail> {
+    let mut first = vec![in alloc; None; buckets.number()]?;
+    for number in 0..=buckets.number() {
         let text = format!(in alloc; "word{number:05}")?;
-        let bucket = bucket_of_text(&text) as usize;
+        let bucket = bucket_of_text(buckets, &text) as usize;
         if let Some(other) = first[bucket] {
             return Ok((format!(in alloc; "word{other:05}")?, text));
         }
@@ -287,16 +286,59 @@ fn bucket_mates(alloc: Global) -> Result<(String, String), Fail> {
     Err("no bucket has two")?
 }
 
+/// The numbers of buckets that tests take.
+fn bucket_numbers(alloc: Global) -> Result<Vec<Buckets>, Fail> {
+    let mut numbers = Vec::new(alloc);
+    for bits in [0, 12, 14] {
+        numbers.push(Buckets::new(bits).ok_or("bits")?)?;
+    }
+    Ok(numbers)
+}
+
 #[test]
 fn a_bucket_gives_no_more_tickets_than_its_limit(rt: HostRuntime) -> Result<(), Fail> {
-    let (first, second) = bucket_mates(rt.alloc())?;
     let limits = Limits::new(1, 1).ok_or("limits")?;
-    let mut table = Table::<EmptyStaticAtomSet>::with_limits(rt.alloc(), limits)?;
-    let word = intern(&mut table, &first)?;
-    assert!(rt; is_first(word));
-    assert_eq!(rt; intern(&mut table, &second), Err(Fault::TicketsSpent));
-    give(&rt, &mut table, word);
-    assert_eq!(rt; intern(&mut table, &first), Err(Fault::TicketsSpent));
-    assert_eq!(rt; intern(&mut table, "abc")?, 0x6362_6131);
+    for buckets in bucket_numbers(rt.alloc())? {
+        let (first, second) = bucket_mates(rt.alloc(), buckets)?;
+        let mut table = Table::<EmptyStaticAtomSet>::with_buckets(rt.alloc(), limits, buckets)?;
+        let word = intern(&mut table, &first)?;
+        assert!(rt; is_first(word));
+        assert_eq!(rt; intern(&mut table, &second), Err(Fault::TicketsSpent));
+        give(&rt, &mut table, word);
+        assert_eq!(rt; intern(&mut table, &first), Err(Fault::TicketsSpent));
+        assert_eq!(rt; intern(&mut table, "abc")?, 0x6362_6131);
+    }
+    Ok(())
+}
+
+/// The low bits of the hash of "interned", 0x556a_6dba_06a4_7210, are its bucket.
+#[test]
+fn a_ticket_has_the_low_bits_of_the_hash(rt: HostRuntime) -> Result<(), Fail> {
+    let words = [0x1_0000, 0x1_0840, 0x1_c840];
+    for (buckets, word) in bucket_numbers(rt.alloc())?.into_iter().zip(words) {
+        let mut table = Table::<EmptyStaticAtomSet>::with_buckets(
+            rt.alloc(),
+            Limits::greatest(),
+            buckets,
+        )?;
+        assert_eq!(rt; intern(&mut table, "interned")?, word);
+        give(&rt, &mut table, word);
+        let next = intern(&mut table, "interned")?;
+        assert_eq!(rt; next_ticket(word), Some(next));
+    }
+    Ok(())
+}
+
+#[test]
+fn one_bucket_gives_all_tickets(rt: HostRuntime) -> Result<(), Fail> {
+    let buckets = Buckets::new(0).ok_or("bits")?;
+    let mut table = Table::<EmptyStaticAtomSet>::with_buckets(
+        rt.alloc(),
+        Limits::greatest(),
+        buckets,
+    )?;
+    assert_eq!(rt; intern(&mut table, "interned")?, 0x1_0000);
+    assert_eq!(rt; intern(&mut table, "tokenised")?, 0x2_0000);
+    assert!(rt; keeps(&table, 2, 17));
     Ok(())
 }

@@ -13,7 +13,7 @@ fn good_lines(rt: HostRuntime) {
         (b"".as_slice(), b"".as_slice()),
         (b"limits 1 1".as_slice(), b"".as_slice()),
         (
-            b"limits 9223372036854775807 1125899906842623\n".as_slice(),
+            b"limits 9223372036854775807 281474976710655\n".as_slice(),
             b"".as_slice(),
         ),
         (b"1 link".as_slice(), b"no\n".as_slice()),
@@ -108,7 +108,8 @@ limits +1 1
 limits 1 +1
 limits -1 1
 limits 9223372036854775808 1
-limits 1 1125899906842624
+limits 1 281474976710656
+limits 1 1125899906842623
 Limits 1 1";
 
 #[test]

@@ -2,7 +2,7 @@
 use super::{link, tickets};
 use crate::Fault;
 use crate::dynamic_set::Bucket;
-use crate::word::{Limits, ticket_word};
+use crate::word::{Buckets, Limits, ticket_word};
 use std::test::Fail;
 
 /// Passes also where any one request for memory is refused, as under `rt try --test --fail-alloc N`: a refused link leaves the
@@ -10,7 +10,7 @@ use std::test::Fail;
 #[test]
 fn refused_links_made_again(rt: HostRuntime) -> Result<(), Fail> {
     let limits = Limits::greatest();
-    let mut bucket = Bucket::new(rt.alloc());
+    let mut bucket = Bucket::new(rt.alloc(), Buckets::usual());
     let (one, two, three) = (
         ticket_word(1, 0xe77),
         ticket_word(2, 0xe77),

@@ -5,6 +5,7 @@ ghost use Rattle.std.specs.Option.{option_map};
 ghost use Rattle.std.specs.String.{string_bytes};
 ghost use Rattle.string_cache_core.specs.Faults.{RefusesUnchanged};
 ghost use Rattle.string_cache_core.specs.Layout.{holder_bound, most_buckets, serial_bound};
+ghost use Rattle.string_cache_core.specs.Listed.{AreWithin};
 ghost use Rattle.string_cache_core.specs.Word.{ticket_of};
 ghost use Rattle.string_cache_core.specs.Sound.{SoundTable};
 ghost use Rattle.string_cache_core.specs.Steps.{decides, finds_dying, last_of, looks_at, take_bucket, with_one, without_one};
@@ -125,6 +126,7 @@ impl State {
     // A new entry with the text that the pass wants: its number and its ticket. All growth comes before the first change.
     pub(super) fn link_entry(&mut self, at: usize, serial: u64) -> Result<(u64, u64), Fault>
         requires pass { at < length self.old.passes }
+        requires below { AreWithin self.old }
         requires sound { SoundTable self.old.entries self.old.lasts self.old.bag }
         requires wanted { (pass : world.Pass) → slice_get self.old.passes at ≡ Some pass → IsSome pass.wanted × (serial ≡ last_of self.old pass.bucket + 1) }
         requires serial { (1 ≤ serial) × (serial < serial_bound) }
@@ -158,6 +160,7 @@ impl State {
     // Takes the entry out of the list of the pass's bucket.
     pub(super) fn set_unlinked(&mut self, at: usize, k: usize, party: u32)
         requires pass { at < length self.old.passes }
+        requires below { AreWithin self.old }
         requires entry { k < length self.old.entries }
         ensures { (entry : world.Entry) → slice_get self.old.entries k ≡ Some entry
             → self.new ≡ record self.old { entries = slice_set self.old.entries k (record entry { place = Place.UnlinkedBy party }) } }

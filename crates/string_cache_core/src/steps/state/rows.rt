@@ -1,6 +1,7 @@
 // The nine steps, each as its row of the table of steps.
 ghost use Rattle.std.specs.Prelude.{◌≡◌, ℕ, IfOk};
 ghost use Rattle.string_cache_core.specs.Faults.{RefusesUnchanged};
+ghost use Rattle.string_cache_core.specs.Listed.{AreWithin};
 ghost use Rattle.string_cache_core.specs.Tables.{Tables};
 ghost use Rattle.string_cache_core.specs.Sound.{SoundTable, SoundWorld};
 ghost use Rattle.string_cache_core.specs.Steps.{IsStep};
@@ -130,6 +131,7 @@ impl State {
     }
 
     fn unlink(&mut self, party: u32, number: u64) -> Result<StepReply, Fault>
+        requires { AreWithin self.old }
         ensures ok { IfOk result (λ reply. (t : Tables) → IsStep t self.old party (Step.Unlink number) reply self.new) }
         ensures err { RefusesUnchanged self.old result self.new }
     {
@@ -164,6 +166,7 @@ impl State {
     }
 
     fn leave(&mut self, party: u32) -> StepReply
+        requires { AreWithin self.old }
         ensures { (t : Tables) → IsStep t self.old party Step.Leave result self.new }
     {
         let Some(at) = self.pass_place(party) else {

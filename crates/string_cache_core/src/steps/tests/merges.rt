@@ -4,8 +4,9 @@ use crate::faults::Fault;
 use crate::static_sets::EmptyStaticAtomSet;
 use crate::steps::{StepReply, World};
 use crate::table::{Call, Table, TableReply};
-use crate::word::Limits;
+use crate::word::{Buckets, Limits};
 use std::alloc::{AllocError, Global};
+use std::process::Abort;
 use std::test::Fail;
 
 const TEXT: &str = "interned";
@@ -190,18 +191,27 @@ fn held(world: &World<EmptyStaticAtomSet>) -> usize {
         .count()
 }
 
+/// Makes a merge's steps in a world, and the calls that they are in a table, both with so many buckets.
+fn check_merge(rt: &impl Abort, alloc: Global, buckets: Buckets, merge: u32) -> Result<(), Fail> {
+    let limits = Limits::greatest();
+    let steps = steps_of(alloc, merge)?;
+    assert_eq!(rt; steps.len(), 12, "in merge {merge}");
+    let mut world = World::<EmptyStaticAtomSet>::with_buckets(alloc, limits, buckets)?;
+    let history = history_of(alloc, &mut world, &steps)?;
+    let mut table = Table::<EmptyStaticAtomSet>::with_buckets(alloc, limits, buckets)?;
+    let replies = table.run(&history.calls)?;
+    assert!(rt; replies == history.replies, "in merge {merge}");
+    assert_eq!(rt; table.entries(), held(&world), "in merge {merge}");
+    Ok(())
+}
+
 #[test]
 fn merges_are_histories_of_a_table(rt: HostRuntime) -> Result<(), Fail> {
-    let alloc = rt.alloc();
-    for merge in 0..243 {
-        let steps = steps_of(alloc, merge)?;
-        assert_eq!(rt; steps.len(), 12, "in merge {merge}");
-        let mut world = World::<EmptyStaticAtomSet>::new(alloc, Limits::greatest())?;
-        let history = history_of(alloc, &mut world, &steps)?;
-        let mut table = Table::<EmptyStaticAtomSet>::new(alloc)?;
-        let replies = table.run(&history.calls)?;
-        assert!(rt; replies == history.replies, "in merge {merge}");
-        assert_eq!(rt; table.entries(), held(&world), "in merge {merge}");
+    for bits in [0, 12, 14] {
+        let buckets = Buckets::new(bits).ok_or("bits")?;
+        for merge in 0..243 {
+            check_merge(&rt, rt.alloc(), buckets, merge)?;
+        }
     }
     Ok(())
 }

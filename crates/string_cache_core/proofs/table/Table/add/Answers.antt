@@ -9,6 +9,7 @@ use Rattle.string_cache_core.specs.Map.{Holding, with_held, with_last}
 use Rattle.string_cache_core.specs.Tables.{entry_hash}
 use Rattle.string_cache_core.specs.Word.{ticket_of}
 use Rattle.string_cache_core.specs.Kept.{Kept, Pair, pairs_of, map_of, IsKeptTable}
+use Rattle.string_cache_core.proofs.BucketCounts.{bucket-below, bucket-within}
 use Rattle.string_cache_core.proofs.KeptBytes.{bytes-fit, text-fits}
 use Rattle.string_cache_core.proofs.KeptPairs.{map-with-last, kept-moved}
 use Rattle.string_cache_core.proofs.KeptAdding.{pairs-pushed, kept-added, added-map}
@@ -26,12 +27,12 @@ invariant_of-self-in_err-key g c =
 
 pub ticket_word-ticket-requires : goal.ticket_word-ticket-requires
 ticket_word-ticket-requires g c =
-    let buckets = c.self.invariant.buckets in
-    let bucket : c.args.bucket ≡ entry_hash g.S.StaticAtomSet.tables c.args.text.now % length c.self.inside.lasts.items =
-    c.requires.bucket ∙ ap (λ (kept : Kept). entry_hash g.S.StaticAtomSet.tables c.args.text.now % length kept.lasts) (sym c.self.view_is) in
+    let hash = entry_hash g.S.StaticAtomSet.tables c.args.text.now in
+    let bucket : c.args.bucket ≡ hash % length c.self.inside.lasts.items = c.requires.bucket ∙ ap (λ (kept : Kept). hash % length kept.lasts) (sym c.self.view_is) in
+    let below = bucket-below hash _ (length c.self.inside.lasts.items) c.self.invariant.buckets c.self.invariant.few in
     let next = c.requires.serial in
     let range = c.requires.range in
-    (omega (arith, next), range, omega (arith, bucket, buckets))
+    (omega (arith, next), range, omega (arith, bucket, below))
 
 pub invariant_of-self-2 : goal.invariant_of-self-2
 invariant_of-self-2 g c =
@@ -44,7 +45,7 @@ invariant_of-self-2 g c =
     let small = text-fits c.in_ok-key.key c.args.text.now c.in_ok-key.ensures.ok in
     let inserted = c.in-Ok-insert.ensures.keys ∙ ap (λ ks. insert_key nat_eq ks c.ticket_word-ticket.result) c.in_ok-reserve-2.ensures.keys
     ∙ ap (insert_key nat_eq c.self.inside.tickets.keys) c.ticket_word-ticket.ensures in
-    subst (λ pairs. IsKeptTable t (slice_set c.self.inside.lasts.items c.args.bucket c.args.serial) pairs c.insert-2.new.self.keys (c.self.inside.bytes + length c.args.text.now)) (sym pushed)
+    subst (λ pairs. IsKeptTable t c.self.inside.buckets (slice_set c.self.inside.lasts.items c.args.bucket c.args.serial) pairs c.insert-2.new.self.keys (c.self.inside.bytes + length c.args.text.now)) (sym pushed)
     (kept-added t c.self.inside.lasts.items (pairs_of c.self.inside.entries.entries) c.self.inside.tickets.keys c.insert-2.new.self.keys c.self.inside.bytes c.args.text.now c.args.bucket c.args.serial
     c.requires.dynamic
     (c.requires.bucket ∙ ap (λ (kept : Kept). entry_hash t c.args.text.now % length kept.lasts) (sym c.self.view_is))
@@ -70,9 +71,9 @@ returns-clause-ok g c =
     let t = g.S.StaticAtomSet.tables in
     let first : Holding = record { ticket = ticket_of c.args.serial c.args.bucket; holders = 1 } in
     let is : c.new.result ≡ first = c.new.ensures ∙ ap (λ (t : ℕ). let h : Holding = record { ticket = t; holders = 1 } in h) c.ticket_word-ticket.ensures in
-    let buckets = c.self.invariant.buckets in
+    let within = bucket-within (entry_hash t c.args.text.now) _ (length c.self.inside.lasts.items) c.self.invariant.buckets in
     let bucket : c.args.bucket ≡ entry_hash t c.args.text.now % length c.self.inside.lasts.items =
     c.requires.bucket ∙ ap (λ (kept : Kept). entry_hash t c.args.text.now % length kept.lasts) (sym c.self.view_is) in
-    map-with-last c.self.inside.lasts.items (pairs_of c.self.inside.entries.entries) (pairs_of c.insert.new.self.entries) c.args.text.now (Some first) c.args.bucket c.args.serial (omega (arith, buckets, bucket))
+    map-with-last c.self.inside.lasts.items (pairs_of c.self.inside.entries.entries) (pairs_of c.insert.new.self.entries) c.args.text.now (Some first) c.args.bucket c.args.serial (omega (arith, within, bucket))
     (added-map c.self.inside.entries c.reserve.new.self c.insert.new.self c.in_ok-key.key c.args.text.now c.new.result first c.in_ok-reserve.ensures.entries c.in_ok-key.ensures.ok is c.in-Ok.ensures.updates)
     ∙ ap (λ (kept : Kept). with_last (with_held (map_of kept) c.args.text.now (Some first)) c.args.bucket c.args.serial) c.self.view_is

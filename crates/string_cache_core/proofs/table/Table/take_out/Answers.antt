@@ -17,7 +17,7 @@ overflow_sub-self g c =
 
 pub invariant_of-self : goal.invariant_of-self
 invariant_of-self g c =
-    subst (λ (n : ℕ). IsKeptTable g.S.StaticAtomSet.tables c.self.inside.lasts.items (pairs_of c.swap_remove_index.new.self.entries) c.swap_remove_index-2.new.self.keys (c.self.inside.bytes - n)) (sym (c.len.ensures ∙ c.in-Some.text.bytes.ok.0)) (
+    subst (λ (n : ℕ). IsKeptTable g.S.StaticAtomSet.tables c.self.inside.buckets c.self.inside.lasts.items (pairs_of c.swap_remove_index.new.self.entries) c.swap_remove_index-2.new.self.keys (c.self.inside.bytes - n)) (sym (c.len.ensures ∙ c.in-Some.text.bytes.ok.0)) (
     kept-taken g.S.StaticAtomSet.tables c.self.inside.lasts.items c.self.inside.entries c.swap_remove_index.new.self c.self.inside.tickets.keys c.swap_remove_index-2.new.self.keys c.self.inside.bytes c.args.at
     c.in-Some-swap_remove_index.field-0 (c.in-Some.text, c.in-Some.field-0-1) (sym c.in-Some.ensures.entry) c.in-Some.ensures.entries c.in-Some.ensures.len c.in-Some-swap_remove_index.ensures.keys c.self.invariant)
 

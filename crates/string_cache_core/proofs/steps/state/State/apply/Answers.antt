@@ -1,5 +1,12 @@
+use Rattle.string_cache_core.proofs.StepApart.{all_within}
 use Rattle.string_cache_core.proofs.StepDoesMore.{at_tables, always_at_tables}
 use Rattle.string_cache_core.proofs.steps.state.State.apply.Goals as goal
+
+pub unlink-requires : goal.unlink-requires
+unlink-requires g c = all_within g.S.StaticAtomSet.tables c.args.self.now c.requires
+
+pub leave-requires : goal.leave-requires
+leave-requires g c = all_within g.S.StaticAtomSet.tables c.args.self.now c.requires
 
 pub returns-in-TakeSweep-clause-ok : goal.returns-in-TakeSweep-clause-ok
 returns-in-TakeSweep-clause-ok g c = at_tables g.S.StaticAtomSet.tables c.args.self.now c.args.party _ _ _ c.in-TakeSweep.is c.take_sweep.result c.take_sweep.ensures.ok

@@ -5,8 +5,8 @@ use Rattle.string_cache_core.proofs.StepLists.{none_then, some_then, test_fails,
 use Rattle.string_cache_core.proofs.StepPlaces.{within}
 use Rattle.string_cache_core.proofs.steps.state.State.leave.Goals as goal
 
-pub may_leave-requires : goal.may_leave-requires
-may_leave-requires c = within _ _ _ c.in-Some.ensures.there
+pub may_leave-requires-clause-pass : goal.may_leave-requires-clause-pass
+may_leave-requires-clause-pass c = within _ _ _ c.in-Some.ensures.there
 
 pub returns-in_default : goal.returns-in_default
 returns-in_default c = λ tables. none_then _ _ _ c.in_default.ensures

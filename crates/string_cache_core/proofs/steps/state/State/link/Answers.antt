@@ -1,7 +1,7 @@
 use Rattle.std.proofs.Common.{◌≡◌, ◌∙◌, ap, sym, arith, ℕ, ◌+◌}
 use Rattle.std.specs.Prelude.{is_some}
 use Rattle.string_cache_core.specs.World.{Pass}
-use Rattle.string_cache_core.proofs.StepApart.{placed_in}
+use Rattle.string_cache_core.proofs.StepApart.{all_within, placed_in}
 use Rattle.string_cache_core.proofs.StepPlaces.{within}
 use Rattle.string_cache_core.proofs.StepLists.{at_one}
 use Rattle.string_cache_core.specs.Tables.{empty_tables}
@@ -13,8 +13,17 @@ returns-then-not-may_link-clause-ok g c = λ tables.
     let p = c.in-Some.ensures in
     link_no tables _ _ _ _ p (sym (c.may_link.ensures p.pass p.there) ∙ c.if-not-may_link.true)
 
-pub last_at-last-requires : goal.last_at-last-requires
-last_at-last-requires g c = within _ _ _ c.in-Some.ensures.there
+pub last_at-last-requires-clause-pass : goal.last_at-last-requires-clause-pass
+last_at-last-requires-clause-pass g c = within _ _ _ c.in-Some.ensures.there
+
+pub last_at-last-requires-clause-below : goal.last_at-last-requires-clause-below
+last_at-last-requires-clause-below g c = all_within g.S.StaticAtomSet.tables c.args.self.now c.requires
+
+pub may_link-requires-clause-below : goal.may_link-requires-clause-below
+may_link-requires-clause-below g c = all_within g.S.StaticAtomSet.tables c.args.self.now c.requires
+
+pub link_entry-requires-clause-below : goal.link_entry-requires-clause-below
+link_entry-requires-clause-below g c = all_within g.S.StaticAtomSet.tables c.args.self.now c.requires
 
 pub decide-requires : goal.decide-requires
 decide-requires g c = within _ _ _ c.in-Some.ensures.there

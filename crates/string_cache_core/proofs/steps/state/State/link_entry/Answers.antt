@@ -1,13 +1,12 @@
 use Rattle.std.proofs.Common.{◌≡◌, ◌∙◌, ℕ, ◌+◌, ◌<◌, ap, refl, sym, arith, List, [], ◌∷◌, ◌++◌, length, Option, Some}
 use Rattle.std.specs.Prelude.{slice_get, slice_set}
 use Rattle.std.specs.String.{string_bytes}
-use Rattle.string_cache_core.specs.Layout.{most_buckets}
 use Rattle.string_cache_core.specs.declared.steps.entry.Place.TheVariants as place
 use Rattle.string_cache_core.specs.Word.{ticket_of}
 use Rattle.string_cache_core.specs.World.{Entry, Pass, World}
 use Rattle.string_cache_core.specs.Steps.{looks_at, decides}
 use Rattle.string_cache_core.proofs.StepLists.{get_or_at}
-use Rattle.string_cache_core.proofs.StepListed.{kept_link}
+use Rattle.string_cache_core.proofs.StepListed.{kept_link, within_read}
 use Rattle.string_cache_core.proofs.StepBag.{pushed_world}
 use Rattle.string_cache_core.proofs.steps.state.State.link_entry.Goals as goal
 
@@ -33,8 +32,7 @@ returns-clause-ok c = λ pass text there wanted.
     ap (λ (b : ℕ). slice_set c.self.inside.lasts.items b serial) bucket ∙ ap (λ (v : World). slice_set v.lasts pass.bucket serial) c.self.view_is in
     let passes : slice_set c.self.inside.passes.items at c.link.new.self ≡ slice_set now.passes at (decides (looks_at pass n)) =
     ap (λ (p : Pass). slice_set c.self.inside.passes.items at p) linked ∙ ap (λ (v : World). slice_set v.passes at (decides (looks_at pass n))) c.self.view_is in
-    let many : length now.lasts ≡ most_buckets = ap (λ (v : World). length v.lasts) (sym c.self.view_is) ∙ c.self.invariant.buckets in
-    let inside : pass.bucket < length now.lasts = (let b = c.pass.invariant in omega (arith, b, bucket, many)) in (
+    let inside : pass.bucket < length now.lasts = c.requires.below at pass there in (
       ap (λ (m : ℕ). m + 1) number,
       ticket,
       pushed_world _ now c.self.view_is refl c.requires.sound y inside serial (c.requires.wanted pass there).1 refl refl _ _ lasts _ _ passes _ entries,
@@ -43,7 +41,8 @@ returns-clause-ok c = λ pass text there wanted.
 pub invariant_of-self-2 : goal.invariant_of-self-2
 invariant_of-self-2 c =
     let y : Entry = record { text = string_bytes c.in_ok-text.text; bucket = c.pass.inside.bucket; ticket = c.ticket_word-ticket.result; count = 1; place = place.Linked } in
+    let inside = within_read _ c.args.self.now c.self.view_is c.requires.below c.args.at c.requires.pass _ c.index_mut-pass.result.now _ c.index_mut-pass.ensures.value c.pass.view_is in
     kept_link c.self.inside.entries.items c.self.inside.lasts.items c.self.inside.linked.items c.self.invariant y c.index_mut-listed.result.now c.link.new.listed _ (c.len.result + 1) c.args.serial _
-    c.pass.invariant c.index_mut-listed.ensures.value c.in_ok-text.ensures.ok.1
+    inside c.index_mut-listed.ensures.value c.in_ok-text.ensures.ok.1
     (ap (λ (m : ℕ). m + 1) (c.len.ensures ∙ c.reserve.new.self.ok.0 ∙ ap length c.reserve.ensures.items))
     (c.push_reserved.ensures.items ∙ ap (λ (es : List Entry). es ++ y ∷ []) c.reserve.ensures.items)

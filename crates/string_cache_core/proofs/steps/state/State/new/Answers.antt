@@ -1,5 +1,4 @@
-use Rattle.std.proofs.Common.{sym, subst, length, List, ◌≡◌, replicate, rules}
-use Rattle.string_cache_core.specs.Layout.{most_buckets}
+use Rattle.std.proofs.Common.{◌^◌, ◌∙◌, sym, subst, length, List, ◌≡◌, replicate, rules}
 use Rattle.string_cache_core.specs.Steps.{opening}
 use Rattle.string_cache_core.specs.StepPlaces.{held_places}
 use Rattle.string_cache_core.specs.World.{Entry}
@@ -10,12 +9,12 @@ use Rattle.string_cache_core.proofs.steps.state.State.new.Goals as goal
 pub returns-clause-ok : goal.returns-clause-ok
 unfolding opening
 returns-clause-ok c =
-    let zeros : c.in_ok-lasts.lasts.items ≡ replicate most_buckets 0 = search rules in
+    let zeros : c.in_ok-lasts.lasts.items ≡ replicate (2 ^ c.args.buckets) 0 = search rules in
     λ i. record { limits = c.args.limits; lasts = zeros i; entries = c.new.ensures.items i; passes = c.new-2.ensures.items i; bag = held_places (c.new.ensures.items i) }
 
 pub invariant_of-result : goal.invariant_of-result
 invariant_of-result c = record {
-  buckets = (let many : length c.in_ok-lasts.lasts.items ≡ most_buckets = search rules in many);
-  lists = c.in_ok-linked.ensures.ok;
+  buckets = (let many : length c.in_ok-lasts.lasts.items ≡ 2 ^ c.args.buckets = search rules in many);
+  lists = c.in_ok-linked.ensures.ok ∙ c.number-count.ensures.value;
   listed = subst (λ (es : List Entry). AreListed es c.in_ok-linked.linked.items) (sym c.new.ensures.items) (listed_none c.in_ok-linked.linked.items);
 }

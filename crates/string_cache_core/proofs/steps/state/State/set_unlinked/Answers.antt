@@ -4,7 +4,7 @@ use Rattle.std.specs.Vec.{with_item}
 use Rattle.string_cache_core.specs.declared.steps.entry.Place.TheVariants as place
 use Rattle.string_cache_core.specs.World.{is_linked, Entry, World}
 use Rattle.string_cache_core.proofs.StepLists.{get_or_at}
-use Rattle.string_cache_core.proofs.StepListed.{kept_out}
+use Rattle.string_cache_core.proofs.StepListed.{kept_out, within_read}
 use Rattle.string_cache_core.proofs.StepBag.{moved_world}
 use Rattle.string_cache_core.proofs.steps.state.State.set_unlinked.Goals as goal
 
@@ -21,7 +21,8 @@ returns c = λ entry there.
 
 pub invariant_of-self : goal.invariant_of-self
 invariant_of-self c =
+    let inside = within_read _ c.args.self.now c.self.view_is c.requires.below c.args.at c.requires.pass _ c.index-pass.result.now _ c.index-pass.ensures c.pass.view_is in
     kept_out c.self.inside.entries.items c.self.inside.lasts.items c.self.inside.linked.items c.self.invariant c.args.k c.index_mut-entry.result.now c.unlink.new.self _
     c.pass.inside.bucket c.index_mut.result.now c.take_out.new.self _
     (subst (λ (v : World). c.args.k < length v.entries) (sym c.self.view_is) c.requires.entry) c.index_mut-entry.ensures.value
-    (ap (λ (e : Entry). is_linked e.place) c.unlink.ensures) c.pass.invariant c.index_mut.ensures.value c.take_out.ensures
+    (ap (λ (e : Entry). is_linked e.place) c.unlink.ensures) inside c.index_mut.ensures.value c.take_out.ensures

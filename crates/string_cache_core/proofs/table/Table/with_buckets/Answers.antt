@@ -1,0 +1,15 @@
+use Rattle.std.proofs.Common.{◌≡◌, ◌≤◌, ◌^◌, replicate, rules}
+use Rattle.string_cache_core.specs.Layout.{most_buckets}
+use Rattle.string_cache_core.proofs.KeptNew.{new-kept, new-map}
+use Rattle.string_cache_core.proofs.table.Table.with_buckets.Goals as goal
+
+pub invariant_of-result : goal.invariant_of-result
+invariant_of-result g c =
+    let zeros : c.in_ok-vec.field-0.items ≡ replicate (2 ^ c.args.buckets) 0 = search rules in
+    let few : 2 ^ c.args.buckets ≤ most_buckets = search rules in
+    new-kept g.S.StaticAtomSet.tables c.args.buckets c.in_ok-vec.field-0.items c.new.result c.new-2.result.keys few zeros c.new.ensures.empty c.new-2.ensures.empty
+
+pub returns-clause-empty : goal.returns-clause-empty
+returns-clause-empty g c =
+    let zeros : c.in_ok-vec.field-0.items ≡ replicate (2 ^ c.args.buckets) 0 = search rules in
+    new-map c.args.buckets c.in_ok-vec.field-0.items c.new.result zeros c.new.ensures.empty
