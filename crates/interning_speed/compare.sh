@@ -7,10 +7,10 @@ turns=${1:-5}
 built=$(mktemp -d)
 trap 'rm -r "$built"' EXIT
 
-rt run -- counts all 1000 4 > "$built/counts"
+rt run -- counts all 1000 12 4 > "$built/counts"
 rustc -O -o "$built/plain" plain/main.rs
 
-# The arguments are a subject, a number of texts or of rounds, and a number of threads.
+# The arguments are a subject, a number of texts or of rounds, the bits of the number of buckets, and a number of threads.
 compare() {
     for ((turn = 0; turn < turns; turn++)); do
         out/interning_speed times "$@" | sed 's/^/ours|/'
@@ -26,22 +26,24 @@ compare() {
                 ours = least["ours", names[i]]
                 if (("plain", names[i]) in least) {
                     plain = least["plain", names[i]]
-                    printf "%-22s %-36s %10.1f %10.1f %6.2f\n", what, names[i], ours, plain, plain > 0 ? ours / plain : 0
+                    printf "%-26s %-36s %10.1f %10.1f %6.2f\n", what, names[i], ours, plain, plain > 0 ? ours / plain : 0
                 } else {
-                    printf "%-22s %-36s %10.1f %10s %6s\n", what, names[i], ours, "-", "-"
+                    printf "%-26s %-36s %10.1f %10s %6s\n", what, names[i], ours, "-", "-"
                 }
             }
         }'
 }
 
-printf '%-22s %-36s %10s %10s %6s\n' 'subject, N, threads' 'call' 'ours' 'plain' 'ratio'
+printf '%-26s %-36s %10s %10s %6s\n' 'subject, N, bits, threads' 'call' 'ours' 'plain' 'ratio'
 for texts in 10000 100000 1000000; do
-    compare table "$texts" 1
+    compare table "$texts" 12 1
 done
-compare hot 200000 1
-for texts in 10000 100000; do
-    compare live "$texts" 1
+compare hot 200000 12 1
+for bits in 12 14; do
+    for texts in 10000 100000; do
+        compare live "$texts" "$bits" 1
+    done
 done
 for threads in 1 2 4; do
-    compare crowd 20000 "$threads"
+    compare crowd 20000 12 "$threads"
 done

@@ -1,5 +1,5 @@
 //! The calls of the benchmark over what one would write without this library: `rustc -O main.rs -o plain`, then
-//! `./plain live 100000 1`.
+//! `./plain live 100000 12 1`.
 
 mod map;
 mod set;
@@ -18,14 +18,15 @@ fn say(name: &str, calls: usize, done: usize, time: Duration) {
 fn main() {
     let args: Vec<String> = env::args().skip(1).collect();
     let number = |at: usize| args.get(at).and_then(|word| word.parse().ok());
-    let (Some(count), Some(workers)) = (number(1), number(2)) else {
-        panic!("usage: plain table|hot|live|crowd N WORKERS");
+    // The third argument is for the library alone.
+    let (Some(count), Some(workers)) = (number(1), number(3)) else {
+        panic!("usage: plain table|hot|live|crowd N BITS WORKERS");
     };
     match args[0].as_str() {
         "table" => map::table(&Texts::new(count)),
         "hot" => set::hot(count),
         "live" => set::live(&Texts::new(count)),
         "crowd" => set::crowd(&Texts::new(count), workers),
-        _ => panic!("usage: plain table|hot|live|crowd N WORKERS"),
+        _ => panic!("usage: plain table|hot|live|crowd N BITS WORKERS"),
     }
 }

@@ -19,6 +19,7 @@ use std::thread::Threads;
 use std::{env, fmt};
 use string_cache::EmptyStaticAtomSet;
 use string_cache::dynamic_set::Set;
+use string_cache::word::{Buckets, Limits};
 use texts::Texts;
 
 /// What is printed of each kind of call.
@@ -31,7 +32,7 @@ enum Report {
 }
 
 /// What is timed.
-#[derive(Clone, Copy)]
+#[derive(Clone, Copy, PartialEq, Eq)]
 enum Subject {
     /// The table for one thread, with so many texts.
     Table,
@@ -47,9 +48,12 @@ enum Subject {
 #[derive(Clone, Copy)]
 struct Command {
     report: Report,
-    subjects: &'static [Subject],
+    /// `None`: all.
+    only: Option<Subject>,
     /// Of texts, or of rounds.
     number: usize,
+    /// Of a set.
+    buckets: Buckets,
     /// How many threads intern at once.
     workers: usize,
 }
@@ -67,15 +71,15 @@ impl fmt::Display for Subject {
 
 const ALL: [Subject; 4] = [Subject::Table, Subject::Hot, Subject::Live, Subject::Crowd];
 
-/// `None` where the word names no subject.
-fn subjects_of(word: &str) -> Option<&'static [Subject]> {
+/// The subject that the word names, or `None` where it names all. `Err` where it is no word for either.
+fn named(word: &str) -> Result<Option<Subject>, ()> {
     match word {
-        "table" => Some(&[Subject::Table]),
-        "hot" => Some(&[Subject::Hot]),
-        "live" => Some(&[Subject::Live]),
-        "crowd" => Some(&[Subject::Crowd]),
-        "all" => Some(&ALL),
-        _ => None,
+        "table" => Ok(Some(Subject::Table)),
+        "hot" => Ok(Some(Subject::Hot)),
+        "live" => Ok(Some(Subject::Live)),
+        "crowd" => Ok(Some(Subject::Crowd)),
+        "all" => Ok(None),
+        _ => Err(()),
     }
 }
 
@@ -83,7 +87,8 @@ fn subjects_of(word: &str) -> Option<&'static [Subject]> {
 fn asked_for(rt: &(impl Env + AllocGlobal)) -> Result<Option<Command>, anyhow::Error> {
     let mut args = env::args(rt)?;
     let _ = args.next();
-    let (Some(report), Some(subject), Some(number), Some(workers), None) = (
+    let (Some(report), Some(subject), Some(number), Some(bits), Some(workers), None) = (
+        args.next(),
         args.next(),
         args.next(),
         args.next(),
@@ -97,19 +102,19 @@ fn asked_for(rt: &(impl Env + AllocGlobal)) -> Result<Option<Command>, anyhow::E
         "times" => Report::Times,
         _ => return Ok(None),
     };
-    let Some(subjects) = subjects_of(subject.as_str()) else {
-        return Ok(None);
-    };
-    let (Ok(number), Ok(workers)) = (
+    let (Ok(only), Ok(number), Some(buckets), Ok(workers)) = (
+        named(subject.as_str()),
         number.as_str().parse::<usize>(),
+        bits.as_str().parse::<u8>().ok().and_then(Buckets::new),
         workers.as_str().parse::<usize>(),
     ) else {
         return Ok(None);
     };
     Ok(Some(Command {
         report,
-        subjects,
+        only,
         number,
+        buckets,
         workers,
     }))
 }
@@ -121,15 +126,19 @@ fn measure<R: Threads + Wait + Clock + Sync>(
     subject: Subject,
     command: &Command,
 ) -> Result<Vec<Phase>, anyhow::Error> {
+    let limits = Limits::greatest();
     match subject {
         Subject::Table => table::measure(rt, alloc, &Texts::new(alloc, command.number)?),
-        Subject::Hot => hot::measure(rt, &Set::<Elements>::new(alloc)?, command.number),
+        Subject::Hot => {
+            let set = Set::<Elements>::with_buckets(alloc, limits, command.buckets)?;
+            hot::measure(rt, &set, command.number)
+        }
         Subject::Live => {
-            let set = Set::<EmptyStaticAtomSet>::new(alloc)?;
+            let set = Set::<EmptyStaticAtomSet>::with_buckets(alloc, limits, command.buckets)?;
             live::measure(rt, &set, &Texts::new(alloc, command.number)?)
         }
         Subject::Crowd => {
-            let set = Set::<EmptyStaticAtomSet>::new(alloc)?;
+            let set = Set::<EmptyStaticAtomSet>::with_buckets(alloc, limits, command.buckets)?;
             let texts = Texts::new(alloc, command.number)?;
             let mut phases = Vec::new(alloc);
             phases.push(crowd::measure(rt, &set, &texts, command.workers)?)?;
@@ -151,13 +160,17 @@ fn print(rt: &impl Print, report: Report, phase: &Phase) -> Result<(), anyhow::E
 
 fn main(rt: HostRuntime) -> Result<(), anyhow::Error> {
     let Some(command) = asked_for(&rt)? else {
-        println!(rt; "usage: interning_speed counts|times table|hot|live|crowd|all N WORKERS")?;
+        println!(rt;
+            "usage: interning_speed counts|times table|hot|live|crowd|all N BITS WORKERS"
+        )?;
         return Ok(());
     };
-    for subject in command.subjects {
-        println!(rt; "{subject}:")?;
-        for phase in &measure(&rt, rt.alloc(), *subject, &command)? {
-            print(&rt, command.report, phase)?;
+    for subject in ALL {
+        if command.only.is_none_or(|only| only == subject) {
+            println!(rt; "{subject}:")?;
+            for phase in &measure(&rt, rt.alloc(), subject, &command)? {
+                print(&rt, command.report, phase)?;
+            }
         }
     }
     Ok(())

@@ -236,6 +236,7 @@ impl Buckets {
     }
 
     /// The bucket of a dynamic text with this hash: the low bits of the hash.
+    #[inline]
     pub fn bucket_of(&self, hash: u64) -> u16
         ensures bucket { result ≡ hash % 2 ^ self.now }
         ensures below { result < 2 ^ self.now }
