@@ -111,7 +111,8 @@ impl<T: Drop> Pack<T> {
         ensures taken { drop index self.old ≡ result ∷ drop (index + 1) self.old }
         ensures rest { self.new ≡ take index self.old ++ drop (index + 1) self.old }
     {
-        let (item, others) = replace(&mut self.others, Others::None).without(index.saturating_sub(1));
+        let others = replace(&mut self.others, Others::None);
+        let (item, others) = others.without(index.saturating_sub(1));
         self.others = others;
         if index == 0 {
             replace(&mut self.first, item)
