@@ -1,17 +1,20 @@
 //! The right to have a cell's block back.
 ghost use Rattle.std.specs.Prelude.{◌≡◌, ◌≤◌, ℕ};
+ghost use denote.RawPtr.{Ptr};
 ghost use Rattle.counted_cell.specs.Counting.{CellName, cell_name_coded, owner_right, share_right, sole_right};
 ghost use Rattle.counted_cell.specs.BlockRight.{block_right_owns};
 
 use crate::cell_ref::CellRef;
 use crate::header::Header;
 use crate::placed::Placed;
-use std::marker::Model;
+use std::marker::{Model, PhantomData};
 
-/// The right to have a cell's block back, once nobody reads it any more. Its drop forgets that.
+/// The right to have the block of a cell back, which lies at `ptr`, once nobody reads it any more. It takes no space. Its drop
+/// forgets it.
 #[derive(Drop)]
 pub struct BlockRight<T> {
-    pub(crate) ptr: *mut Header<T>,
+    mark: PhantomData<*const T>,
+    pub ghost ptr: { Ptr },
     pub ghost value: { T },
     pub ghost name: { CellName } by { cell_name_coded },
 }
@@ -28,7 +31,11 @@ pub fn begin<T>(whole: Placed<Header<T>>) -> (BlockRight<T>, CellRef<T>, CellRef
     ensures { (result.0.name.limit ≡ limit) × (result.0.ptr ≡ whole.ptr) × (result.1.ptr ≡ whole.ptr) × (result.0.value ≡ whole.value.value) × (result.1.value ≡ whole.value.value) × (result.2.value ≡ whole.value.value) × (result.1.name ≡ result.0.name) × (result.2.name ≡ result.0.name) × (result.1.right ≡ owner_right) × (result.2.right ≡ share_right) }
 {
     let Placed { ptr } = whole;
-    (BlockRight { ptr }, CellRef { ptr }, CellRef { ptr })
+    (
+        BlockRight { mark: PhantomData },
+        CellRef { ptr },
+        CellRef { ptr },
+    )
 }
 
 /// The block, at the owner's end, which has the cell to itself.
@@ -36,9 +43,11 @@ pub fn reclaim<T>(block: BlockRight<T>, sole: CellRef<T>) -> Placed<Header<T>>
     requires { (sole.right ≡ sole_right) × (sole.name ≡ block.name) × (sole.ptr ≡ block.ptr) }
     ensures { (result.ptr ≡ block.ptr) × (result.value.value ≡ block.value) }
 {
-    let BlockRight { ptr } = block;
-    let CellRef { ptr: _ } = sole;
-    Placed { ptr }
+    let BlockRight { mark: _ } = block;
+    let CellRef { ptr } = sole;
+    Placed {
+        ptr: ptr as *mut Header<T>,
+    }
 }
 
 unsafe impl<T: Send> Send for BlockRight<T> {}

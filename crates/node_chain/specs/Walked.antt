@@ -26,3 +26,7 @@ module _ {X : Type 0} where
   -- the place is before all items
   abbrev pub at_start : List X → Walked X
   at_start xs = record { passed = []; left = xs }
+
+  -- an item becomes the next
+  abbrev pub linked : Walked X → X → Walked X
+  linked w x = record { passed = w.passed; left = x ∷ w.left }

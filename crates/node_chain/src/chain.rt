@@ -1,6 +1,6 @@
 // The chain: counts over the nodes, and the memory of each.
-ghost use Rattle.std.specs.Prelude.{◌≡◌, ◌<◌, List, [], ◌∷◌, ◌++◌, length, IfOk, IfErr};
-ghost use Rattle.node_chain.specs.Walked.{IsNext, at_start, passed_by, taken_out};
+ghost use Rattle.std.specs.Prelude.{◌≡◌, ◌+◌, ◌<◌, ◌^◌, List, [], ◌∷◌, ◌++◌, length, IfOk, IfErr};
+ghost use Rattle.node_chain.specs.Walked.{IsNext, at_start, linked, passed_by, taken_out};
 
 use crate::nodes::{Node, Nodes, RawBox};
 use std::alloc::{AllocFailed, Global};
@@ -113,14 +113,38 @@ impl<T: Drop> NodeChain<T> {
         ensures taken { (rest : List T) × (self.old.left ≡ result ∷ rest) }
         ensures rest { self.new ≡ taken_out self.old self.old.left }
     {
+        let Node { next: _, item } = Box::into_inner(self.unlink());
+        item
+    }
+
+    /// Takes the node of the next item out, and gives it with its item. `look` tells whether there is one.
+    pub fn unlink(&mut self) -> Box<Node<T>, Global>
+        requires { 0 < length self.old.left }
+        ensures taken { self.old.left ≡ result.value.item ∷ self.new.left }
+        ensures passed { self.new.passed ≡ self.old.passed }
+        ensures room { length self.new.passed + length self.new.left + 1 < 2 ^ 64 }
+    {
         let node = if self.passed == 0 {
             self.nodes.take_head(self.alloc)
         } else {
             self.nodes.take_next(self.alloc)
         };
         self.len -= 1;
-        let Node { next: _, item } = Box::into_inner(node.into_box());
-        item
+        node.into_box()
+    }
+
+    /// Puts a node before the items that are left, so that its item is the next. It takes no memory.
+    pub fn link(&mut self, node: Box<Node<T>, Global>)
+        requires { length self.old.passed + length self.old.left + 1 < 2 ^ 64 }
+        ensures { self.new ≡ linked self.old node.value.item }
+    {
+        let node = RawBox::from_box(node);
+        if self.passed == 0 {
+            self.nodes.add_head(node);
+        } else {
+            self.nodes.add_next(node);
+        }
+        self.len += 1;
     }
 }
 

@@ -6,7 +6,10 @@
 
 mod chain;
 mod nodes;
+mod pack;
 #[cfg(test)]
 mod tests;
 
 pub use chain::NodeChain;
+pub use nodes::Node;
+pub use pack::Pack;

@@ -8,11 +8,12 @@ use std::alloc::{Allocator, Global};
 use std::marker::Model;
 use std::ptr::null_mut;
 
-/// A node. The last one leads nowhere.
+/// A node of a chain, which holds an item. The last node leads nowhere.
 #[derive(Drop)]
-pub(crate) struct Node<T> {
+pub struct Node<T> {
     pub(crate) next: *mut Node<T>,
-    pub(crate) item: T,
+    /// The item.
+    pub item: T,
 }
 
 /// A box as its pointer.
@@ -93,6 +94,19 @@ impl<T> Nodes<T> {
         }
         self.next = at;
         self.head = at;
+    }
+
+    /// Puts the node before those that are left, where some were passed: the one that was passed last then leads to it.
+    pub(crate) fn add_next(&mut self, node: RawBox<Node<T>, Global>)
+        requires { 0 < length self.old.passed }
+        ensures { (self.new.passed ≡ self.old.passed) × (self.new.left ≡ node.value.item ∷ self.old.left) }
+    {
+        let RawBox { at, alloc: _ } = node;
+        unsafe {
+            (*at).next = self.next;
+            (*self.previous).next = at;
+        }
+        self.next = at;
     }
 
     /// What the first node that is left holds.

@@ -1,5 +1,5 @@
 // Links for which there is no memory.
-use super::{link, tickets};
+use super::{Fake, link, tickets};
 use crate::Fault;
 use crate::dynamic_set::Bucket;
 use crate::word::{Buckets, Limits, ticket_word};
@@ -11,12 +11,9 @@ use std::test::Fail;
 fn refused_links_made_again(rt: HostRuntime) -> Result<(), Fail> {
     let limits = Limits::greatest();
     let mut bucket = Bucket::new(rt.alloc(), Buckets::usual());
-    let (one, two, three) = (
-        ticket_word(1, 0xe77),
-        ticket_word(2, 0xe77),
-        ticket_word(3, 0xe77),
-    );
-    for linked in [[one, 0, 0], [two, one, 0], [three, two, one]] {
+    // Of six entries two nodes are made.
+    for serial in 1..=6u64 {
+        let ticket = ticket_word(serial, 0xe77);
         let before = tickets(&mut bucket);
         let share = match link(&mut bucket, "tokenised", &limits) {
             Err(Fault::Memory) => {
@@ -25,8 +22,58 @@ fn refused_links_made_again(rt: HostRuntime) -> Result<(), Fail> {
             }
             made => made?,
         };
-        assert!(rt; share.ticket() == linked[0] && share.text() == "tokenised");
-        assert!(rt; tickets(&mut bucket) == linked);
+        assert!(rt; share.ticket() == ticket && share.text() == "tokenised");
+        assert!(rt; tickets(&mut bucket) == [ticket, before[0], before[1]]);
+    }
+    Ok(())
+}
+
+/// The ticket of a serial from 1 to 16.
+fn ticket(serial: u64) -> u64 {
+    ticket_word(serial.clamp(1, 16), 0xe77)
+}
+
+/// Entries go from anywhere among the nodes, and the others stay in order.
+#[test]
+fn entries_go_one_by_one(rt: HostRuntime) -> Result<(), Fail> {
+    let limits = Limits::greatest();
+    // The serials in the order in which their entries go, and those of the three newest entries after each.
+    for goes in [
+        [
+            (5, [9, 8, 7]),
+            (9, [8, 7, 6]),
+            (1, [8, 7, 6]),
+            (7, [8, 6, 4]),
+        ],
+        [
+            (9, [8, 7, 6]),
+            (8, [7, 6, 5]),
+            (7, [6, 5, 4]),
+            (6, [5, 4, 3]),
+        ],
+        [
+            (7, [9, 8, 6]),
+            (8, [9, 6, 5]),
+            (6, [9, 5, 4]),
+            (5, [9, 4, 3]),
+        ],
+    ] {
+        let mut bucket = Bucket::new(rt.alloc(), Buckets::usual());
+        for _ in 0..9u64 {
+            if let Err(Fault::Memory) = link(&mut bucket, "tokenised", &limits) {
+                link(&mut bucket, "tokenised", &limits)?;
+            }
+        }
+        assert!(rt; bucket.len() == 9);
+        for (serial, [first, second, third]) in goes {
+            bucket.prune(&mut Fake {
+                added: 0,
+                full: 0,
+                gone: ticket(serial),
+            });
+            assert!(rt; tickets(&mut bucket) == [ticket(first), ticket(second), ticket(third)]);
+        }
+        assert!(rt; bucket.len() == 5);
     }
     Ok(())
 }

@@ -1,0 +1,72 @@
+// Packs: each call once, and what becomes of the items at the end.
+use super::{Mark, five, followed};
+use crate::Pack;
+use std::sync::atomic::{AtomicU64, Ordering};
+use std::test::Fail;
+
+/// A pack of so many marks, of which the last has the digit 1.
+fn pack_of<'a>(ended: &'a AtomicU64, count: u64) -> Pack<Mark<'a>> {
+    let mut pack = Pack::new(Mark { ended, digit: 1 });
+    for digit in 2..=count {
+        if pack.has_room() {
+            pack.add(Mark { ended, digit });
+        }
+    }
+    pack
+}
+
+fn digits_of(pack: &Pack<Mark>) -> u64 {
+    let mut number = 0u64;
+    for index in 0..pack.len() {
+        if let Some(mark) = pack.get(index) {
+            number = followed(number, mark.digit);
+        }
+    }
+    number
+}
+
+#[test]
+fn packs_close_their_gaps(rt: HostRuntime) -> Result<(), Fail> {
+    // How many items there are, which place is taken out, and the digits that are left, and that end.
+    for (count, index, left, ends) in [
+        (2, 0, 1, 21),
+        (2, 1, 2, 12),
+        (3, 0, 21, 321),
+        (3, 1, 31, 231),
+        (3, 2, 32, 132),
+        (4, 0, 321, 4321),
+        (4, 1, 421, 3421),
+        (4, 2, 431, 2431),
+        (4, 3, 432, 1432),
+    ] {
+        let ended = AtomicU64::new(0);
+        let mut pack = pack_of(&ended, count);
+        assert!(rt; pack.has_room() == (count < 4));
+        assert!(rt; pack.get(pack.len()).is_none());
+        if index < pack.len() && pack.len() > 1 {
+            drop(pack.remove(index));
+        }
+        assert!(rt; digits_of(&pack) == left);
+        drop(pack);
+        assert!(rt; ended.load(Ordering::SeqCst) == ends);
+    }
+    Ok(())
+}
+
+#[test]
+fn nodes_are_unlinked_and_linked_again(rt: HostRuntime) -> Result<(), Fail> {
+    let ended = AtomicU64::new(0);
+    let mut chain = five(&rt, rt.alloc(), &ended)?;
+    for digit in [6, 7, 8] {
+        if chain.look().is_some() {
+            let mut node = chain.unlink();
+            node.item.digit = digit;
+            chain.link(node);
+            chain.keep();
+        }
+    }
+    assert!(rt; chain.remaining() == 2);
+    drop(chain);
+    assert!(rt; ended.load(Ordering::SeqCst) == 67821);
+    Ok(())
+}
