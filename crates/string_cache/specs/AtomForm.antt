@@ -1,5 +1,5 @@
 -- What an atom holds.
-use Rattle.std.specs.Prelude.{◌≡◌, ℕ, ◌<◌, length}
+use Rattle.std.specs.Prelude.{◌≡◌, ◌<◌, length}
 use Rattle.string_cache_core.specs.Tables.{Tables, form_of_text, text_at, IsStaticIndex}
 use Rattle.string_cache_core.specs.declared.static_sets.TextForm.TheVariants as form
 use Rattle.string_cache_core.specs.Word.{inline_word, static_word, IsInlineText}
