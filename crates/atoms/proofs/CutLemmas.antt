@@ -1,5 +1,5 @@
 -- Where a number and a space stand in front, they stand there in one way.
-use Rattle.std.proofs.Common.{◌≡◌, ◌≢◌, ℕ, ◌^◌, ◌<◌, List, [], ◌∷◌, ◌++◌, length, get_or, sym, refl, ap, subst, ◌∙◌, arith, suc, drop, codes, decimal, length-append}
+use Rattle.std.proofs.Common.{◌≡◌, ◌≢◌, ℕ, ◌^◌, ◌<◌, ◌≤◌, List, [], ◌∷◌, ◌++◌, length, get_or, sym, refl, ap, subst, ◌∙◌, arith, suc, drop, codes, decimal, length-append}
 use Rattle.std.specs.Prelude.{Option, None, Some, IsSome, IfSome, MatchOption, ◌↔◌}
 use Rattle.std.specs.Str.Pattern.{FindsChar, SplitsAroundMatch}
 use Rattle.std.proofs.lemmas.Str.Pattern.{split_parts, NoCharPasses-char}
@@ -7,8 +7,9 @@ use denote.Ref.{Bor}
 use Rattle.std.proofs.lemmas.Fmt.{decimal_injective}
 use Rattle.std.proofs.lemmas.List.{append_cancel_left}
 use Rattle.string_cache.specs.Bounds.{Bounds, AreBounds}
+use Rattle.string_cache.specs.Layout.{most_bits}
 use Rattle.string_cache.specs.declared.steps.Step.{Step}
-use Rattle.atoms.specs.Script.{HasWords, step_words, Spells, SpellsLimits}
+use Rattle.atoms.specs.Script.{HasWords, step_words, Spells, SpellsBuckets, SpellsLimits}
 use Rattle.table_generator.proofs.NumberLemmas.{decimal_byte}
 
 -- no space is in the bytes
@@ -74,3 +75,12 @@ limits_made line h s p q e None range is = λ l spells.
     cc
 limits_made line h s p q e (Some l) range is =
     (subst (λ v. AreBounds v.holders v.serials) (sym is) (range.0 refl), e ∙ ap (λ v. codes "limits " ++ (decimal v.holders ++ (32 ∷ decimal v.serials))) (sym is))
+
+-- what `Buckets::new` answers to the number
+pub buckets_made : (line : List ℕ) (bits : ℕ) → bits < 2 ^ 64 → line ≡ codes "buckets " ++ decimal bits → (r : Option ℕ) → IsSome r ↔ (bits ≤ most_bits) → IfSome r (λ b. b ≡ bits)
+    → MatchOption r ((b : ℕ) → SpellsBuckets line b → ⊥) (λ b. SpellsBuckets line b)
+buckets_made line bits small e None range is = λ b spells.
+    let same = decimal_injective bits b small (omega (arith, spells.0)) (append_cancel_left (codes "buckets ") _ _ (sym e ∙ spells.1)) in
+    let some = range.1 (omega (arith, spells.0, same)) in
+    cc
+buckets_made line bits small e (Some b) range is = (subst (λ (n : ℕ). n ≤ most_bits) (sym is) (range.0 refl), e ∙ ap (λ (n : ℕ). codes "buckets " ++ decimal n) (sym is))

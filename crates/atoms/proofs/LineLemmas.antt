@@ -1,6 +1,7 @@
 -- How a script's lines come off its front, and what they spell together.
 use Rattle.std.proofs.Common.{◌≡◌, ◌≢◌, ℕ, ◌+◌, ◌<◌, ◌≤◌, inl, inr, Bool, false, List, [], ◌∷◌, ◌++◌, length, get_or, sym, refl, ap, subst, ◌∙◌, arith, suc, drop, length-append, append_assoc, rules}
 use Rattle.std.specs.Prelude.{◌==◌, Option, None, Some, MatchOption, is_some}
+use Rattle.std.specs.Option.{unwrap_or}
 use Rattle.std.specs.Str.Pattern.{FindsChar, SplitsAroundMatch}
 use Rattle.std.proofs.lemmas.Str.Pattern.{split_parts, NoCharPasses-char}
 use denote.Ref.{Bor}
@@ -9,7 +10,8 @@ use Rattle.string_cache.specs.Bounds.{Bounds}
 use Rattle.string_cache.specs.declared.steps.Step.{Step}
 use Rattle.string_cache.specs.Runs.{Script}
 use Rattle.atoms.specs.Words.{cons_first}
-use Rattle.atoms.specs.Script.{script_lines, Spells, SpellsLimits, SpellSteps, SpellScript, AreSteps, TakesLimits, StopsAfter, IsFirstBadLine, greatest}
+use Rattle.string_cache.specs.Layout.{usual_bits}
+use Rattle.atoms.specs.Script.{script_lines, Spells, SpellsBuckets, SpellsLimits, SpellSteps, SpellBody, SpellScript, AreSteps, Takes, StopsAfter, IsFirstBadLine, greatest}
 
 -- no line feed is in the bytes
 abbrev pub NoFeed : List ℕ → Type 0
@@ -36,6 +38,9 @@ pub first_line : (bs : List ℕ) (a b : Bor (List ℕ)) → SplitsAroundMatch (F
 first_line bs a b cut =
     let parts = split_parts 10 bs (Some (a, b)) cut (omega arith) in
     (ap script_lines parts.0 ∙ lines_cut a.now b.now parts.1, omega (arith, ap length parts.0, length-append a.now (10 ∷ b.now)))
+
+first_same : {x y : List ℕ} {xs ys : List (List ℕ)} → x ∷ xs ≡ y ∷ ys → x ≡ y
+first_same e = ap (λ v. get_or v 0 []) e
 
 -- ---- steps
 
@@ -93,51 +98,124 @@ module _ {text rest : List ℕ} {passed number : ℕ} (p : Reading text rest pas
 
 -- ---- the whole script
 
--- no script ends with a line, not its first, that spells no step
-no_script : (first : List ℕ) (lines : List (List ℕ)) (line : List ℕ) → ((s : ℕ × Step) → Spells line s → ⊥) → (l : Bounds) (steps : Script) → SpellScript (first ∷ (lines ++ (line ∷ []))) l steps → ⊥
-no_script first lines line bad l steps (inl h) = let last = spell_last (first ∷ lines) line steps h.1 in bad last.0 last.1
-no_script first lines line bad l steps (inr h) =
+-- no such lines end with a line, not the first of them, that spells no step
+no_body : (first : List ℕ) (lines : List (List ℕ)) (line : List ℕ) → ((s : ℕ × Step) → Spells line s → ⊥) → (b : ℕ) (steps : Script) → SpellBody (first ∷ (lines ++ (line ∷ []))) b steps → ⊥
+no_body first lines line bad b steps (inl h) = let last = spell_last (first ∷ lines) line steps h.1 in bad last.0 last.1
+no_body first lines line bad b steps (inr h) =
     let rest : lines ++ (line ∷ []) ≡ h.1 = ap (drop 1) h.2 in
     let last = spell_last lines line steps (subst (λ v. SpellSteps v steps) (sym rest) h.4) in
     bad last.0 last.1
 
--- nor with a first line that spells no limits either
-no_first_line : (line : List ℕ) → ((s : ℕ × Step) → Spells line s → ⊥) → ((l : Bounds) → SpellsLimits line l → ⊥) → (l : Bounds) (steps : Script) → SpellScript (line ∷ []) l steps → ⊥
-no_first_line line bad none l steps (inl h) = let last = spell_last [] line steps h.1 in bad last.0 last.1
-no_first_line line bad none l steps (inr h) = none l (subst (λ v. SpellsLimits v l) (sym (first_same (h.2))) h.3)
-  where
-    first_same : {x y : List ℕ} {xs ys : List (List ℕ)} → x ∷ xs ≡ y ∷ ys → x ≡ y
-    first_same e = ap (λ v. get_or v 0 []) e
+-- nor with a first line that spells no number of buckets either
+no_first_line : (line : List ℕ) → ((s : ℕ × Step) → Spells line s → ⊥) → ((b : ℕ) → SpellsBuckets line b → ⊥) → (b : ℕ) (steps : Script) → SpellBody (line ∷ []) b steps → ⊥
+no_first_line line bad none b steps (inl h) = let last = spell_last [] line steps h.1 in bad last.0 last.1
+no_first_line line bad none b steps (inr h) = none b (subst (λ v. SpellsBuckets v b) (sym (first_same h.2)) h.3)
 
--- the first line that spells no step, behind that of the limits, is the script's first bad line
-pub script_stops : (text rest : List ℕ) (given : Option Bounds) (passed n : ℕ) → TakesLimits text given rest → MatchOption given (passed ≡ 0) (λ l. passed ≡ 1) → StopsAfter (script_lines rest) passed n → IsFirstBadLine (script_lines text) n
-script_stops text rest None passed n opens is stops = record {
+-- Line n is the first of these that isn't of the grammar behind a line of limits, where the first of them is line
+-- `passed + 1`.
+record StopsBody (lines : List (List ℕ)) (passed n : ℕ) : Type 0 where
+  before : List (List ℕ)
+  line : List ℕ
+  after : List (List ℕ)
+  is : lines ≡ before ++ (line ∷ after)
+  number : n ≡ passed + length before + 1
+  bits : ℕ
+  steps : Script
+  good : SpellBody before bits steps
+  bad : (b : ℕ) (s : Script) → SpellBody (before ++ (line ∷ [])) b s → ⊥
+  no_step : (s : ℕ × Step) → Spells line s → ⊥
+
+-- how many lines an opening line is
+abbrev pub Counts : {X : Type 0} → Option X → ℕ → Type 0
+Counts given n = MatchOption given (n ≡ 0) (λ x. n ≡ 1)
+
+-- the first line that spells no step, behind that of the number of buckets
+body_stops : (text rest : List ℕ) (given : Option ℕ) (passed more n : ℕ) → Takes SpellsBuckets text given rest → Counts given more → StopsAfter (script_lines rest) (passed + more) n → StopsBody (script_lines text) passed n
+body_stops text rest None passed more n opens is stops = record {
   before = stops.before;
   line = stops.line;
   after = stops.after;
   is = ap script_lines (sym opens.1) ∙ stops.is;
   number = omega (arith, stops.number, is);
-  limits = greatest;
+  bits = usual_bits;
   steps = stops.steps;
   good = inl (refl, stops.good);
   bad = bad_at stops.before (ap script_lines (sym opens.1) ∙ stops.is);
+  no_step = stops.bad;
 }
   where
-    bad_at : (before : List (List ℕ)) → script_lines text ≡ before ++ (stops.line ∷ stops.after) → (l : Bounds) (s : Script) → SpellScript (before ++ (stops.line ∷ [])) l s → ⊥
-    bad_at [] e = no_first_line stops.line stops.bad (λ l. opens.0 stops.line stops.after l e)
-    bad_at (first ∷ before) e = no_script first before stops.line stops.bad
-script_stops text rest (Some l) passed n opens is stops = record {
+    bad_at : (before : List (List ℕ)) → script_lines text ≡ before ++ (stops.line ∷ stops.after) → (b : ℕ) (s : Script) → SpellBody (before ++ (stops.line ∷ [])) b s → ⊥
+    bad_at [] e = no_first_line stops.line stops.bad (λ b. opens.0 stops.line stops.after b e)
+    bad_at (first ∷ before) e = no_body first before stops.line stops.bad
+body_stops text rest (Some b) passed more n opens is stops = record {
+  before = opens.0.0 ∷ stops.before;
+  line = stops.line;
+  after = stops.after;
+  is = opens.0.1 ∙ ap (λ v. opens.0.0 ∷ v) stops.is;
+  number = omega (arith, stops.number, is);
+  bits = b;
+  steps = stops.steps;
+  good = inr (opens.0.0, stops.before, refl, opens.0.2, stops.good);
+  bad = no_body opens.0.0 stops.before stops.line stops.bad;
+  no_step = stops.bad;
+}
+
+-- and behind that of the limits: it is the script's first bad line
+limits_stop : (text rest : List ℕ) (given : Option Bounds) (passed n : ℕ) → Takes SpellsLimits text given rest → Counts given passed → StopsBody (script_lines rest) passed n → IsFirstBadLine (script_lines text) n
+limits_stop text rest None passed n opens is stops = record {
+  before = stops.before;
+  line = stops.line;
+  after = stops.after;
+  is = whole;
+  number = omega (arith, stops.number, is);
+  limits = greatest;
+  bits = stops.bits;
+  steps = stops.steps;
+  good = inl (refl, stops.good);
+  bad = λ l b s. no_script l b s;
+}
+  where
+    whole : script_lines text ≡ stops.before ++ (stops.line ∷ stops.after)
+    whole = ap script_lines (sym opens.1) ∙ stops.is
+
+    first_of : (before : List (List ℕ)) (line : List ℕ) (after : List (List ℕ)) (first : List ℕ) (lines : List (List ℕ)) → before ++ (line ∷ []) ≡ first ∷ lines → (more : List (List ℕ)) × (before ++ (line ∷ after) ≡ first ∷ more)
+    first_of [] line after first lines e = (after, ap (λ v. v ∷ after) (first_same e))
+    first_of (x ∷ before) line after first lines e = (before ++ (line ∷ after), ap (λ v. v ∷ (before ++ (line ∷ after))) (first_same e))
+
+    no_script : (l : Bounds) (b : ℕ) (s : Script) → SpellScript (stops.before ++ (stops.line ∷ [])) l b s → ⊥
+    no_script l b s (inl h) = stops.bad b s h.1
+    no_script l b s (inr h) = let more = first_of stops.before stops.line stops.after h.0 h.1 h.2 in opens.0 h.0 more.0 l (whole ∙ more.1) h.3
+limits_stop text rest (Some l) passed n opens is stops = record {
   before = opens.0.0 ∷ stops.before;
   line = stops.line;
   after = stops.after;
   is = opens.0.1 ∙ ap (λ v. opens.0.0 ∷ v) stops.is;
   number = omega (arith, stops.number, is);
   limits = l;
+  bits = stops.bits;
   steps = stops.steps;
   good = inr (opens.0.0, stops.before, refl, opens.0.2, stops.good);
-  bad = no_script opens.0.0 stops.before stops.line stops.bad;
+  bad = λ m b s. no_script m b s;
 }
+  where
+    no_script : (m : Bounds) (b : ℕ) (s : Script) → SpellScript (opens.0.0 ∷ (stops.before ++ (stops.line ∷ []))) m b s → ⊥
+    no_script m b s (inl h) = no_body opens.0.0 stops.before stops.line stops.no_step b s h.1
+    no_script m b s (inr h) = stops.bad b s (subst (λ v. SpellBody v b s) (sym (ap (drop 1) h.2)) h.4)
 
-pub limits_lines : (given : Option Bounds) (some : Bool) (passed : ℕ) → some ≡ is_some given → passed ≡ bool_byte some → MatchOption given (passed ≡ 0) (λ l. passed ≡ 1)
-limits_lines None some passed is counted = counted ∙ ap bool_byte is
-limits_lines (Some l) some passed is counted = counted ∙ ap bool_byte is
+pub script_stops : (text body rest : List ℕ) (limits : Option Bounds) (bits : Option ℕ) (passed more n : ℕ) → Takes SpellsLimits text limits body → Takes SpellsBuckets body bits rest → Counts limits passed → Counts bits more
+    → StopsAfter (script_lines rest) (passed + more) n → IsFirstBadLine (script_lines text) n
+script_stops text body rest limits bits passed more n opens follows is too stops = limits_stop text body limits passed n opens is (body_stops body rest bits passed more n follows too stops)
+
+pub line_counted : {X : Type 0} (given : Option X) (some : Bool) (passed : ℕ) → some ≡ is_some given → passed ≡ bool_byte some → Counts given passed
+line_counted None some passed is counted = counted ∙ ap bool_byte is
+line_counted (Some x) some passed is counted = counted ∙ ap bool_byte is
+
+-- steps behind the opening lines are a script's
+body_opens : (text rest : List ℕ) (given : Option ℕ) (steps : Script) → Takes SpellsBuckets text given rest → SpellSteps (script_lines rest) steps → SpellBody (script_lines text) (unwrap_or given usual_bits) steps
+body_opens text rest None steps opens all = inl (refl, subst (λ v. SpellSteps (script_lines v) steps) opens.1 all)
+body_opens text rest (Some b) steps opens all = inr (opens.0.0, script_lines rest, opens.0.1, opens.0.2, all)
+
+pub script_opens : (text body rest : List ℕ) (limits : Option Bounds) (bits : Option ℕ) (steps : Script) → Takes SpellsLimits text limits body → Takes SpellsBuckets body bits rest → SpellSteps (script_lines rest) steps
+    → SpellScript (script_lines text) (unwrap_or limits greatest) (unwrap_or bits usual_bits) steps
+script_opens text body rest None bits steps opens follows all = inl (refl, subst (λ v. SpellBody (script_lines v) (unwrap_or bits usual_bits) steps) opens.1 (body_opens body rest bits steps follows all))
+script_opens text body rest (Some l) bits steps opens follows all = inr (opens.0.0, script_lines body, opens.0.1, opens.0.2, body_opens body rest bits steps follows all)

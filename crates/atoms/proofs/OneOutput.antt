@@ -1,12 +1,12 @@
 -- A script has one output: its lines decide each step, but for where a text lies in memory.
-use Rattle.std.proofs.Common.{◌≡◌, ℕ, ◌^◌, ◌<◌, inl, inr, true, false, List, [], ◌∷◌, length, drop, get_or, sym, refl, ap, subst, ◌∙◌, arith, decimal}
+use Rattle.std.proofs.Common.{◌≡◌, ℕ, ◌^◌, ◌<◌, ◌≤◌, inl, inr, true, false, List, [], ◌∷◌, length, drop, get_or, sym, refl, ap, subst, ◌∙◌, arith, codes, decimal}
 use Rattle.std.specs.Prelude.{if◌then◌else◌, ◌==◌, Option}
 use Rattle.std.specs.Option.{unwrap_or}
 use Rattle.std.specs.Str.Parse.{digits_value}
 use Rattle.std.proofs.lemmas.Fmt.{decimal_is_IsNumeral, decimal_nonempty, decimal_injective}
+use Rattle.std.proofs.lemmas.List.{append_cancel_left}
 use Rattle.std.proofs.Math.ListN.{get_or-append}
 use Rattle.string_cache.specs.Bounds.{Bounds}
-use Rattle.string_cache.specs.Layout.{usual_buckets}
 use Rattle.string_cache.specs.Tables.{Tables}
 use Rattle.string_cache.specs.World.{World}
 use Rattle.string_cache.specs.declared.steps.Step.{Step}
@@ -15,7 +15,7 @@ use Rattle.string_cache.specs.declared.steps.StepReply.{StepReply}
 use Rattle.string_cache.specs.declared.steps.StepReply.TheVariants as reply
 use Rattle.string_cache.specs.Steps.{step, step_if, take_intern_if, opening}
 use Rattle.string_cache.specs.Runs.{Leads, Script, events_of}
-use Rattle.atoms.specs.Script.{script_lines, step_words, HasWords, Spells, SpellsLimits, SpellSteps, SpellScript}
+use Rattle.atoms.specs.Script.{script_lines, step_words, HasWords, Spells, SpellsBuckets, SpellsLimits, SpellSteps, SpellBody, SpellScript}
 use Rattle.atoms.specs.Replay.{output_of, IsOutput, IsReplay}
 use Rattle.table_generator.proofs.NumberLemmas.{decimal_byte}
 use Rattle.atoms.proofs.CutLemmas.{cut_once, limits_cut}
@@ -78,14 +78,14 @@ one_run t (line ∷ lines) (y ∷ s) (z ∷ u) a b (g ∷ q) (h ∷ r) m n w v x
     let rest = one_run t lines s u a.1 b.1 q r fewer fewer_too d.0 v x (subst (λ (k : World). Leads t k (events_of s q) v) mid c.2) d.2 in
     (ap (λ (o : StepReply × World). o.0 ∷ q) same ∙ ap (λ rs. h ∷ rs) rest.0, rest.1)
 
--- no line spells limits and a step
-not_both : (line : List ℕ) (l : Bounds) (s : ℕ × Step) → SpellsLimits line l → Spells line s → ⊥
-not_both line l s p q =
+-- no line that begins with a letter spells a step
+no_step : (line : List ℕ) (s : ℕ × Step) → 58 ≤ get_or line 0 0 → Spells line s → ⊥
+no_step line s letter q =
     let small : s.0 < 2 ^ 64 = omega (arith, q.0.1) in
     let digit = decimal_byte s.0 small 0 (decimal_nonempty s.0 small) in
-    let first : get_or (decimal s.0) 0 0 ≡ 108 =
-    sym (get_or-append (decimal s.0) (32 ∷ step_words s.1) 0 0 (decimal_nonempty s.0 small)) ∙ sym (ap (λ v. get_or v 0 0) q.1) ∙ ap (λ v. get_or v 0 0) p.1 in
-    omega (arith, digit.1, first)
+    let first : get_or (decimal s.0) 0 0 ≡ get_or line 0 0 =
+    sym (get_or-append (decimal s.0) (32 ∷ step_words s.1) 0 0 (decimal_nonempty s.0 small)) ∙ sym (ap (λ v. get_or v 0 0) q.1) in
+    omega (arith, digit.1, first, letter)
 
 -- a line decides its limits
 one_limits : (line : List ℕ) (l m : Bounds) → SpellsLimits line l → SpellsLimits line m → l ≡ m
@@ -94,37 +94,69 @@ one_limits line l m p q =
     let serials : l.serials ≡ m.serials = decimal_injective l.serials m.serials (omega (arith, p.0.3)) (omega (arith, q.0.3)) cut.1 in
     ap (λ h. record { holders = h; serials = l.serials }) cut.0 ∙ ap (λ n. record { holders = m.holders; serials = n }) serials
 
--- Both have the same limits, and steps of the same lines.
-record SameLines (l m : Bounds) (s u : Script) : Type 0 where
-  same : l ≡ m
+-- a line decides its number of buckets
+one_buckets : (line : List ℕ) (b c : ℕ) → SpellsBuckets line b → SpellsBuckets line c → b ≡ c
+one_buckets line b c p q = decimal_injective b c (omega (arith, p.0)) (omega (arith, q.0)) (append_cancel_left (codes "buckets ") _ _ (sym p.1 ∙ q.1))
+
+-- Both have the same number of buckets, and steps of the same lines.
+record SameSteps (b c : ℕ) (s u : Script) : Type 0 where
+  same : b ≡ c
   lines : List (List ℕ)
   one : SpellSteps lines s
   other : SpellSteps lines u
 
-limits_or_step : (line : List ℕ) (rest : List (List ℕ)) (l : Bounds) (s : Script) → SpellsLimits line l → SpellSteps (line ∷ rest) s → ⊥
-limits_or_step line rest l [] p all = all
-limits_or_step line rest l (x ∷ s) p all = not_both line l x p all.0
+steps_or_letter : (line : List ℕ) (rest : List (List ℕ)) (s : Script) → 58 ≤ get_or line 0 0 → SpellSteps (line ∷ rest) s → ⊥
+steps_or_letter line rest [] letter all = all
+steps_or_letter line rest (x ∷ s) letter all = no_step line x letter all.0
 
-one_script : (lines : List (List ℕ)) (l m : Bounds) (s u : Script) → SpellScript lines l s → SpellScript lines m u → SameLines l m s u
-one_script lines l m s u (inl p) (inl q) = record { same = p.0 ∙ sym q.0; lines = lines; one = p.1; other = q.1 }
-one_script lines l m s u (inl p) (inr q) = absurd (limits_or_step q.0 q.1 m s q.3 (subst (λ v. SpellSteps v s) q.2 p.1))
-one_script lines l m s u (inr p) (inl q) = absurd (limits_or_step p.0 p.1 l u p.3 (subst (λ v. SpellSteps v u) p.2 q.1))
-one_script lines l m s u (inr p) (inr q) =
+-- the first letters of the line of limits, and of that of a number of buckets
+limits_letter : (line : List ℕ) (l : Bounds) → SpellsLimits line l → get_or line 0 0 ≡ 108
+limits_letter line l p = ap (λ v. get_or v 0 0) p.1
+
+buckets_letter : (line : List ℕ) (b : ℕ) → SpellsBuckets line b → get_or line 0 0 ≡ 98
+buckets_letter line b p = ap (λ v. get_or v 0 0) p.1
+
+one_body : (lines : List (List ℕ)) (b c : ℕ) (s u : Script) → SpellBody lines b s → SpellBody lines c u → SameSteps b c s u
+one_body lines b c s u (inl p) (inl q) = record { same = p.0 ∙ sym q.0; lines = lines; one = p.1; other = q.1 }
+one_body lines b c s u (inl p) (inr q) = absurd (steps_or_letter q.0 q.1 s (let first = buckets_letter q.0 c q.3 in omega (arith, first)) (subst (λ v. SpellSteps v s) q.2 p.1))
+one_body lines b c s u (inr p) (inl q) = absurd (steps_or_letter p.0 p.1 u (let first = buckets_letter p.0 b p.3 in omega (arith, first)) (subst (λ v. SpellSteps v u) p.2 q.1))
+one_body lines b c s u (inr p) (inr q) =
     let first : p.0 ≡ q.0 = ap (λ v. get_or v 0 []) (sym p.2 ∙ q.2) in
     let rest : p.1 ≡ q.1 = ap (drop 1) (sym p.2 ∙ q.2) in
     record {
-      same = one_limits q.0 l m (subst (λ v. SpellsLimits v l) first p.3) q.3;
+      same = one_buckets q.0 b c (subst (λ v. SpellsBuckets v b) first p.3) q.3;
       lines = q.1;
       one = subst (λ v. SpellSteps v s) rest p.4;
       other = q.4;
     }
 
-module _ (t : Tables) (l m : Bounds) (s u : Script) (a b : List ℕ) (p : IsOutput t l s a) (q : IsOutput t m u b) where
-  one_of_run : SameLines l m s u → a ≡ b
-  one_of_run lines =
+-- lines whose first spells limits spell no steps, and no number of buckets with steps
+body_or_limits : (line : List ℕ) (rest : List (List ℕ)) (l : Bounds) (b : ℕ) (s : Script) → SpellsLimits line l → SpellBody (line ∷ rest) b s → ⊥
+body_or_limits line rest l b s p (inl h) = steps_or_letter line rest s (let first = limits_letter line l p in omega (arith, first)) h.1
+body_or_limits line rest l b s p (inr h) =
+    let same : line ≡ h.0 = ap (λ v. get_or v 0 []) h.2 in
+    let one = limits_letter line l p in
+    let other = buckets_letter line b (subst (λ v. SpellsBuckets v b) (sym same) h.3) in
+    omega (arith, one, other)
+
+one_script : (lines : List (List ℕ)) (l m : Bounds) (b c : ℕ) (s u : Script) → SpellScript lines l b s → SpellScript lines m c u → (l ≡ m) × SameSteps b c s u
+one_script lines l m b c s u (inl p) (inl q) = (p.0 ∙ sym q.0, one_body lines b c s u p.1 q.1)
+one_script lines l m b c s u (inl p) (inr q) = absurd (body_or_limits q.0 q.1 m b s q.3 (subst (λ v. SpellBody v b s) q.2 p.1))
+one_script lines l m b c s u (inr p) (inl q) = absurd (body_or_limits p.0 p.1 l c u p.3 (subst (λ v. SpellBody v c u) p.2 q.1))
+one_script lines l m b c s u (inr p) (inr q) =
+    let first : p.0 ≡ q.0 = ap (λ v. get_or v 0 []) (sym p.2 ∙ q.2) in
+    let rest : p.1 ≡ q.1 = ap (drop 1) (sym p.2 ∙ q.2) in
+    (one_limits q.0 l m (subst (λ v. SpellsLimits v l) first p.3) q.3, one_body q.1 b c s u (subst (λ v. SpellBody v b s) rest p.4) q.4)
+
+module _ (t : Tables) (l m : Bounds) (b c : ℕ) (s u : Script) (x y : List ℕ) (p : IsOutput t l b s x) (q : IsOutput t m c u y) where
+  one_of_run : (l ≡ m) × SameSteps b c s u → x ≡ y
+  one_of_run both =
+      let lines = both.1 in
+      let opens : opening l (2 ^ b) ≡ opening m (2 ^ c) = ap (λ limits. opening limits (2 ^ b)) both.0 ∙ ap (λ (bits : ℕ). opening m (2 ^ bits)) lines.same in
       let same = one_run t lines.lines s u lines.one lines.other p.run.appended q.run.appended (sym (ap length p.run.is) ∙ p.all) (sym (ap length q.run.is) ∙ q.all)
-      (opening m usual_buckets) p.world q.world (subst (λ limits. Leads t (opening limits usual_buckets) (events_of s p.run.appended) p.world) lines.same p.run.leads) q.run.leads in
+      (opening m (2 ^ c)) p.world q.world (subst (λ (w : World). Leads t w (events_of s p.run.appended) p.world) opens p.run.leads) q.run.leads in
       p.is ∙ ap (λ rs. output_of rs p.world) (p.run.is ∙ same.0 ∙ sym q.run.is) ∙ ap (λ w. output_of q.replies w) same.1 ∙ sym q.is
 
-pub one_output : (t : Tables) (bytes a b : List ℕ) → IsReplay t bytes a → IsReplay t bytes b → a ≡ b
-one_output t bytes a b p q = one_of_run t p.limits q.limits p.steps q.steps a b p.run q.run (one_script (script_lines bytes) p.limits q.limits p.steps q.steps p.spelled q.spelled)
+pub one_output : (t : Tables) (bytes x y : List ℕ) → IsReplay t bytes x → IsReplay t bytes y → x ≡ y
+one_output t bytes x y p q =
+    one_of_run t p.limits q.limits p.bits q.bits p.steps q.steps x y p.run q.run (one_script (script_lines bytes) p.limits q.limits p.bits q.bits p.steps q.steps p.spelled q.spelled)

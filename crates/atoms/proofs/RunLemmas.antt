@@ -1,9 +1,8 @@
 -- Runs one after another.
-use Rattle.std.proofs.Common.{◌≡◌, ℕ, ◌+◌, ◌<◌, ◌≤◌, List, [], ◌∷◌, ◌++◌, length, sym, refl, ap, subst, ◌∙◌, arith, append_assoc, append-nil, length-append}
+use Rattle.std.proofs.Common.{◌≡◌, ℕ, ◌+◌, ◌^◌, ◌<◌, ◌≤◌, List, [], ◌∷◌, ◌++◌, length, sym, refl, ap, subst, ◌∙◌, arith, append_assoc, append-nil, length-append}
 use Rattle.std.specs.List.{flat_map}
 use Rattle.std.proofs.lemmas.Grind.{flat_map-append}
 use Rattle.string_cache.specs.Bounds.{Bounds}
-use Rattle.string_cache.specs.Layout.{usual_buckets}
 use Rattle.string_cache.specs.Tables.{Tables}
 use Rattle.string_cache.specs.World.{World}
 use Rattle.string_cache.specs.declared.steps.Step.{Step}
@@ -45,7 +44,7 @@ module _ (t : Tables) (w u v : World) (s z : Script) (q r : List StepReply) (a :
 
 -- The lines before `rest` are read, `most` of them; of their steps those of `chunk` are to be made, and the lines of the
 -- other replies are printed. Whatever is run next goes on the run from the beginning.
-pub record Running (t : Tables) (limits : Bounds) (text rest : List ℕ) (world : World) (chunk : Script) (out : List ℕ) (most : ℕ) : Type 0 where
+pub record Running (t : Tables) (limits : Bounds) (bits : ℕ) (text rest : List ℕ) (world : World) (chunk : Script) (out : List ℕ) (most : ℕ) : Type 0 where
   pub lines : List (List ℕ)
   pub made : Script
   pub replies : List StepReply
@@ -53,12 +52,12 @@ pub record Running (t : Tables) (limits : Bounds) (text rest : List ℕ) (world 
   pub good : SpellSteps lines (made ++ chunk)
   pub all : length replies ≡ length made
   pub printed : out ≡ flat_map reply_line replies
-  pub onward : (s : Script) (r : List StepReply) (v : World) → HasRun t world s [] r v → HasRun t (opening limits usual_buckets) (made ++ s) [] (replies ++ r) v
+  pub onward : (s : Script) (r : List StepReply) (v : World) → HasRun t world s [] r v → HasRun t (opening limits (2 ^ bits)) (made ++ s) [] (replies ++ r) v
   pub counted : most ≡ length lines
   pub few : length lines + length rest ≤ length text
 
-pub running_begins : (t : Tables) (limits : Bounds) (text : List ℕ) (world : World) (chunk : Script) (out : List ℕ) → world ≡ opening limits usual_buckets → chunk ≡ [] → out ≡ [] → Running t limits text text world chunk out 0
-running_begins t limits text world chunk out opens none empty = record {
+pub running_begins : (t : Tables) (limits : Bounds) (bits : ℕ) (text : List ℕ) (world : World) (chunk : Script) (out : List ℕ) → world ≡ opening limits (2 ^ bits) → chunk ≡ [] → out ≡ [] → Running t limits bits text text world chunk out 0
+running_begins t limits bits text world chunk out opens none empty = record {
   lines = [];
   made = [];
   replies = [];
@@ -71,7 +70,7 @@ running_begins t limits text world chunk out opens none empty = record {
   few = omega arith;
 }
 
-module _ {t : Tables} {limits : Bounds} {text rest : List ℕ} {world : World} {chunk : Script} {out : List ℕ} {most : ℕ} (p : Running t limits text rest world chunk out most) where
+module _ {t : Tables} {limits : Bounds} {bits : ℕ} {text rest : List ℕ} {world : World} {chunk : Script} {out : List ℕ} {most : ℕ} (p : Running t limits bits text rest world chunk out most) where
   -- the next line spells a step
   pub running_line : AreSteps (script_lines text) → (line after : List ℕ) → script_lines rest ≡ line ∷ script_lines after → ((s : ℕ × Step) → Spells line s → ⊥) → ⊥
   running_line steps line after cut none =
@@ -80,7 +79,7 @@ module _ {t : Tables} {limits : Bounds} {text rest : List ℕ} {world : World} {
 
   -- which is to be made too
   pub running_next : (line after : List ℕ) (s : ℕ × Step) (chunk' : Script) → script_lines rest ≡ line ∷ script_lines after → length after < length rest → Spells line s → chunk' ≡ chunk ++ (s ∷ [])
-      → Running t limits text after world chunk' out (most + 1)
+      → Running t limits bits text after world chunk' out (most + 1)
   running_next line after s chunk' cut shorter spells grown = record {
     lines = p.lines ++ (line ∷ []);
     made = p.made;
@@ -95,7 +94,7 @@ module _ {t : Tables} {limits : Bounds} {text rest : List ℕ} {world : World} {
   }
 
   -- all are made
-  pub running_on : (world' : World) (chunk' : Script) (out' : List ℕ) → RunsOn t world world' chunk out out' → chunk' ≡ [] → Running t limits text rest world' chunk' out' most
+  pub running_on : (world' : World) (chunk' : Script) (out' : List ℕ) → RunsOn t world world' chunk out out' → chunk' ≡ [] → Running t limits bits text rest world' chunk' out' most
   running_on world' chunk' out' ran none = record {
     lines = p.lines;
     made = p.made ++ chunk;
@@ -105,24 +104,24 @@ module _ {t : Tables} {limits : Bounds} {text rest : List ℕ} {world : World} {
     all = omega (arith, length-append p.replies ran.replies, length-append p.made chunk, p.all, ran.all);
     printed = ran.is ∙ ap (λ v. v ++ flat_map reply_line ran.replies) p.printed ∙ sym (flat_map-append reply_line p.replies ran.replies);
     onward = λ s r v run.
-        subst (λ (z : Script). HasRun t (opening limits usual_buckets) z [] ((p.replies ++ ran.replies) ++ r) v) (sym (append_assoc p.made chunk s))
-        (subst (λ (rs : List StepReply). HasRun t (opening limits usual_buckets) (p.made ++ (chunk ++ s)) [] rs v) (sym (append_assoc p.replies ran.replies r))
+        subst (λ (z : Script). HasRun t (opening limits (2 ^ bits)) z [] ((p.replies ++ ran.replies) ++ r) v) (sym (append_assoc p.made chunk s))
+        (subst (λ (rs : List StepReply). HasRun t (opening limits (2 ^ bits)) (p.made ++ (chunk ++ s)) [] rs v) (sym (append_assoc p.replies ran.replies r))
         (p.onward (chunk ++ s) (ran.replies ++ r) v (run_join t world world' v chunk s ran.replies r ran.run run ran.all)));
     counted = p.counted;
     few = p.few;
   }
 
   module _ (none : script_lines rest ≡ []) (world' : World) (out' : List ℕ) (ran : RunsOn t world world' chunk out out') where
-    whole_run : HasRun t (opening limits usual_buckets) (p.made ++ chunk) [] (p.replies ++ ran.replies) world'
+    whole_run : HasRun t (opening limits (2 ^ bits)) (p.made ++ chunk) [] (p.replies ++ ran.replies) world'
     whole_run = p.onward chunk ran.replies world' ran.run
 
     -- no more entries than lines
     pub running_few : length world'.entries ≤ most
     running_few =
-        let few = run_few t limits usual_buckets (opening limits usual_buckets) (p.made ++ chunk) [] (p.replies ++ ran.replies) world' refl whole_run in
+        let few = run_few t limits (2 ^ bits) (opening limits (2 ^ bits)) (p.made ++ chunk) [] (p.replies ++ ran.replies) world' refl whole_run in
         omega (arith, few, spell_length p.lines (p.made ++ chunk) p.good, p.counted)
 
-    pub running_ends : (output : List ℕ) → output ≡ out' ++ held_lines_from 1 world'.entries → (steps : Script) × SpellSteps (script_lines text) steps × IsOutput t limits steps output
+    pub running_ends : (output : List ℕ) → output ≡ out' ++ held_lines_from 1 world'.entries → (steps : Script) × SpellSteps (script_lines text) steps × IsOutput t limits bits steps output
     running_ends output held = (
       p.made ++ chunk,
       subst (λ (ls : List (List ℕ)). SpellSteps ls (p.made ++ chunk)) (sym (p.is ∙ ap (λ v. p.lines ++ v) none ∙ append-nil p.lines)) p.good,

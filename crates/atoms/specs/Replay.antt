@@ -1,10 +1,10 @@
 -- What `replay` writes of a script.
-use Rattle.std.specs.Prelude.{◌≡◌, ℕ, ◌+◌, ◌/◌, ◌%◌, ◌==◌, nat_lt, if◌then◌else◌, List, [], ◌∷◌, ◌++◌, length, codes, decimal, Option}
+use Rattle.std.specs.Prelude.{◌≡◌, ℕ, ◌+◌, ◌/◌, ◌%◌, ◌^◌, ◌==◌, nat_lt, if◌then◌else◌, List, [], ◌∷◌, ◌++◌, length, codes, decimal, Option}
 use Rattle.std.specs.List.{flat_map}
 use Rattle.string_cache.specs.Bounds.{Bounds}
 use Rattle.string_cache.specs.declared.steps.StepReply.{StepReply}
 use Rattle.string_cache.specs.declared.steps.StepReply.TheVariants as reply
-use Rattle.string_cache.specs.Layout.{usual_buckets, ticket_unit}
+use Rattle.string_cache.specs.Layout.{ticket_unit}
 use Rattle.string_cache.specs.Tables.{Tables}
 use Rattle.string_cache.specs.World.{Entry, World}
 use Rattle.string_cache.specs.Steps.{opening}
@@ -54,20 +54,22 @@ pub record RunsOn (t : Tables) (old new : World) (steps : Script) (before after 
   pub all : length replies ≡ length steps
   pub is : after ≡ before ++ flat_map reply_line replies
 
--- The steps were all made, one after another, from a world in which nothing happened yet, and this is the output.
-pub record IsOutput (t : Tables) (limits : Bounds) (steps : Script) (output : List ℕ) : Type 0 where
+-- The steps were all made, one after another, from a world of 2 ^ bits buckets in which nothing happened yet, and this is the
+-- output.
+pub record IsOutput (t : Tables) (limits : Bounds) (bits : ℕ) (steps : Script) (output : List ℕ) : Type 0 where
   pub replies : List StepReply
   pub world : World
-  pub run : HasRun t (opening limits usual_buckets) steps [] replies world
+  pub run : HasRun t (opening limits (2 ^ bits)) steps [] replies world
   pub all : length replies ≡ length steps
   pub is : output ≡ output_of replies world
 
 -- The bytes are a script, and this is its output.
 pub record IsReplay (t : Tables) (bytes output : List ℕ) : Type 0 where
   pub limits : Bounds
+  pub bits : ℕ
   pub steps : Script
-  pub spelled : SpellScript (script_lines bytes) limits steps
-  pub run : IsOutput t limits steps output
+  pub spelled : SpellScript (script_lines bytes) limits bits steps
+  pub run : IsOutput t limits bits steps output
 
 -- From old to new a beginning of the script's output was written.
 pub record BeginsReplay (t : Tables) (bytes : List ℕ) (old new : Option (List ℕ)) : Type 0 where

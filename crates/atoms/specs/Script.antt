@@ -3,7 +3,7 @@ use Rattle.std.specs.Prelude.{◌≡◌, ℕ, ◌+◌, ◌-◌, ◌^◌, ◌<◌
 use Rattle.string_cache.specs.Bounds.{Bounds, AreBounds}
 use Rattle.string_cache.specs.declared.steps.Step.{Step}
 use Rattle.string_cache.specs.declared.steps.Step.TheVariants.{TakeIntern, TakeSweep, Add, Link, Clone, Give, Unlink, Free, Leave}
-use Rattle.string_cache.specs.Layout.{holder_bound, serial_bound}
+use Rattle.string_cache.specs.Layout.{holder_bound, most_bits, serial_bound, usual_bits}
 use Rattle.string_cache.specs.Runs.{Script}
 use Rattle.atoms.specs.Words.{cons_first}
 
@@ -63,6 +63,14 @@ limits_line limits = codes "limits " ++ (decimal limits.holders ++ (codes " " ++
 abbrev pub SpellsLimits : List ℕ → Bounds → Type 0
 SpellsLimits line limits = AreBounds limits.holders limits.serials × (line ≡ limits_line limits)
 
+-- the line of a number of buckets, which has so many bits
+abbrev pub buckets_line : ℕ → List ℕ
+buckets_line bits = codes "buckets " ++ decimal bits
+
+-- the line spells a number of buckets with so many bits
+abbrev pub SpellsBuckets : List ℕ → ℕ → Type 0
+SpellsBuckets line bits = (bits ≤ most_bits) × (line ≡ buckets_line bits)
+
 -- ---- what the lines spell
 
 -- one step a line, in order
@@ -76,18 +84,24 @@ SpellSteps (line ∷ lines) (s ∷ steps) = Spells line s × SpellSteps lines st
 abbrev pub greatest : Bounds
 greatest = record { holders = holder_bound - 1; serials = serial_bound - 1 }
 
--- The lines spell limits and steps: the limits in the first line, or in none.
-abbrev pub SpellScript : List (List ℕ) → Bounds → Script → Type 0
-SpellScript lines limits steps = ((limits ≡ greatest) × SpellSteps lines steps)
-    ⊎ ((line : List ℕ) × (rest : List (List ℕ)) × (lines ≡ line ∷ rest) × SpellsLimits line limits × SpellSteps rest steps)
+-- The lines spell a number of buckets and steps: the number in the first line, or in none.
+abbrev pub SpellBody : List (List ℕ) → ℕ → Script → Type 0
+SpellBody lines bits steps = ((bits ≡ usual_bits) × SpellSteps lines steps)
+    ⊎ ((line : List ℕ) × (rest : List (List ℕ)) × (lines ≡ line ∷ rest) × SpellsBuckets line bits × SpellSteps rest steps)
 
--- The first line of a text spells limits, and the rest of the text is left, or it spells none, and all of it is left.
-abbrev pub TakesLimits : List ℕ → Option Bounds → List ℕ → Type 0
-TakesLimits text None rest =
-    ((line : List ℕ) (lines : List (List ℕ)) (l : Bounds) → script_lines text ≡ line ∷ lines → SpellsLimits line l → ⊥)
+-- The lines spell limits, a number of buckets and steps: the limits in the first line, or in none.
+abbrev pub SpellScript : List (List ℕ) → Bounds → ℕ → Script → Type 0
+SpellScript lines limits bits steps = ((limits ≡ greatest) × SpellBody lines bits steps)
+    ⊎ ((line : List ℕ) × (rest : List (List ℕ)) × (lines ≡ line ∷ rest) × SpellsLimits line limits × SpellBody rest bits steps)
+
+-- The first line of a text spells something, by Spelt, and the rest of the text is left, or it spells nothing of the kind, and
+-- all of it is left.
+abbrev pub Takes : {X : Type 0} → (List ℕ → X → Type 0) → List ℕ → Option X → List ℕ → Type 0
+Takes {X} Spelt text None rest =
+    ((line : List ℕ) (lines : List (List ℕ)) (x : X) → script_lines text ≡ line ∷ lines → Spelt line x → ⊥)
     × (rest ≡ text)
-TakesLimits text (Some l) rest =
-    ((line : List ℕ) × (script_lines text ≡ line ∷ script_lines rest) × SpellsLimits line l)
+Takes Spelt text (Some x) rest =
+    ((line : List ℕ) × (script_lines text ≡ line ∷ script_lines rest) × Spelt line x)
     × (length rest < length text)
 
 -- each line spells a step
@@ -114,6 +128,7 @@ pub record IsFirstBadLine (lines : List (List ℕ)) (n : ℕ) : Type 0 where
   pub is : lines ≡ before ++ (line ∷ after)
   pub number : n ≡ length before + 1
   pub limits : Bounds
+  pub bits : ℕ
   pub steps : Script
-  pub good : SpellScript before limits steps
-  pub bad : (l : Bounds) (s : Script) → SpellScript (before ++ (line ∷ [])) l s → ⊥
+  pub good : SpellScript before limits bits steps
+  pub bad : (l : Bounds) (b : ℕ) (s : Script) → SpellScript (before ++ (line ∷ [])) l b s → ⊥

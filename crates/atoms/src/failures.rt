@@ -57,7 +57,7 @@ impl Call {
         let answer = match self {
             Call::Words => words(rt, &set, &mut reader, &mut writer),
             Call::WordsAlone => words_alone(alloc, &mut reader, &mut writer),
-            Call::CountByTwo => tell_counts(rt, &set, 2, &mut reader, &mut writer),
+            Call::CountByTwo => tell_counts(rt, alloc, 2, &mut reader, &mut writer),
             Call::Replay => replay(alloc, &mut reader, &mut writer),
         };
         (answer, writer)

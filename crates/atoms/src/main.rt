@@ -1,6 +1,7 @@
 //! Words of the standard input: listed with how often each came before, or counted by several workers; and scripts of steps.
 #![tactic(auto)]
 
+mod buckets;
 mod count;
 #[cfg(test)]
 mod failures;

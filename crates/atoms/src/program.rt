@@ -20,7 +20,7 @@ use crate::faults::AppFault;
 use crate::generate::{write_answer, write_tables};
 use crate::replay::replay;
 use crate::streams::{Sink, Source, write_whole};
-use crate::words::words;
+use crate::words::words_in_new_set;
 use std::alloc::Global;
 use std::fmt::Write;
 use std::io::ErrorKind;
@@ -28,8 +28,7 @@ use std::rt::Env;
 use std::sync::Wait;
 use std::thread::Threads;
 use std::{env, fmt};
-use string_cache::dynamic_set::Set;
-use string_cache::{EmptyStaticAtomSet, Fault};
+use string_cache::Fault;
 use table_generator::numbers::{number_of, short_number_of};
 
 const USAGE: &str = "usage: atoms words | count N | replay | generate KEY BOUND | check\n";
@@ -196,47 +195,6 @@ pub fn usage<F: Sink>(faults: &mut F) -> u8
     2
 }
 
-/// `words` over a set of its own.
-fn words_in_new_set<R: Wait, S: Source, K: Sink>(
-    rt: &R,
-    alloc: Global,
-    input: &mut S,
-    output: &mut K,
-) -> Result<(), AppFault>
-    requires input { S.has_failed input.old ≡ false }
-    requires output { K.has_failed output.old ≡ false }
-    ensures utf8 { OnOk result (IfSome (S.remaining input.old) IsUtf8) }
-    ensures lines { OnOk result (IfSome (S.remaining input.old) (λ bytes.
-        Appends (K.contents output.old) (K.contents output.new) (word_lines bytes))) }
-    ensures beginning { OnErr result (IfSome (S.remaining input.old) (λ bytes.
-        AppendsBeginning (K.contents output.old) (K.contents output.new) (word_lines bytes))) }
-{
-    let set = Set::<EmptyStaticAtomSet>::new(alloc)?;
-    words(rt, &set, input, output)
-}
-
-/// `tell_counts` over a set of its own.
-fn count_in_new_set<R: Threads + Wait + Sync, S: Source, K: Sink>(
-    rt: &R,
-    alloc: Global,
-    n: u32,
-    input: &mut S,
-    output: &mut K,
-) -> Result<(), AppFault>
-    requires low { 1 ≤ n }
-    requires high { n ≤ 64 }
-    requires input { S.has_failed input.old ≡ false }
-    requires output { K.has_failed output.old ≡ false }
-    ensures utf8 { OnOk result (IfSome (S.remaining input.old) IsUtf8) }
-    ensures lines { OnOk result (IfSome (S.remaining input.old) (λ bytes.
-        Appends (K.contents output.old) (K.contents output.new) (count_lines bytes))) }
-    ensures beginning { OnErr result (IfSome (S.remaining input.old) (λ bytes.
-        AppendsBeginning (K.contents output.old) (K.contents output.new) (count_lines bytes))) }
-{
-    let set = Set::<EmptyStaticAtomSet>::new(alloc)?;
-    tell_counts(rt, &set, n, input, output)
-}
-
 /// Runs the command that the arguments, without the program's name, ask for, and answers the exit status: 0, or 1 after
 /// a fault's line, or 2 after the usage line, where nothing was read or written.
 pub fn program<R: Threads + Wait + Sync, S: Source, K: Sink, F: Sink>(
@@ -286,7 +244,7 @@ pub fn program<R: Threads + Wait + Sync, S: Source, K: Sink, F: Sink>(
     };
     let outcome = match command {
         Command::Words => words_in_new_set(rt, alloc, input, output),
-        Command::Count(n) => count_in_new_set(rt, alloc, n, input, output),
+        Command::Count(n) => tell_counts(rt, alloc, n, input, output),
         Command::Replay => replay(alloc, input, output),
         Command::Generate(key, bound) => write_tables(alloc, key, bound, input, output),
         Command::Check => write_answer(alloc, input, output),

@@ -21,12 +21,12 @@ use crate::streams::{Sink, Source, read_all, write_whole};
 use line::step_of_line;
 use print::{append_holders, append_replies};
 pub use script::next_line;
-use script::{check_steps, opening_of};
+use script::{buckets_of, check_steps, limits_of};
 use std::alloc::Global;
 use std::str;
 use string_cache::EmptyStaticAtomSet;
 use string_cache::steps::{Step, World};
-use string_cache::word::Limits;
+use string_cache::word::{Buckets, Limits};
 
 /// The most steps that are kept before they are made.
 const CHUNK: usize = 4096;
@@ -48,15 +48,20 @@ fn run_steps(
     Ok(())
 }
 
-/// Makes the steps of a text's lines in a world of their own, and gives the lines of the replies and of what is held
-/// then.
-fn output_of(alloc: Global, limits: Limits, text: &str) -> Result<String, AppFault>
+/// Makes the steps of a text's lines in a world of their own, with so many buckets, and gives the lines of the replies and of
+/// what is held then.
+fn output_of(
+    alloc: Global,
+    limits: Limits,
+    buckets: Buckets,
+    text: &str,
+) -> Result<String, AppFault>
     requires { AreSteps (script_lines text.now) }
     ensures ok { IfOk result (λ out. (steps : Script) × SpellSteps (script_lines text.now) steps
-        × IsOutput empty_tables limits steps (string_bytes out)) }
+        × IsOutput empty_tables limits buckets steps (string_bytes out)) }
     ensures fault { IfErr result (IsParsingFault (λ n. ⊥)) }
 {
-    let mut world: World<EmptyStaticAtomSet> = World::new(alloc, limits)?;
+    let mut world: World<EmptyStaticAtomSet> = World::with_buckets(alloc, limits, buckets)?;
     let mut out = String::new(alloc);
     let mut steps = Vec::new(alloc);
     let mut most = 0u64;
@@ -83,10 +88,12 @@ fn replay_text(alloc: Global, text: &str) -> Result<String, AppFault>
     ensures ok { IfOk result (λ out. IsReplay empty_tables text.now (string_bytes out)) }
     ensures fault { IfErr result (IsParsingFault (λ n. IsFirstBadLine (script_lines text.now) n)) }
 {
-    let (given, rest) = opening_of(text);
-    let before = u64::from(given.is_some());
+    let (limits, body) = limits_of(text);
+    let (buckets, rest) = buckets_of(body);
+    let before = u64::from(limits.is_some()) + u64::from(buckets.is_some());
     check_steps(alloc, rest, before)?;
-    output_of(alloc, given.unwrap_or(Limits::greatest()), rest)
+    let limits = limits.unwrap_or(Limits::greatest());
+    output_of(alloc, limits, buckets.unwrap_or(Buckets::usual()), rest)
 }
 
 /// Runs the script that the reader gives, over a table that nothing was interned in: a line for each step's reply, and

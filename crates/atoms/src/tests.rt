@@ -3,6 +3,7 @@
 
 ghost use Rattle.std.specs.Prelude.{None, false};
 
+use crate::buckets::buckets_for;
 use crate::faults::AppFault;
 use crate::memory::{Bytes, Page, Streams};
 use crate::streams::{Io, Sink};
@@ -295,4 +296,21 @@ fn tickets_are_spent(rt: HostRuntime) -> Result<(), Fail> {
         assert!(rt; written.written() == lines);
     }
     Ok(())
+}
+
+/// At each step of the choice, and on both sides of it.
+#[test]
+fn buckets_for_a_text(rt: HostRuntime) {
+    for (bytes, bits) in [
+        (0, 6),
+        (4095, 6),
+        (4096, 10),
+        (65_535, 10),
+        (65_536, 12),
+        (1_048_575, 12),
+        (1_048_576, 14),
+        (usize::MAX, 14),
+    ] {
+        assert_eq!(rt; buckets_for(bytes).bits(), bits, "of {bytes}");
+    }
 }

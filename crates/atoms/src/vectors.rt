@@ -132,7 +132,7 @@ const VECTORS: [Vector; 11] = [
     Vector {
         tables: Tables::Empty,
         text: "abcdefgh",
-        word: 0x4b14,
+        word: 0x1_0b14,
         form: "dynamic",
         hash: 0xdc89_567d_86f9_a2c5,
         precomputed: 0x5a70_f4b8,
@@ -141,7 +141,7 @@ const VECTORS: [Vector; 11] = [
     Vector {
         tables: Tables::Empty,
         text: "sentence",
-        word: 0x4594,
+        word: 0x1_0594,
         form: "dynamic",
         hash: 0xed02_e6f1_6c03_c165,
         precomputed: 0x8101_2794,
@@ -159,7 +159,7 @@ const VECTORS: [Vector; 11] = [
     Vector {
         tables: Tables::One,
         text: "SENTENCE",
-        word: 0x55d0,
+        word: 0x1_15d0,
         form: "dynamic",
         hash: 0xe89b_dab1_b2fd_2574,
         precomputed: 0x5a66_ffc5,

@@ -1,8 +1,9 @@
 // For each word of a text, a line that tells how often it came before.
 #![tactic(auto)]
 
-ghost use Rattle.std.specs.Prelude.{◌≡◌, ◌↔◌, ◌+◌, ◌^◌, ◌<◌, ◌++◌, IfOk, OnOk, OnErr, IfErr, false, true, string_bytes};
+ghost use Rattle.std.specs.Prelude.{◌≡◌, ◌↔◌, ◌+◌, ◌^◌, ◌<◌, ◌++◌, IfOk, IfSome, OnOk, OnErr, IfErr, false, true, string_bytes};
 ghost use Rattle.std.specs.Io.KnownBytes.{Appends};
+ghost use Rattle.std.specs.Str.{IsUtf8};
 ghost use Rattle.string_cache.specs.Faults.{IsInternFault};
 ghost use Rattle.atoms.specs.Counts.{count_of, CountsOneMore};
 ghost use Rattle.atoms.specs.Streams.{AppendsBeginning};
@@ -10,6 +11,7 @@ ghost use Rattle.atoms.specs.Words.{seen_line, word_lines};
 ghost use Rattle.atoms.specs.Faults.{IsWritingFault};
 ghost use Rattle.atoms.specs.Told.{TellsWords};
 
+use crate::buckets::buckets_for;
 use crate::faults::AppFault;
 use crate::streams::{PIECE, Sink, Source, read_all, write_whole};
 use std::alloc::{AllocError, Global};
@@ -18,6 +20,7 @@ use std::str;
 use std::sync::Wait;
 use string_cache::dynamic_set::Set;
 use string_cache::table::Table;
+use string_cache::word::Limits;
 use string_cache::{Atom, EmptyStaticAtomSet, Fault, StaticAtomSet};
 
 /// What words are interned in, and kept by until its end.
@@ -39,6 +42,16 @@ struct Holder<'r, 's, R: Wait, Static: StaticAtomSet> {
     rt: &'r R,
     set: &'s Set<Static>,
     atoms: Vec<Atom<'s, Static>>,
+}
+
+impl<'r, 's, R: Wait, Static: StaticAtomSet> Holder<'r, 's, R, Static> {
+    fn new(rt: &'r R, set: &'s Set<Static>) -> Self {
+        Holder {
+            rt,
+            set,
+            atoms: Vec::new(set.allocator()),
+        }
+    }
 }
 
 impl<R: Wait, Static: StaticAtomSet> Interner for Holder<'_, '_, R, Static> {
@@ -137,12 +150,29 @@ pub fn words<R: Wait, Static: StaticAtomSet, S: Source, K: Sink>(
         reader.old reader.new writer.old writer.new result }
 {
     let alloc = set.allocator();
-    let mut holder = Holder {
-        rt,
-        set,
-        atoms: Vec::new(alloc),
-    };
-    tell(alloc, &mut holder, reader, writer)
+    tell(alloc, &mut Holder::new(rt, set), reader, writer)
+}
+
+/// As `words`, over a set of this call's own, whose number of buckets fits the input.
+pub fn words_in_new_set<R: Wait, S: Source, K: Sink>(
+    rt: &R,
+    alloc: Global,
+    reader: &mut S,
+    writer: &mut K,
+) -> Result<(), AppFault>
+    requires reader { S.has_failed reader.old ≡ false }
+    requires writer { K.has_failed writer.old ≡ false }
+    ensures utf8 { OnOk result (IfSome (S.remaining reader.old) IsUtf8) }
+    ensures lines { OnOk result (IfSome (S.remaining reader.old) (λ bytes.
+        Appends (K.contents writer.old) (K.contents writer.new) (word_lines bytes))) }
+    ensures beginning { OnErr result (IfSome (S.remaining reader.old) (λ bytes.
+        AppendsBeginning (K.contents writer.old) (K.contents writer.new) (word_lines bytes))) }
+{
+    let given = read_all(alloc, reader)?;
+    let text = str::from_utf8(&given).ok().ok_or(AppFault::Text)?;
+    let buckets = buckets_for(text.len());
+    let set = Set::<EmptyStaticAtomSet>::with_buckets(alloc, Limits::greatest(), buckets)?;
+    write_words(alloc, &mut Holder::new(rt, &set), text, writer)
 }
 
 /// The same lines and faults as those of `words`. The words are interned in a table of this call's own, which ends with it,

@@ -11,6 +11,7 @@ ghost use Rattle.atoms.specs.Streams.{AppendsBeginning};
 ghost use Rattle.atoms.specs.WordCounts.{counted_texts};
 
 use super::{Open, count};
+use crate::buckets::buckets_for;
 use crate::faults::AppFault;
 use crate::streams::{PIECE, Sink, Source, read_all, write_whole};
 use std::alloc::{AllocError, Global};
@@ -18,7 +19,8 @@ use std::str;
 use std::sync::Wait;
 use std::thread::Threads;
 use string_cache::dynamic_set::Set;
-use string_cache::{Atom, StaticAtomSet};
+use string_cache::word::Limits;
+use string_cache::{Atom, EmptyStaticAtomSet, StaticAtomSet};
 
 /// Appends the line of a word and its number.
 fn append_count(out: &mut String, word: &str, n: u64) -> Result<(), AllocError>
@@ -49,16 +51,18 @@ fn write_lines<Static: StaticAtomSet, K: Sink>(
     write_whole(writer, pending.as_bytes())
 }
 
-/// Reads all, counts its words by `n` workers, interned in the set, and writes a line for each distinct one.
+/// Reads all, counts its words by `n` workers, and writes a line for each distinct one. They are interned in a set of this
+/// call's own, whose number of buckets fits the input.
 ///
 /// `Read` and `Text`, input that isn't UTF-8, come before anything is written. After another fault a beginning of the
 /// lines is.
-pub fn tell_counts<
-    R: Threads + Wait + Sync,
-    Static: StaticAtomSet + Send + Sync,
-    S: Source,
-    K: Sink,
->(rt: &R, set: &Set<Static>, n: u32, reader: &mut S, writer: &mut K) -> Result<(), AppFault>
+pub fn tell_counts<R: Threads + Wait + Sync, S: Source, K: Sink>(
+    rt: &R,
+    alloc: Global,
+    n: u32,
+    reader: &mut S,
+    writer: &mut K,
+) -> Result<(), AppFault>
     requires low { 1 ≤ n }
     requires high { n ≤ 64 }
     requires reader { S.has_failed reader.old ≡ false }
@@ -70,11 +74,12 @@ pub fn tell_counts<
         AppendsBeginning (K.contents writer.old) (K.contents writer.new) (count_lines bytes))) }
     ensures unwritten { IfErr result (λ fault. IsUnwrittenFault fault → Keeps (K.contents writer.old) (K.contents writer.new)) }
 {
-    let alloc = set.allocator();
     let bytes = read_all(alloc, reader)?;
     let Ok(text) = str::from_utf8(&bytes) else {
         return Err(AppFault::Text);
     };
-    let counts = count(rt, set, text, n, &Open)?;
+    let buckets = buckets_for(bytes.len());
+    let set = Set::<EmptyStaticAtomSet>::with_buckets(alloc, Limits::greatest(), buckets)?;
+    let counts = count(rt, &set, text, n, &Open)?;
     write_lines(alloc, &counts, writer)
 }

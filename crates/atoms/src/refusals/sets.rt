@@ -76,7 +76,7 @@ fn long_text_is_put_into_upper_case(rt: HostRuntime) -> Result<(), Fail> {
         made => made?,
     };
     assert!(rt; upper.eq_str("A".repeat(rt.alloc(), 65)?.as_str()));
-    assert!(rt; upper.unsafe_data() == 0x6680);
+    assert!(rt; upper.unsafe_data() == 0x1_2680);
     assert!(rt; set.linked(&rt) == 2);
     Ok(())
 }

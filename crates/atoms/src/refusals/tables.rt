@@ -10,7 +10,7 @@ use string_cache::{EmptyStaticAtomSet, Fault};
 /// The first ticket of "interned", and the next one.
 const FIRST: u64 = 0x1_0840;
 
-const SECOND: u64 = 0x8840;
+const SECOND: u64 = 0x2_0840;
 
 /// The end of a call that keeps what it did till it was refused.
 fn midway(is_refused: bool) -> End {
@@ -69,7 +69,7 @@ const REPLIES: [TableReply; 6] = [
     TableReply::Given,
     TableReply::Given,
     TableReply::Word(SECOND),
-    TableReply::Word(0x79dc),
+    TableReply::Word(0x1_39dc),
 ];
 
 /// How a run ended.

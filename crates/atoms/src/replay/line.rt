@@ -1,14 +1,14 @@
-// One line of a script, and the step or the limits that it spells.
+// One line of a script, and the step, the limits or the number of buckets that it spells.
 #![tactic(auto)]
 
 ghost use Rattle.std.specs.Prelude.{◌≡◌, ◌≢◌, ℕ, ◌^◌, ◌<◌, ◌≤◌, ◌++◌, List, length, codes, decimal, string_bytes, MatchOption, IfOk};
 ghost use Rattle.string_cache.specs.Bounds.{Bounds};
 ghost use Rattle.string_cache.specs.declared.steps.Step.{Step};
-ghost use Rattle.atoms.specs.Script.{HasWords, step_words, HasLine, IsEntryNumber, Spells, SpellsLimits};
+ghost use Rattle.atoms.specs.Script.{HasWords, step_words, HasLine, IsEntryNumber, Spells, SpellsBuckets, SpellsLimits};
 
 use std::alloc::{AllocError, Global};
 use string_cache::steps::Step;
-use string_cache::word::Limits;
+use string_cache::word::{Buckets, Limits};
 use table_generator::numbers::{number_after, number_of};
 
 /// The number behind `words` as that of an entry, which is from 1.
@@ -134,4 +134,22 @@ pub fn limits_of_line(line: &str) -> Option<Limits>
         return None;
     };
     Limits::new(holders, serials)
+}
+
+/// The bits of the number of buckets that a line spells, be there such a number of buckets or not.
+fn bucket_bits(line: &str) -> Option<u8>
+    ensures { MatchOption result ((bits : ℕ) → bits < 2 ^ 8 → line.now ≢ codes "buckets " ++ decimal bits)
+        (λ bits. line.now ≡ codes "buckets " ++ decimal bits) }
+{
+    let bits = number_after(line, "buckets ")?;
+    u8::try_from(bits).ok()
+}
+
+/// The number of buckets that a line spells. `None` where it spells none.
+pub fn buckets_of_line(line: &str) -> Option<Buckets>
+    ensures { MatchOption result ((bits : ℕ) → SpellsBuckets line.now bits → ⊥)
+        (λ bits. SpellsBuckets line.now bits) }
+{
+    let bits = bucket_bits(line)?;
+    Buckets::new(bits)
 }

@@ -1,14 +1,14 @@
-// A script's lines, and the limits and the steps that they spell.
+// A script's lines, and what they spell: limits, a number of buckets, and steps.
 #![tactic(auto)]
 
 ghost use Rattle.std.specs.Prelude.{◌≡◌, ◌+◌, ◌^◌, ◌<◌, ◌∷◌, [], length, MatchOption, IfOk, IfErr, OnOk};
-ghost use Rattle.atoms.specs.Script.{script_lines, AreSteps, TakesLimits, StopsAfter};
+ghost use Rattle.atoms.specs.Script.{script_lines, AreSteps, SpellsBuckets, SpellsLimits, Takes, StopsAfter};
 ghost use Rattle.atoms.specs.Faults.{IsParsingFault};
 
 use crate::faults::AppFault;
-use crate::replay::line::{limits_of_line, step_of_line};
+use crate::replay::line::{buckets_of_line, limits_of_line, step_of_line};
 use std::alloc::Global;
-use string_cache::word::Limits;
+use string_cache::word::{Buckets, Limits};
 
 /// The first line, without its line feed, and what stands behind it. `None` where nothing is left.
 pub fn next_line(text: &str) -> Option<(&str, &str)>
@@ -26,12 +26,24 @@ pub fn next_line(text: &str) -> Option<(&str, &str)>
 }
 
 /// The limits in the first line of a text, if it spells limits, and the text without that line.
-pub fn opening_of(text: &str) -> (Option<Limits>, &str)
-    ensures { TakesLimits text.now result.0 result.1.now }
+pub fn limits_of(text: &str) -> (Option<Limits>, &str)
+    ensures { Takes SpellsLimits text.now result.0 result.1.now }
 {
     if let Some((line, rest)) = next_line(text) {
         if let Some(limits) = limits_of_line(line) {
             return (Some(limits), rest);
+        }
+    }
+    (None, text)
+}
+
+/// The number of buckets in the first line of a text, if it spells one, and the text without that line.
+pub fn buckets_of(text: &str) -> (Option<Buckets>, &str)
+    ensures { Takes SpellsBuckets text.now result.0 result.1.now }
+{
+    if let Some((line, rest)) = next_line(text) {
+        if let Some(buckets) = buckets_of_line(line) {
+            return (Some(buckets), rest);
         }
     }
     (None, text)

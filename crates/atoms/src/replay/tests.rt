@@ -20,7 +20,7 @@ fn replay_of(alloc: Global, streams: &Streams) -> (Result<(), AppFault>, Page) {
 }
 
 /// Scripts with what they print, worked out by hand from the table of steps.
-pub const WORKED: [(&[u8], &[u8]); 7] = [
+pub const WORKED: [(&[u8], &[u8]); 9] = [
     (
         b"1 intern tokenised
 1 link
@@ -146,6 +146,43 @@ held e1 2
         b"taken
 left
 no
+no
+",
+    ),
+    (
+        b"buckets 0
+1 intern interned
+1 link
+1 leave
+2 intern tokenised
+2 link
+2 leave
+2 unlink e1
+2 leave
+1 sweep 1
+",
+        b"taken
+linked e1 serial 1
+left
+taken
+linked e2 serial 2
+no
+kept
+left
+no
+held e1 1
+held e2 1
+",
+    ),
+    (
+        b"limits 1 1
+buckets 14
+1 sweep 16383
+1 leave
+1 sweep 16384
+",
+        b"taken
+left
 no
 ",
     ),

@@ -5,7 +5,7 @@ use Rattle.atoms.proofs.replay.output_of.Goals as goal
 
 pub loop-line-init : goal.loop-line-init
 loop-line-init c =
-    (search rules, running_begins empty_tables c.args.limits c.args.text.now c.in_ok-world.world c.new-steps.result.items (string_bytes c.new-out.result) c.in_ok-world.ensures.ok c.new-steps.ensures.items c.new-out.ensures.bytes)
+    (search rules, running_begins empty_tables c.args.limits c.args.buckets c.args.text.now c.in_ok-world.world c.new-steps.result.items (string_bytes c.new-out.result) c.in_ok-world.ensures.ok c.new-steps.ensures.items c.new-out.ensures.bytes)
 
 pub unreachable-requires : goal.unreachable-requires
 unreachable-requires c =

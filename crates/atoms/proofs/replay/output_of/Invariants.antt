@@ -6,7 +6,7 @@ use Rattle.atoms.proofs.RunLemmas.{Running}
 use Rattle.atoms.proofs.replay.output_of.Given as goal
 
 abbrev pub invariant-loop-line : goal.invariant-loop-line
-invariant-loop-line l = shadow (Utf8 l.rest) × Running empty_tables l.fn.limits l.text l.rest l.world l.steps.items (string_bytes l.out) l.most
+invariant-loop-line l = shadow (Utf8 l.rest) × Running empty_tables l.fn.limits l.fn.buckets l.text l.rest l.world l.steps.items (string_bytes l.out) l.most
 
 abbrev pub decreases-loop-line : goal.decreases-loop-line
 decreases-loop-line l = length l.rest

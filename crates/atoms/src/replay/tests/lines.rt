@@ -16,6 +16,8 @@ fn good_lines(rt: HostRuntime) {
             b"limits 9223372036854775807 281474976710655\n".as_slice(),
             b"".as_slice(),
         ),
+        (b"buckets 0".as_slice(), b"".as_slice()),
+        (b"limits 1 1\nbuckets 14\n".as_slice(), b"".as_slice()),
         (b"1 link".as_slice(), b"no\n".as_slice()),
         (
             b"4294967295 sweep 4294967295\n1 sweep 0\n1 leave\n1 add e18446744073709551615\n1 free e10".as_slice(),
@@ -40,7 +42,7 @@ fn good_lines(rt: HostRuntime) {
     }
 }
 
-/// Lines that spell no step and no limits, between line feeds.
+/// Lines that spell no step, no limits and no number of buckets, between line feeds.
 const BAD_LINES: &str = "
 1 jump
 link
@@ -110,7 +112,21 @@ limits -1 1
 limits 9223372036854775808 1
 limits 1 281474976710656
 limits 1 1125899906842623
-Limits 1 1";
+Limits 1 1
+buckets
+buckets\x20
+buckets 15
+buckets 012
+buckets 00
+buckets  1
+buckets 1\x20
+buckets +1
+buckets -1
+buckets 256
+buckets 268
+buckets 18446744073709551616
+buckets 1 1
+Buckets 1";
 
 #[test]
 fn bad_lines(rt: HostRuntime) {
@@ -139,6 +155,14 @@ fn bad_line_is_named(rt: HostRuntime) {
         (b"1 link\nlimits 1 1\n".as_slice(), 2),
         (b"1 link\n1 link\r\n1 link\n".as_slice(), 2),
         (b"limits 1 1\n1 link\n0 link".as_slice(), 3),
+        (b"buckets 1\nbuckets 1\n".as_slice(), 2),
+        (b"1 link\nbuckets 1\n".as_slice(), 2),
+        (b"buckets 1\nlimits 1 1\n".as_slice(), 2),
+        (b"limits 1 1\nbuckets 15\n".as_slice(), 2),
+        (b"limits 1 1\nbuckets 1\nbuckets 1\n".as_slice(), 3),
+        (b"limits 1 1\nbuckets 1\nlimits 1 1\n".as_slice(), 3),
+        (b"limits 1 1\n1 link\nbuckets 1\n".as_slice(), 3),
+        (b"limits 1 1\nbuckets 1\n1 link\n0 link".as_slice(), 4),
     ] {
         let (answer, written) = replay_of(rt.alloc(), &Streams::ample(script));
         assert_eq!(rt; answer, Err(AppFault::Script(line)), "of {script:?}");

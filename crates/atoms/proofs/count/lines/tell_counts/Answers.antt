@@ -9,3 +9,6 @@ returns-in_default-clause-unwritten g c = λ _. keeps_same _
 
 pub returns-in_err-counts-clause-beginning : goal.returns-in_err-counts-clause-beginning
 returns-in_err-counts-clause-beginning g c = on_err _ (if_some_any _ (λ bytes. beginning_nothing _ _ _ (keeps_same _)))
+
+pub returns-in_err-set-clause-beginning : goal.returns-in_err-set-clause-beginning
+returns-in_err-set-clause-beginning g c = on_err _ (if_some_any _ (λ bytes. beginning_nothing _ _ _ (keeps_same _)))
