@@ -41,7 +41,7 @@ all_below x k (y ∷ ys) less h =
       | Greater ↦ (h.0, later)
     ]
 
-below_later : (k x : List ℕ) (ks : List (List ℕ)) → by_bytes k x ≡ Less → AllByRecursion (λ y. by_bytes x y ≡ Less) ks → AllByRecursion (λ y. by_bytes k y ≡ Less) ks
+pub below_later : (k x : List ℕ) (ks : List (List ℕ)) → by_bytes k x ≡ Less → AllByRecursion (λ y. by_bytes x y ≡ Less) ks → AllByRecursion (λ y. by_bytes k y ≡ Less) ks
 below_later k x [] less h = tt
 below_later k x (y ∷ ys) less h = (nat_list_cmp_total.trans k x y less h.0, below_later k x ys less h.1)
 
@@ -103,6 +103,9 @@ lookup_with q words (k ∷ ks) =
       | true ↦ λ e. ap (λ w. Some (times_seen words w)) (sym ((bytes_decides q k).0 e))
       | false ↦ λ e. later
     ] refl
+
+pub found_counts : (q : List ℕ) (words : List (List ℕ)) → lookup (bytes_eq q) (word_counts words) ≡ cond (list_any (bytes_eq q) words) (Some (times_seen words q)) None
+found_counts q words = lookup_with q words (distinct_words words) ∙ ap (λ b. cond b (Some (times_seen words q)) None) (member_words q words)
 
 -- ---- their law
 
@@ -196,7 +199,7 @@ counts_law words =
 
 -- ---- what determines them
 
-none_seen : (q : List ℕ) (words : List (List ℕ)) → list_any (bytes_eq q) words ≡ false → times_seen words q ≡ 0
+pub none_seen : (q : List ℕ) (words : List (List ℕ)) → list_any (bytes_eq q) words ≡ false → times_seen words q ≡ 0
 none_seen q [] h = refl
 none_seen q (w ∷ words) h =
     let parts = neither (bytes_eq q w) (list_any (bytes_eq q) words) h in
@@ -242,8 +245,7 @@ pub counts_are : (counts : List (List ℕ × ℕ)) (words : List (List ℕ)) →
 counts_are counts words ordered found =
     same_entries by_bytes nat_list_cmp_total exact_bytes counts (word_counts words) (rising counts ordered)
     (rising (word_counts words) (subst (IsStrictlySortedBy by_bytes) (sym (keys_stay words (distinct_words words))) (sorted_words words)))
-    (λ q. by_order q counts ∙ found q
-    ∙ ap (λ b. cond b (Some (times_seen words q)) None) (sym (member_words q words)) ∙ sym (lookup_with q words (distinct_words words)) ∙ sym (by_order q (word_counts words)))
+    (λ q. by_order q counts ∙ found q ∙ sym (found_counts q words) ∙ sym (by_order q (word_counts words)))
 
 -- ---- the pairs of a tally, in order
 

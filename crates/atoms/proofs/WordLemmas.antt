@@ -1,10 +1,13 @@
 -- The words of a text come off its front, one by one.
-use Rattle.std.proofs.Common.{◌≡◌, ℕ, ◌<◌, Bool, true, false, not, List, [], ◌∷◌, ◌++◌, length, sym, refl, ap, ◌∙◌, subst, append_assoc, append-nil, length-append, arith, map}
-use Rattle.std.specs.Prelude.{encode_utf8_all, encode_utf8}
-use Rattle.std.specs.Str.{NonePass, NoCharPasses, EmptyOrStartsWithPassing}
+use Rattle.std.proofs.Common.{◌≡◌, ℕ, ◌<◌, Bool, true, false, not, List, [], ◌∷◌, ◌++◌, length, sym, refl, ap, ◌∙◌, subst, append_assoc, append-nil, length-append, arith, map, cond, suc, take, drop, filter}
+use Rattle.std.proofs.Math.Seq.{drop-cons}
+use Rattle.std.specs.Prelude.{encode_utf8_all, encode_utf8, slice_index}
+use Rattle.std.specs.Str.{NonePass, NoCharPasses, EmptyOrStartsWithPassing, IsUtf8, chars}
 use Rattle.std.specs.Char.{is_whitespace, is_not_whitespace}
-use Rattle.std.proofs.lemmas.Str.{cons_from_encodes, encode_same, encodes_same, length-encode, len_utf8_bounds}
-use Rattle.atoms.specs.Words.{cons_first, parts, char_words}
+use Rattle.std.proofs.lemmas.Str.{cons_from_encodes, encode_same, encodes_same, length-encode, len_utf8_bounds, chars-append, chars_past_char, chars_from_encodes, encode_ascii, IsCharBoundary-before_ascii, IsUtf8-take, IsUtf8-drop}
+use Rattle.std.proofs.lemmas.List.{take-append-drop, map-append}
+use Rattle.std.proofs.lemmas.List.Elements.{filter-append}
+use Rattle.atoms.specs.Words.{cons_first, parts, has_chars, char_words, words}
 
 -- white space in front changes no word
 pub words_past_gap : (gap cs : List ℕ) → NonePass is_not_whitespace gap → char_words (gap ++ cs) ≡ char_words cs
@@ -85,3 +88,53 @@ word_comes_off ds bs w rest e item =
 -- white space alone has no words
 pub no_words : (ds bs : List ℕ) → encode_utf8_all ds ≡ bs → NoCharPasses is_not_whitespace bs → char_words ds ≡ []
 no_words ds bs e h = ap char_words (encodes_same ds h.0 (e ∙ sym h.1) ∙ sym (append-nil h.0)) ∙ words_past_gap h.0 [] h.2
+
+-- ---- a text cut before white space
+
+some_parts : (cs : List ℕ) → (p : List ℕ) × ((ps : List (List ℕ)) × (parts cs ≡ p ∷ ps))
+some_parts [] = ([], ([], refl))
+some_parts (c ∷ cs) =
+    let rest = some_parts cs in
+    elim (is_whitespace c) as (λ b. (p : List ℕ) × ((ps : List (List ℕ)) × (cond b ([] ∷ parts cs) (cons_first c (parts cs)) ≡ p ∷ ps))) [
+      | true ↦ ([], (parts cs, refl))
+      | false ↦ (c ∷ rest.0, (rest.1.0, ap (cons_first c) rest.1.1))
+    ]
+
+cons_first_joined : (c : ℕ) (p : List ℕ) (ps all more : List (List ℕ)) → all ≡ p ∷ ps → cons_first c (all ++ more) ≡ cons_first c all ++ more
+cons_first_joined c p ps all more is = ap (λ l. cons_first c (l ++ more)) is ∙ sym (ap (λ l. cons_first c l ++ more) is)
+
+parts_joined : (c : ℕ) (bs cs : List ℕ) → is_whitespace c ≡ true → parts (bs ++ (c ∷ cs)) ≡ parts bs ++ parts cs
+parts_joined c [] cs white = ap (λ b. cond b ([] ∷ parts cs) (cons_first c (parts cs))) white
+parts_joined c (b ∷ bs) cs white =
+    let rest = parts_joined c bs cs white in
+    let some = some_parts bs in
+    elim (is_whitespace b) as (λ v. cond v ([] ∷ parts (bs ++ (c ∷ cs))) (cons_first b (parts (bs ++ (c ∷ cs)))) ≡ cond v ([] ∷ parts bs) (cons_first b (parts bs)) ++ parts cs) [
+      | true ↦ ap (λ l. [] ∷ l) rest
+      | false ↦ ap (cons_first b) rest ∙ cons_first_joined b some.0 some.1.0 (parts bs) (parts cs) some.1.1
+    ]
+
+char_words_joined : (c : ℕ) (bs cs : List ℕ) → is_whitespace c ≡ true → char_words (bs ++ (c ∷ cs)) ≡ char_words bs ++ char_words (c ∷ cs)
+char_words_joined c bs cs white =
+    ap (filter has_chars) (parts_joined c bs cs white) ∙ filter-append has_chars (parts bs) (parts cs)
+    ∙ ap (λ l. char_words bs ++ l) (sym (ap (filter has_chars) (parts_joined c [] cs white)))
+
+-- the words of both parts are those of the text
+pub words_joined : (text : List ℕ) (i : ℕ) → IsUtf8 text → i < length text → slice_index text i < 128 → is_whitespace (slice_index text i) ≡ true
+    → words text ≡ words (take i text) ++ words (drop i text)
+words_joined text i utf8 within ascii white =
+    let seam = IsCharBoundary-before_ascii text i within ascii in
+    let front = IsUtf8-take text i utf8 seam in
+    let back = IsUtf8-drop text i utf8 seam in
+    let c = slice_index text i in
+    let first : chars (drop i text) ≡ c ∷ chars (drop (suc i) text) =
+    chars_past_char (drop i text) (drop (suc i) text) c back (drop-cons text i 0 within ∙ ap (λ e. e ++ drop (suc i) text) (sym (encode_ascii c ascii))) in
+    ap (λ t. map encode_utf8_all (char_words (chars t))) (sym (take-append-drop i text))
+    ∙ ap (λ t. map encode_utf8_all (char_words t)) (chars-append (take i text) (drop i text) front)
+    ∙ ap (λ t. map encode_utf8_all (char_words (chars (take i text) ++ t))) first
+    ∙ ap (map encode_utf8_all) (char_words_joined c (chars (take i text)) (chars (drop (suc i) text)) white)
+    ∙ map-append encode_utf8_all (char_words (chars (take i text))) (char_words (c ∷ chars (drop (suc i) text)))
+    ∙ ap (λ t. words (take i text) ++ map encode_utf8_all (char_words t)) (sym first)
+
+-- nothing has no words
+pub words_of_nothing : words [] ≡ []
+words_of_nothing = ap (λ cs. map encode_utf8_all (char_words cs)) (sym (chars_from_encodes [] [] ([], (refl, refl)) refl))

@@ -7,7 +7,6 @@ use Rattle.std.specs.List.Sorted.{IsStrictlySortedBy}
 use Rattle.std.specs.Map.{keys_of, values_of}
 use Rattle.std.specs.Ordering.{nat_cmp}
 use Rattle.string_cache.specs.AtomValue.{AtomValue}
-use denote.Ref.{Bor}
 use Rattle.atoms.specs.Words.{times_seen}
 
 -- each word of the list once, in the order of bytes
@@ -27,10 +26,6 @@ pub record AreWordCounts (words : List (List ℕ)) (counts : List (List ℕ × �
   -- each number is that of the word's places, and together they are as many as there are words
   pub places : All (λ pair. pair.1 ≡ times_seen words pair.0) counts
   pub total : sum (values_of counts) ≡ length words
-
--- the texts of words where they lie
-abbrev pub word_texts : List (Bor (List ℕ)) → List (List ℕ)
-word_texts words = map (λ word. word.now) words
 
 -- atoms with their numbers, as texts with their numbers
 abbrev pub counted_texts : List (AtomValue × ℕ) → List (List ℕ × ℕ)

@@ -3,12 +3,14 @@
 
 ghost use Rattle.std.specs.Prelude.{◌≡◌, ◌≤◌, IfOk, IfErr};
 ghost use Rattle.atoms.specs.Faults.{IsCountFault};
-ghost use Rattle.atoms.specs.WordCounts.{AreWordCounts, counted_texts, word_counts, word_texts};
+ghost use Rattle.atoms.specs.WordCounts.{AreWordCounts, counted_texts, word_counts};
 ghost use Rattle.atoms.specs.Words.{words};
 
+mod cut;
 #[cfg(test)]
 mod gates;
 mod lines;
+mod merge;
 mod tally;
 #[cfg(test)]
 pub mod tests;
@@ -16,13 +18,11 @@ mod workers;
 
 use crate::faults::AppFault;
 pub use lines::tell_counts;
-use std::alloc::{AllocError, Global};
 use std::sync::Wait;
 use std::thread::Threads;
 use string_cache::dynamic_set::Set;
 use string_cache::{Atom, StaticAtomSet};
-use tally::into_pairs;
-use workers::tally_by_workers;
+use workers::counts_by_workers;
 
 /// Lets the workers of `count` in to their pieces, numbered from 1, and out of them.
 pub trait Gate: Sync {
@@ -40,17 +40,6 @@ impl Gate for Open {
     fn enter<R: Wait>(&self, _rt: &R, _piece: u32) {}
 
     fn leave<R: Wait>(&self, _rt: &R, _piece: u32) {}
-}
-
-/// The words of a text, in order.
-fn words_of<'t>(alloc: Global, text: &'t str) -> Result<Vec<&'t str>, AllocError>
-    ensures { IfOk result (λ list. word_texts list.items ≡ words text.now) }
-{
-    let mut list = Vec::new(alloc);
-    for word in text.split_whitespace() {
-        list.push(word)?;
-    }
-    Ok(list)
 }
 
 /// Each distinct word of the text once, in the order of bytes, with the number of its places.
@@ -74,9 +63,5 @@ pub fn count<'s, R: Threads + Wait + Sync, Static: StaticAtomSet + Send + Sync, 
     ensures law { IfOk result (λ counts. AreWordCounts (words text.now) (counted_texts counts.items)) }
     ensures fault { IfErr result IsCountFault }
 {
-    let alloc = set.allocator();
-    let list = words_of(alloc, text)?;
-    let tally = tally_by_workers(rt, set, gate, list, n)?;
-    let counts = into_pairs(alloc, tally)?;
-    Ok(counts)
+    counts_by_workers(rt, set, gate, text, n)
 }

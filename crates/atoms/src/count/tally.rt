@@ -1,7 +1,7 @@
 // How often words came, with an atom of each.
 #![tactic(auto)]
 
-ghost use Rattle.std.specs.Prelude.{◌≡◌, ◌+◌, ◌^◌, ◌<◌, ◌++◌, ℕ, List, IfOk, OnOk};
+ghost use Rattle.std.specs.Prelude.{◌≡◌, ◌+◌, ◌^◌, ◌<◌, List, ℕ, IfOk, OnOk};
 ghost use Rattle.std.specs.BTreeMap.{IsFromIterResult};
 ghost use Rattle.std.specs.Cmp.Lexicographic.{slice_cmp};
 ghost use Rattle.std.specs.HashMap.{values};
@@ -9,6 +9,7 @@ ghost use Rattle.std.specs.Ordering.{nat_cmp};
 ghost use Rattle.atoms.specs.Tally.{AddsTo, IsLabelled, IsTallyOf, number_of};
 ghost use Rattle.atoms.specs.WordCounts.{counted_texts, word_counts};
 
+use super::merge::Counts;
 use std::alloc::{AllocError, Global};
 use std::collections::{BTreeMap, HashMap};
 use string_cache::{Atom, StaticAtomSet};
@@ -26,39 +27,20 @@ fn number<Static: StaticAtomSet>(tally: &Tally<'_, Static>, word: &str) -> u64
     }
 }
 
-/// Counts the word `n` times more, with this atom. What it had before comes back.
+/// Counts the word once more, with this atom. What it had before comes back.
 pub fn add<'e, Static: StaticAtomSet>(
     tally: &mut Tally<'e, Static>,
     word: &'e str,
     atom: Atom<'e, Static>,
-    n: u64,
 ) -> Result<Option<(Atom<'e, Static>, u64)>, AllocError>
     requires of_word { atom.text ≡ word.now }
-    requires some { 0 < n }
-    requires fits { number_of tally.old word.now + n < 2 ^ 64 }
+    requires fits { number_of tally.old word.now + 1 < 2 ^ 64 }
     requires labelled { IsLabelled tally.old }
-    ensures numbers { OnOk result (AddsTo tally.old tally.new word.now n) }
+    ensures numbers { OnOk result (AddsTo tally.old tally.new word.now 1) }
     ensures labelled { OnOk result (IsLabelled tally.new) }
 {
-    let number = number(tally, word) + n;
+    let number = number(tally, word) + 1;
     Ok(tally.insert(word, (atom, number))?)
-}
-
-/// Adds the numbers of a piece to those of what comes before it.
-pub fn merge<'e, Static: StaticAtomSet>(
-    total: &mut Tally<'e, Static>,
-    piece: Tally<'e, Static>,
-) -> Result<(), AllocError>
-    requires labelled { IsLabelled total.old }
-    requires piece { IsLabelled piece }
-    requires fits { (word : List ℕ) → number_of total.old word + number_of piece word < 2 ^ 64 }
-    ensures numbers { OnOk result ((word : List ℕ) → number_of total.new word ≡ number_of total.old word + number_of piece.entry word) }
-    ensures labelled { OnOk result (IsLabelled total.new) }
-{
-    for (word, (atom, n)) in piece {
-        drop(add(total, word, atom, n)?);
-    }
-    Ok(())
 }
 
 /// The atoms with their numbers, in the order of texts.
@@ -75,7 +57,7 @@ fn in_order<'e, Static: StaticAtomSet>(
 fn entries_of<'e, Static: StaticAtomSet>(
     alloc: Global,
     counts: BTreeMap<Atom<'e, Static>, u64>,
-) -> Result<Vec<(Atom<'e, Static>, u64)>, AllocError>
+) -> Result<Counts<'e, Static>, AllocError>
     ensures { IfOk result (λ pairs. pairs.items ≡ counts.entry.entries) }
 {
     counts.into_iter().collect(alloc)
@@ -85,7 +67,7 @@ fn entries_of<'e, Static: StaticAtomSet>(
 pub fn into_pairs<'e, Static: StaticAtomSet>(
     alloc: Global,
     tally: Tally<'e, Static>,
-) -> Result<Vec<(Atom<'e, Static>, u64)>, AllocError>
+) -> Result<Counts<'e, Static>, AllocError>
     ensures { (words : List (List ℕ)) → IsTallyOf words tally.entry
         → IfOk result (λ pairs. counted_texts pairs.items ≡ word_counts words) }
 {

@@ -3,8 +3,7 @@ use Rattle.atoms.proofs.TallyLemmas.{added, own_put}
 use Rattle.atoms.proofs.count.tally.add.Goals as goal
 
 pub returns-clause-numbers : goal.returns-clause-numbers
-returns-clause-numbers g c =
-    added c.args.tally.now c.insert.new.self c.args.word.now _ c.args.n c.in_ok-insert.ensures.updates (ap (λ k. k + c.args.n) c.number.ensures)
+returns-clause-numbers g c = added c.args.tally.now c.insert.new.self c.args.word.now _ 1 c.in_ok-insert.ensures.updates (ap (λ k. k + 1) c.number-number.ensures)
 
 pub returns-clause-labelled : goal.returns-clause-labelled
 returns-clause-labelled g c = record {

@@ -1,0 +1,22 @@
+-- Two lists of words with their numbers, each in order, made one.
+use Rattle.std.specs.Prelude.{ℕ, ◌+◌, List, [], ◌∷◌}
+use Rattle.std.specs.Cmp.Lexicographic.{slice_cmp}
+use Rattle.std.specs.Ordering.{nat_cmp, match_ordering}
+use Rattle.std.specs.declared.cmp.Ordering.{Ordering}
+use Rattle.std.specs.declared.cmp.Ordering.TheVariants.{Less, Greater}
+
+-- each word of either list once, in order; a word of both has both numbers added
+abbrev pub merged : List (List ℕ × ℕ) → List (List ℕ × ℕ) → List (List ℕ × ℕ)
+merged [] back = back
+merged (pair ∷ front) [] = pair ∷ front
+merged (pair ∷ front) (other ∷ back) =
+    match_ordering (slice_cmp nat_cmp pair.0 other.0)
+    (pair ∷ merged front (other ∷ back))
+    ((pair.0, pair.1 + other.1) ∷ merged front back)
+    (other ∷ merged (pair ∷ front) back)
+
+-- how the first words of both stand to each other; where a list has none, the other's comes first
+abbrev pub first_order : List (List ℕ × ℕ) → List (List ℕ × ℕ) → Ordering
+first_order [] back = Greater
+first_order (pair ∷ front) [] = Less
+first_order (pair ∷ front) (other ∷ back) = slice_cmp nat_cmp pair.0 other.0
