@@ -25,9 +25,13 @@ TESTS = TOP / "crates" / "atoms" / "out" / "atoms_tests"
 SECONDS = 60  # for one run
 MOST = 100_000  # requests of one call
 EVERY = sys.maxsize
-# How many requests a call may do without, by the beginning of its test's name: each of two lists that are collected asks ahead for
-# the room that it may need, and goes on without it.
-SPARED = {"refusals::programs::counts_by_": 2}
+# How many requests a call may do without, by its test's name: in each worker that has words (the text has 20), each of two lists that
+# are collected asks ahead for the room that it may need, and goes on without it.
+SPARED = {
+    "refusals::programs::counts_by_one": 2,
+    "refusals::programs::counts_by_two": 4,
+    "refusals::programs::counts_by_sixty_four": 40,
+}
 
 
 def compiler():

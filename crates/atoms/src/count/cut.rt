@@ -68,12 +68,15 @@ fn halves(text: &str) -> (&str, &str)
     text.split_at(cut)
 }
 
-/// How many words the text has, counted in so many parts at once.
+/// A text of fewer bytes isn't worth a thread.
+const SHORT: usize = 1 << 16;
+
+/// How many words the text has, counted in so many parts at once where it isn't short.
 pub fn number_of_words<R: Threads + Sync>(rt: &R, text: &str, parts: u32) -> usize
     ensures words { result ≡ length (words text.now) }
     ensures bound { result ≤ length text.now }
 {
-    if parts <= 1 {
+    if parts <= 1 || text.len() < SHORT {
         return words_in(text);
     }
     let (front, back) = halves(text);
