@@ -6,6 +6,10 @@ use Rattle.node_chain.specs.Walked.{Walked}
 use Rattle.node_chain.specs.declared.pack.Others.{Others}
 use Rattle.node_chain.specs.declared.pack.Others.TheVariants as others
 
+-- how many items a pack has room for
+abbrev pub most_items : ℕ
+most_items = 4
+
 module _ {X : Type 0} where
   -- the items behind the first
   abbrev pub others_of : Others X → List X

@@ -1,9 +1,12 @@
 //! A few items in one place.
 ghost use Rattle.std.specs.Prelude.{◌≡◌, ◌+◌, ◌<◌, ◌↔◌, ◌++◌, [], ◌∷◌, IsTrue, length, take, drop};
-ghost use Rattle.node_chain.specs.Packs.{IsAt};
+ghost use Rattle.node_chain.specs.Packs.{IsAt, most_items};
 
 use std::marker::Model;
 use std::mem::replace;
+
+/// How many items a pack has room for.
+const MOST_ITEMS: usize = 4;
 
 /// One to four items in order, which lie in the value itself. Contracts see their list.
 #[derive(Drop)]
@@ -59,9 +62,9 @@ impl<T> Pack<T> {
 
     /// Whether it has room for one item more.
     pub fn has_room(&self) -> bool
-        ensures { IsTrue result ↔ (length self.now < 4) }
+        ensures { IsTrue result ↔ (length self.now < most_items) }
     {
-        self.len() < 4
+        self.len() < MOST_ITEMS
     }
 
     /// The item at a place, or `None` where the place is behind the last.
@@ -84,7 +87,7 @@ impl<T> Pack<T> {
 impl<T: Drop> Pack<T> {
     /// Adds an item as the first.
     pub fn add(&mut self, item: T)
-        requires { length self.old < 4 }
+        requires { length self.old < most_items }
         ensures { self.new ≡ item ∷ self.old }
     {
         let first = replace(&mut self.first, item);
