@@ -10,7 +10,18 @@ use string_cache::{Atom, DefaultAtom};
 /// ticket without a serial.
 #[test]
 fn words_of_nothing(rt: HostRuntime) {
-    for word in [0, 3, 6, 0x05, 0x81, 0xff11, 0x80_c021, 0x80a0_ed31, 0x3ffc] {
+    for word in [
+        0,
+        3,
+        6,
+        0x05,
+        0x81,
+        0xff11,
+        0x80_c021,
+        0x80a0_ed31,
+        0x4000,
+        0x7ffc,
+    ] {
         assert_eq!(rt; form_of(word), None, "of {word:#x}");
     }
     for (n, len) in [(0x80_c000, 2), (0xff00, 1)] {
