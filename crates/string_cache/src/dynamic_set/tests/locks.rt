@@ -17,7 +17,7 @@ use std::time::{Clock, Duration};
 fn last_drop_under_a_held_lock(rt: HostRuntime) -> Result<(), Fail> {
     let set: Set<EmptyStaticAtomSet> = Set::new(rt.alloc())?;
     let atom = Atom::from_str_in(&rt, &set, "interned")?;
-    let held = set.buckets[0x210].lock(&rt);
+    let held = set.buckets.get(0x210).ok_or("no bucket")?.lock(&rt);
     for (at, bucket) in set.buckets.iter().enumerate() {
         assert!(rt; bucket.try_lock().is_some() == (at != 0x210));
     }
@@ -33,7 +33,7 @@ fn last_drop_under_a_held_lock(rt: HostRuntime) -> Result<(), Fail> {
 fn text_of_a_dying_entry_gets_a_new_one(rt: HostRuntime) -> Result<(), Fail> {
     let set: Set<EmptyStaticAtomSet> = Set::new(rt.alloc())?;
     let atom = Atom::from_str_in(&rt, &set, "interned")?;
-    let held = set.buckets[0x210].lock(&rt);
+    let held = set.buckets.get(0x210).ok_or("no bucket")?.lock(&rt);
     drop(atom);
     drop(held);
     let next = Atom::from_str_in(&rt, &set, "interned")?;
@@ -75,9 +75,9 @@ fn sweep_reaches_each_bucket(rt: HostRuntime) -> Result<(), Fail> {
     }
     assert!(rt; set.linked(&rt) == 4);
     let held = (
-        set.buckets[0].lock(&rt),
-        set.buckets[0x72f].lock(&rt),
-        set.buckets[0xfff].lock(&rt),
+        set.buckets.get(0).ok_or("no bucket")?.lock(&rt),
+        set.buckets.get(0x72f).ok_or("no bucket")?.lock(&rt),
+        set.buckets.get(0xfff).ok_or("no bucket")?.lock(&rt),
     );
     drop(atoms);
     drop(held);
@@ -93,7 +93,7 @@ fn drop_of_one_of_two_shares_takes_out_nothing(rt: HostRuntime) -> Result<(), Fa
     let dying = Atom::from_str_in(&rt, &set, "forgotten")?;
     let first = Atom::from_str_in(&rt, &set, "magnitude")?;
     let second = first.clone_atom(&rt)?;
-    let held = set.buckets[0x72f].lock(&rt);
+    let held = set.buckets.get(0x72f).ok_or("no bucket")?.lock(&rt);
     drop(dying);
     drop(held);
     drop(second);
