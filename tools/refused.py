@@ -33,6 +33,9 @@ SPARED = {
     "refusals::programs::counts_by_sixty_four": 40,
 }
 
+# The most requests that a call may make, by its test's name: a new text has a cell, and a node where no other has room for it.
+FEW = {"refusals::sets::text_is_interned": 2}
+
 
 def compiler():
     """The words that compile and link a library with the kit's own compiler."""
@@ -98,6 +101,8 @@ def one_after_another(library, test):
                 wrong = "the call doesn't say that memory was refused"
         if wrong:
             return False, f"with request {at} refused: {wrong}"
+        if ran.requests > FEW.get(test, MOST):
+            return False, f"{ran.requests} requests, where {FEW[test]} are enough"
         if not ran.refused:
             return True, f"{ran.requests} requests, each refused in turn"
     return False, f"there is no end of requests after {MOST}"

@@ -1,9 +1,10 @@
-// Sets of one bucket, of the usual number and of the most. The low bits of the hash of "interned" are 0x7210.
+// Sets of one bucket, of the usual number and of the most. The low bits of the hash of "interned" are 0x7210, and a word is its serial
+// times 0x10000 and its bucket times 4.
 use crate::DefaultAtom;
 use crate::dynamic_set::Set;
 use crate::samples::{bucket_numbers, hash_of};
 use crate::static_sets::EmptyStaticAtomSet;
-use crate::word::{Buckets, Limits, ticket_word};
+use crate::word::{Buckets, Limits};
 use std::alloc::Global;
 use std::test::Fail;
 
@@ -14,18 +15,22 @@ fn set_of(alloc: Global, buckets: Buckets) -> Result<Set<EmptyStaticAtomSet>, Fa
 /// Each word's bucket is the one of so many that its text lies in.
 #[test]
 fn words_have_the_bits_of_their_set(rt: HostRuntime) -> Result<(), Fail> {
-    let places = [0, 0x210, 0x3210];
-    for (buckets, place) in bucket_numbers(rt.alloc())?.into_iter().zip(places) {
+    let places = [
+        (0, 0x1_0000, 0x2_0000),
+        (0x210, 0x1_0840, 0x2_0840),
+        (0x3210, 0x1_c840, 0x2_c840),
+    ];
+    for (buckets, (place, first, second)) in bucket_numbers(rt.alloc())?.into_iter().zip(places) {
         let set = set_of(rt.alloc(), buckets)?;
         assert_eq!(rt; set.buckets.len(), buckets.number());
         let atom = DefaultAtom::from_str_in(&rt, &set, "interned")?;
-        assert_eq!(rt; atom.unsafe_data(), ticket_word(1, place));
+        assert_eq!(rt; atom.unsafe_data(), first);
         for (at, bucket) in set.buckets.iter().enumerate() {
-            assert!(rt; bucket.lock(&rt).len() == usize::from(at == usize::from(place)));
+            assert!(rt; bucket.lock(&rt).len() == usize::from(at == place));
         }
         drop(atom);
         let next = DefaultAtom::from_str_in(&rt, &set, "interned")?;
-        assert_eq!(rt; next.unsafe_data(), ticket_word(2, place));
+        assert_eq!(rt; next.unsafe_data(), second);
     }
     Ok(())
 }
