@@ -26,11 +26,12 @@ SECONDS = 60  # for one run
 MOST = 100_000  # requests of one call
 EVERY = sys.maxsize
 # How many requests a call may do without, by its test's name: in each worker that has words (the text has 20), each of two lists that
-# are collected asks ahead for the room that it may need, and goes on without it.
+# are collected asks ahead for the room that it may need, and goes on without it. Threads ask in another order in each run, so that a
+# number may meet such a request twice: with more than one worker there may be twice as many.
 SPARED = {
     "refusals::programs::counts_by_one": 2,
-    "refusals::programs::counts_by_two": 4,
-    "refusals::programs::counts_by_sixty_four": 40,
+    "refusals::programs::counts_by_two": 8,
+    "refusals::programs::counts_by_sixty_four": 80,
 }
 
 # The most requests that a call may make, by its test's name: a new text has a cell, and a node where no other has room for it.
