@@ -254,7 +254,7 @@ by_texts a b = slice_cmp nat_cmp a.text b.text
 
 -- an atom of the text
 abbrev of_text : List ℕ → AtomValue
-of_text text = record { text = text; word = 0 }
+of_text text = record { text = text; word = 0; bits = None }
 
 lookup_texts : (es : List (AtomValue × ℕ)) (text : List ℕ) → lookup (bytes_eq text) (counted_texts es) ≡ lookup (λ atom. is_eq (by_texts (of_text text) atom)) es
 lookup_texts [] text = refl

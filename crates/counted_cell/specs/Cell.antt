@@ -6,14 +6,15 @@ use Rattle.counted_cell.specs.declared.label.Label.{Label}
 use Rattle.counted_cell.specs.declared.content.Content.{Content}
 use Rattle.counted_cell.specs.declared.cell_ref.CellRef.{CellRef}
 
--- its name, which no other cell has, and what never changes in it
+-- its name, which no other cell has, and what never changes in it; the note is a number that its maker chose, for clauses alone
 pub record Cell : Type 0 where
   pub name : CellName
   pub label : Label
+  pub note : ℕ
   pub text : List ℕ
 
 abbrev pub cell_of : CellRef Content → Cell
-cell_of r = record { name = r.name; label = r.value.label; text = somes r.value.text.places.slots }
+cell_of r = record { name = r.name; label = r.value.label; note = r.value.note.number; text = somes r.value.text.places.slots }
 
 -- how many bytes lie before the text
 abbrev pub header_size : ℕ

@@ -15,6 +15,7 @@ mod ending;
 mod evidence;
 mod header;
 mod label;
+mod note;
 mod owner;
 mod placed;
 mod places;

@@ -10,6 +10,7 @@ use crate::ending::Ending;
 use crate::evidence::{NoShares, SharesLeft};
 use crate::header::Header;
 use crate::label::Label;
+use crate::note::Note;
 use crate::placed::{fill, take};
 use crate::reply::Reply;
 use crate::share::Share;
@@ -68,10 +69,16 @@ impl<A: Allocator> Owner<A> {
     ghost use Rattle.counted_cell.specs.Reply.{IsReply};
     ghost use Rattle.counted_cell.specs.Ending.{IsEnding};
 
-    /// A cell with a copy of the text, and its first share. Without memory nothing is made.
-    pub fn new(alloc: A, label: Label, text: &str) -> Result<(Owner<A>, Share), AllocError>
+    /// A cell with a copy of the text, and its first share. Without memory nothing is made. The note is for clauses alone, and
+    /// takes no memory.
+    pub fn new(
+        alloc: A,
+        label: Label,
+        note: u64,
+        text: &str,
+    ) -> Result<(Owner<A>, Share), AllocError>
         requires { (1 ≤ label.limit) × (label.limit < 2 ^ 63) }
-        ensures owner { IfOk result (λ made. (made.0.label ≡ label) × (made.0.text ≡ text.now)) }
+        ensures owner { IfOk result (λ made. (made.0.label ≡ label) × (made.0.note ≡ note) × (made.0.text ≡ text.now)) }
         ensures share { IfOk result (λ made. made.1 ≡ made.0) }
     {
         let len = text.len();
@@ -80,7 +87,8 @@ impl<A: Allocator> Owner<A> {
         }
         let (room, ptr, places, free) = allocate(&alloc, len, size_for(len), ALIGN)?;
         let text = Text::write(ptr, places, text);
-        let value = Content { label, text };
+        let note = Note::new(note);
+        let value = Content { label, note, text };
         let (block, owner, share) = begin(fill(room, Header { count: 1, value }));
         let owner = Owner {
             cell: owner,
@@ -140,7 +148,11 @@ impl<A: Allocator> Owner<A> {
         if found == 0 {
             let (room, header) = take(reclaim(block, sole));
             let Header { count: _, value } = header;
-            let Content { label: _, text } = value;
+            let Content {
+                label: _,
+                note: _,
+                text,
+            } = value;
             let (len, places) = text.into_bytes();
             deallocate(&alloc, room, places, free, size_for(len), ALIGN);
             Ending::Freed(NoShares { reading })

@@ -71,7 +71,7 @@ fn make<A: Allocator>(alloc: A, limit: u64, text: &str) -> Result<(Owner<A>, Hel
         ticket: 7,
         limit,
     };
-    let (owner, share) = Owner::new(alloc, label, text)?;
+    let (owner, share) = Owner::new(alloc, label, 9, text)?;
     Ok((owner, Held { share }))
 }
 

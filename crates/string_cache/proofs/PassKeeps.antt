@@ -5,7 +5,7 @@ use Rattle.std.specs.List.{AllByRecursion}
 use Rattle.std.specs.Prelude.{Option}
 use Rattle.string_cache_core.specs.Pass.{Reply, added, full, died, gone, stays, kept}
 use Rattle.string_cache_core.specs.Tables.{Tables}
-use Rattle.string_cache.specs.Chain.{Linked, IsKept, IsRight, SerialsDiffer, serial_of}
+use Rattle.string_cache.specs.Chain.{Linked, IsKept, IsRightOf, SerialsDiffer, serial_of}
 use Rattle.string_cache.specs.PassLeft.{IsPassLeft}
 use Rattle.node_chain.specs.Walked.{Walked, at_start}
 use Rattle.string_cache.specs.declared.dynamic_set.counts.CountReply.{CountReply}
@@ -35,7 +35,7 @@ pub is_kept_of_kept : {S : Type 0} → (t : Tables) (bits last : ℕ) (es : List
     → IsKept t (record { bits = bits; entries = es; last = last }) → IsKept t (record { bits = bits; entries = kept es rs; last = last })
 is_kept_of_kept t bits last es rs h = record {
   few = h.few;
-  right = all_of_kept (IsRight t bits) es rs h.right;
+  right = all_of_kept (IsRightOf t bits) es rs h.right;
   differ = differ_of_kept es rs h.differ;
   bound = all_of_kept (λ x. serial_of x.ticket ≤ last) es rs h.bound;
 }

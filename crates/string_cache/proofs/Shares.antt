@@ -1,12 +1,9 @@
--- The share that a pass finds, and one that a bucket gave.
-use Rattle.std.proofs.Common.{◌≡◌, ◌≤◌, ℕ, List, [], ◌∷◌, map, Bool, sym, subst}
+-- The share that a pass finds.
+use Rattle.std.proofs.Common.{◌≡◌, ℕ, List, [], ◌∷◌, map, Bool, sym, subst}
 use Rattle.std.specs.List.{AllByRecursion}
-use Rattle.std.specs.Prelude.{Some, Result, Ok, Err, IfOk}
+use Rattle.std.specs.Prelude.{Some}
 use Rattle.string_cache_core.specs.Pass.{Reply, added, full, died, gone, stays, Asked, found, outcome}
-use Rattle.string_cache_core.specs.Layout.{most_bits}
-use Rattle.string_cache_core.specs.Tables.{Tables}
-use Rattle.string_cache_core.specs.declared.faults.Fault.{Fault}
-use Rattle.string_cache.specs.Chain.{Linked, IsOfBucket, IsRight}
+use Rattle.string_cache.specs.Chain.{Linked}
 use Rattle.string_cache.specs.Counted.{GivesShares, IsPass, Replied}
 use Rattle.string_cache.specs.declared.dynamic_set.counts.CountReply.{CountReply}
 use Rattle.string_cache.specs.declared.dynamic_set.counts.CountReply.TheVariants.{Added}
@@ -35,8 +32,3 @@ module _ {C : Type 0} (adds : C → Linked → CountReply Linked → C → Type 
   share_found es c d answer after s all p is =
       let q = subst (λ (a : Pass Linked). IsPass adds dies (Some text) c es a d after) is p in
       found_of es q.replies c d s all q.given q.asked (sym q.answers)
-
--- what is right as an entry of this bucket is so of some
-pub of_bucket : (t : Tables) (bits : ℕ) (text : List ℕ) (r : Result Linked Fault) → bits ≤ most_bits → IfOk r (λ s. (s.text ≡ text) × IsRight t bits s) → IfOk r (λ s. IsOfBucket t s)
-of_bucket t bits text (Ok s) few right = record { bits = bits; few = few; right = right.1 }
-of_bucket t bits text (Err fault) few right = tt

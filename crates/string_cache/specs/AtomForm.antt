@@ -1,21 +1,21 @@
 -- What an atom holds.
-use Rattle.std.specs.Prelude.{◌≡◌, ◌<◌, length}
+use Rattle.std.specs.Prelude.{◌≡◌, ◌<◌, length, Some, None}
 use Rattle.string_cache_core.specs.Tables.{Tables, form_of_text, text_at, IsStaticIndex}
 use Rattle.string_cache_core.specs.declared.static_sets.TextForm.TheVariants as form
 use Rattle.string_cache_core.specs.Word.{inline_word, static_word, IsInlineText}
 use Rattle.string_cache.specs.AtomValue.{AtomValue}
-use Rattle.string_cache.specs.Chain.{IsOfBucket}
+use Rattle.string_cache.specs.Chain.{IsRight}
 use Rattle.string_cache.specs.declared.atom.Form.{Form}
 use Rattle.string_cache.specs.declared.atom.Form.TheVariants.{Inline, Static, Dynamic}
 
--- the text and the word
+-- the text, the word, and the bits of the bucket of a dynamic one
 abbrev pub value_of_form : {X : Type 0} → Tables → Form X → AtomValue
-value_of_form t (Inline text) = record { text = text; word = inline_word text }
-value_of_form t (Static index) = record { text = text_at t index; word = static_word index }
-value_of_form t (Dynamic held) = record { text = held.text; word = held.ticket }
+value_of_form t (Inline text) = record { text = text; word = inline_word text; bits = None }
+value_of_form t (Static index) = record { text = text_at t index; word = static_word index; bits = None }
+value_of_form t (Dynamic held) = record { text = held.text; word = held.ticket; bits = Some held.bits }
 
 -- the text is one of this form
 abbrev pub IsOwnForm : {X : Type 0} → Tables → Form X → Type 0
 IsOwnForm t (Inline text) = IsInlineText text
 IsOwnForm t (Static index) = IsStaticIndex t index × (index < length t.atoms)
-IsOwnForm t (Dynamic held) = (form_of_text t held.text ≡ form.Dynamic held.hash) × IsOfBucket t held
+IsOwnForm t (Dynamic held) = (form_of_text t held.text ≡ form.Dynamic held.hash) × IsRight t held

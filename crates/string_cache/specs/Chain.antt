@@ -5,11 +5,12 @@ use Rattle.string_cache_core.specs.Layout.{most_bits, ticket_unit}
 use Rattle.string_cache_core.specs.Tables.{Tables, entry_hash}
 use Rattle.string_cache_core.specs.Word.{ticket_of, IsTicket}
 
--- an entry: its ticket, its text, and the hash of the text
+-- an entry: its ticket, its text, the hash of the text, and the bits of the number of buckets that its bucket is one of
 pub record Linked : Type 0 where
   pub ticket : ℕ
   pub text : List ℕ
   pub hash : ℕ
+  pub bits : ℕ
 
 -- a bucket: the bits of the number of buckets that it is one of, its entries, newest first, and the serial that it gave last,
 -- at first 0
@@ -22,18 +23,17 @@ pub record Chain : Type 0 where
 abbrev pub serial_of : ℕ → ℕ
 serial_of ticket = ticket / ticket_unit
 
--- the hash is that of the text under the tables, and the ticket is that of its serial in the bucket of the hash, one of
--- 2 ^ bits
-pub record IsRight (t : Tables) (bits : ℕ) (e : Linked) : Type 0 where
+-- the hash is that of the text under the tables, and the ticket is that of its serial in the bucket of the hash, the hash
+-- modulo 2 ^ bits
+pub record IsRight (t : Tables) (e : Linked) : Type 0 where
+  pub few : e.bits ≤ most_bits
   pub hash : e.hash ≡ entry_hash t e.text
-  pub ticket : e.ticket ≡ ticket_of (serial_of e.ticket) (e.hash % 2 ^ bits)
-  pub given : IsTicket (serial_of e.ticket) (e.hash % 2 ^ bits)
+  pub ticket : e.ticket ≡ ticket_of (serial_of e.ticket) (e.hash % 2 ^ e.bits)
+  pub given : IsTicket (serial_of e.ticket) (e.hash % 2 ^ e.bits)
 
--- it is right as an entry of some bucket
-pub record IsOfBucket (t : Tables) (e : Linked) : Type 0 where
-  pub bits : ℕ
-  pub few : bits ≤ most_bits
-  pub right : IsRight t bits e
+-- it is right, with these bits
+abbrev pub IsRightOf : Tables → ℕ → Linked → Type 0
+IsRightOf t bits e = (e.bits ≡ bits) × IsRight t e
 
 -- no entry has this serial
 abbrev pub IsNew : ℕ → List Linked → Type 0
@@ -47,6 +47,6 @@ SerialsDiffer (e ∷ es) = IsNew (serial_of e.ticket) es × SerialsDiffer es
 -- what a bucket keeps under a static type with these tables
 pub record IsKept (t : Tables) (c : Chain) : Type 0 where
   pub few : c.bits ≤ most_bits
-  pub right : AllByRecursion (IsRight t c.bits) c.entries
+  pub right : AllByRecursion (IsRightOf t c.bits) c.entries
   pub differ : SerialsDiffer c.entries
   pub bound : AllByRecursion (λ e. serial_of e.ticket ≤ c.last) c.entries

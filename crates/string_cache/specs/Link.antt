@@ -11,7 +11,7 @@ use Rattle.string_cache.specs.declared.dynamic_set.counts.Pass.TheVariants.{Foun
 
 -- the next entry of a bucket for a text with this hash
 abbrev pub next_entry : Chain → List ℕ → ℕ → Linked
-next_entry c text hash = record { ticket = ticket_of (c.last + 1) (hash % 2 ^ c.bits); text = text; hash = hash }
+next_entry c text hash = record { ticket = ticket_of (c.last + 1) (hash % 2 ^ c.bits); text = text; hash = hash; bits = c.bits }
 
 -- the bucket with that entry as its head, and the serial given
 abbrev pub with_next : Chain → List ℕ → ℕ → Chain

@@ -1,6 +1,6 @@
 //! An atom: a text that is inline, static, or an entry of a set.
 
-ghost use Rattle.std.specs.Prelude.{◌≡◌, ◌↔◌, ◌+◌, ◌*◌, ◌<◌, [], length, string_bytes, IsTrue, IsSome, IfSome, IfOk, IfErr, OnErr, nat_eq};
+ghost use Rattle.std.specs.Prelude.{◌≡◌, ◌↔◌, ◌+◌, ◌*◌, ◌<◌, [], length, string_bytes, IsTrue, IsSome, IfSome, IfOk, IfErr, OnErr, None, nat_eq};
 ghost use Rattle.std.specs.List.{Contains};
 ghost use Rattle.std.specs.Cmp;
 ghost use Rattle.std.specs.Cmp.{on_equiv};
@@ -161,7 +161,7 @@ impl<'s, Static: StaticAtomSet> Atom<'s, Static> {
     /// has at most 7 bytes.
     pub fn pack_static(n: u32) -> Option<Self>
         ensures is_static { IsSome result ↔ IsStaticIndex Static.tables n }
-        ensures atom { IfSome result (λ atom. atom ≡ record { text = text_at Static.tables n; word = static_word n }) }
+        ensures atom { IfSome result (λ atom. atom ≡ record { text = text_at Static.tables n; word = static_word n; bits = None }) }
     {
         static_text::<Static>(n)?;
         Some(Self::of_form(Form::Static(n)))
@@ -171,7 +171,7 @@ impl<'s, Static: StaticAtomSet> Atom<'s, Static> {
     /// a text of `len` bytes.
     pub fn pack_inline(n: u64, len: u8) -> Option<Self>
         ensures packed { IsSome result ↔ IsPackable n len }
-        ensures word { IfSome result (λ atom. atom.word ≡ n + 16 * len + 1) }
+        ensures word { IfSome result (λ atom. (atom.word ≡ n + 16 * len + 1) × (atom.bits ≡ None)) }
         ensures text { IfSome result (λ atom. IsInlineText atom.text × (inline_word atom.text ≡ atom.word)) }
     {
         if n % 256 != 0 || len > 7 {
@@ -199,10 +199,11 @@ impl<'s, Static: StaticAtomSet> Atom<'s, Static> {
         self.as_str().as_bytes()
     }
 
-    /// The word: the inline word of the text, the static word of its place, or the ticket of its entry.
+    /// The word: the inline word of the text, the static word of its place, or the ticket of its entry, whose bucket is the
+    /// hash modulo 2 to the power of the bits that the atom's value names.
     pub fn unsafe_data(&self) -> u64
         ensures word { result ≡ self.now.word }
-        ensures of_text { IsWordOf Static.tables self.now.text result }
+        ensures of_text { IsWordOf Static.tables self.now.text self.now.bits result }
     {
         match &self.form {
             Form::Inline(text) => text.word(),
@@ -247,7 +248,7 @@ impl<'s, Static: StaticAtomSet> Atom<'s, Static> {
 
 /// The atom of the empty text, which is inline: its word is 1.
 impl<'s, Static: StaticAtomSet> Default for Atom<'s, Static> {
-    ghost is_default = { λ atom. atom ≡ record { text = []; word = 1 } };
+    ghost is_default = { λ atom. atom ≡ record { text = []; word = 1; bits = None } };
 
     fn default() -> Self {
         Self::of_form(Form::Inline(InlineText::new("").unwrap()))

@@ -3,7 +3,7 @@ ghost use Rattle.std.specs.Prelude.{◌≡◌, ◌<◌, [], length, IfOk, IfErr,
 ghost use Rattle.std.specs.List.{AllByRecursion};
 ghost use Rattle.string_cache_core.specs.Tables.{entry_hash};
 ghost use Rattle.string_cache_core.specs.Faults.{IsInternFault};
-ghost use Rattle.string_cache.specs.Chain.{IsOfBucket, IsRight};
+ghost use Rattle.string_cache.specs.Chain.{IsRight, IsRightOf};
 ghost use Rattle.string_cache.specs.Counted.{GivesShares, IsPass};
 ghost use Rattle.string_cache.specs.Link.{IsLink, IsIntern};
 ghost use Rattle.string_cache.specs.PassLeft.{IsPassLeft};
@@ -21,8 +21,8 @@ use string_cache_core::word::{Buckets, Limits, ticket_word};
 
 /// What one lock of a set holds: entries, newest first, and the serial that it gave last.
 ///
-/// It is one of so many buckets. Each entry's hash is that of its text, its ticket is that of its serial in the bucket of
-/// the hash, and no serial is given twice. Which lock a bucket stands under isn't known here.
+/// It is one of so many buckets. Each entry names them, its hash is that of its text, its ticket is that of its serial in
+/// the bucket of the hash, and no serial is given twice. Which lock a bucket stands under isn't known here.
 #[derive(Drop)]
 pub struct Bucket<Static: StaticAtomSet> {
     buckets: Buckets,
@@ -105,7 +105,7 @@ impl<Static: StaticAtomSet> Bucket<Static> {
     pub fn link(&mut self, text: &str, hash: u64, limits: &Limits) -> Result<Share, Fault>
         requires { hash ≡ entry_hash Static.tables text.now }
         ensures link { IsLink limits.now.serials text.now hash self.old result self.new }
-        ensures right { IfOk result (λ s. IsRight Static.tables self.old.bits s) }
+        ensures right { IfOk result (λ s. IsRightOf Static.tables self.old.bits s) }
     {
         let greatest = limits.serials();
         if self.last >= greatest {
@@ -113,7 +113,14 @@ impl<Static: StaticAtomSet> Bucket<Static> {
         }
         let serial = self.last + 1;
         let ticket = ticket_word(serial, self.buckets.bucket_of(hash));
-        let (entry, share) = Entry::new(self.alloc, ticket, text, hash, limits.holders())?;
+        let (entry, share) = Entry::new(
+            self.alloc,
+            self.buckets,
+            ticket,
+            text,
+            hash,
+            limits.holders(),
+        )?;
         if let Err(refused) = self.entries.add_head(entry) {
             // The share goes first, so that the entry ends without any.
             drop(share);
@@ -140,7 +147,7 @@ impl<Static: StaticAtomSet> Bucket<Static> {
     ) -> Result<Share, Fault>
         requires { hash ≡ entry_hash Static.tables text.now }
         ensures intern { IsIntern C.adds C.dies limits.now.serials text.now hash counts.old self.old result counts.new self.new }
-        ensures share { GivesShares C.adds → IfOk result (λ s. (s.text ≡ text.now) × IsRight Static.tables self.old.bits s) }
+        ensures share { GivesShares C.adds → IfOk result (λ s. (s.text ≡ text.now) × IsRightOf Static.tables self.old.bits s) }
     {
         let _ = &self.entries; // so that the proof sees what the bucket keeps
         match self.pass(rt, text, hash, counts) {
@@ -151,7 +158,6 @@ impl<Static: StaticAtomSet> Bucket<Static> {
     }
 
     /// A share of the text's entry, by the counts that the entries have themselves.
-    #[tactic(auto, using(crate::proofs::Shares::of_bucket))]
     pub(super) fn share_of<R: Wait>(
         &mut self,
         rt: &R,
@@ -161,10 +167,9 @@ impl<Static: StaticAtomSet> Bucket<Static> {
     ) -> Result<Share, Fault>
         requires { hash ≡ entry_hash Static.tables text.now }
         ensures text { IfOk result (λ s. s.text ≡ text.now) }
-        ensures right { IfOk result (λ s. IsOfBucket Static.tables s) }
+        ensures right { IfOk result (λ s. IsRightOf Static.tables self.old.bits s) }
         ensures refused { IfErr result IsInternFault }
     {
-        let _ = self.buckets.bits(); // whose contract says how many they are at most
         self.intern(rt, text, hash, limits, &mut OwnCounts)
     }
 }

@@ -18,7 +18,7 @@ pub struct Held<'s, Static: StaticAtomSet> {
 }
 
 impl<'s, Static: StaticAtomSet> Model for Held<'s, Static> {
-    ghost use Rattle.string_cache.specs.Chain.{IsOfBucket, Linked};
+    ghost use Rattle.string_cache.specs.Chain.{IsRight, Linked};
 
     ghost Value = { Linked };
 
@@ -26,7 +26,7 @@ impl<'s, Static: StaticAtomSet> Model for Held<'s, Static> {
 
     ghost view = { λ h. linked_of h.share };
 
-    ghost invariant = { λ h. IsOfBucket Static.tables (linked_of h.share) };
+    ghost invariant = { λ h. IsRight Static.tables (linked_of h.share) };
 }
 
 impl<'s, Static: StaticAtomSet> Drop for Held<'s, Static> {
@@ -38,10 +38,10 @@ impl<'s, Static: StaticAtomSet> Drop for Held<'s, Static> {
 }
 
 impl<'s, Static: StaticAtomSet> Held<'s, Static> {
-    ghost use Rattle.string_cache.specs.Chain.{IsOfBucket};
+    ghost use Rattle.string_cache.specs.Chain.{IsRight};
 
     pub(super) fn new(share: Share, set: &'s Set<Static>) -> Held<'s, Static>
-        requires { IsOfBucket Static.tables share }
+        requires { IsRight Static.tables share }
         ensures { result ≡ share }
     {
         Held {

@@ -3,7 +3,7 @@ ghost use Rattle.std.specs.Prelude.{◌≡◌, ◌-◌, IfOk, IfErr};
 ghost use Rattle.string_cache_core.specs.Faults.{IsInternFault};
 ghost use Rattle.string_cache_core.specs.Layout.{holder_bound, serial_bound};
 ghost use Rattle.string_cache_core.specs.Tables.{entry_hash};
-ghost use Rattle.string_cache.specs.Chain.{IsOfBucket};
+ghost use Rattle.string_cache.specs.Chain.{IsRight};
 
 use super::bucket::Bucket;
 use super::counts::OwnCounts;
@@ -109,7 +109,7 @@ impl<Static: StaticAtomSet> Set<Static> {
     ) -> Result<Held<'s, Static>, Fault>
         requires { hash ≡ entry_hash Static.tables text.now }
         ensures text { IfOk result (λ held. held.text ≡ text.now) }
-        ensures right { IfOk result (λ held. IsOfBucket Static.tables held) }
+        ensures right { IfOk result (λ held. IsRight Static.tables held) }
         ensures refused { IfErr result IsInternFault }
     {
         let mut bucket = self.buckets[usize::from(self.count.bucket_of(hash))].lock(rt);

@@ -9,6 +9,7 @@ use counted_cell::{Label, Owner, Reply};
 use std::alloc::{AllocError, Global};
 use std::marker::Model;
 use std::sync::Wait;
+use string_cache_core::word::Buckets;
 
 /// An entry of a bucket: the one owner of a counted cell, which has the text, its hash, the ticket and the count of the entry's
 /// shares in one block. The count goes up only from one or more: an entry without shares is dying, and gets none any more.
@@ -34,24 +35,27 @@ impl Model for Entry {
 }
 
 impl Entry {
-    /// An entry of this text, of which it makes a copy, and its first share. There may be as many shares as `holders`.
+    /// An entry of this text in one of so many buckets, and its first share. It makes a copy of the text. There may be as many
+    /// shares as `holders`.
     pub(super) fn new(
         alloc: Global,
+        buckets: Buckets,
         ticket: u64,
         text: &str,
         hash: u64,
         holders: u64,
     ) -> Result<(Entry, Share), AllocError>
         requires { (1 ≤ holders) × (holders < holder_bound) }
-        ensures entry { IfOk result (λ made. made.0 ≡ record { ticket = ticket; text = text.now; hash = hash }) }
-        ensures share { IfOk result (λ made. made.1 ≡ record { ticket = ticket; text = text.now; hash = hash }) }
+        ensures entry { IfOk result (λ made. made.0 ≡ record { ticket = ticket; text = text.now; hash = hash; bits = buckets }) }
+        ensures share { IfOk result (λ made. made.1 ≡ record { ticket = ticket; text = text.now; hash = hash; bits = buckets }) }
     {
         let label = Label {
             hash,
             ticket,
             limit: holders,
         };
-        let (owner, share) = Owner::new(alloc, label, text)?;
+        let bits = u64::from(buckets.bits());
+        let (owner, share) = Owner::new(alloc, label, bits, text)?;
         Ok((Entry { hash, owner }, Share { share }))
     }
 
