@@ -1,10 +1,11 @@
 -- Which faults may come, and when.
-use Rattle.std.specs.Prelude.{ℕ}
 use Rattle.atoms.specs.declared.faults.AppFault.{AppFault}
 use Rattle.atoms.specs.declared.faults.AppFault.TheVariants.{Read, Write, Text, Script, Worker, Intern, Gen}
 use Rattle.string_cache.specs.declared.Fault.{Fault}
 use Rattle.string_cache.specs.declared.Fault.TheVariants.{Memory, FullCount, TicketsSpent, NotText}
 use Rattle.string_cache.specs.Faults.{IsInternFault}
+use Rattle.replay_script.specs.declared.faults.ScriptFault.{ScriptFault}
+use Rattle.replay_script.specs.declared.faults.ScriptFault.TheVariants as script
 
 abbrev pub IsMemory : Fault → Type 0
 IsMemory Memory = Unit {0}
@@ -52,15 +53,10 @@ IsUnwrittenFault Worker = ⊥
 IsUnwrittenFault (Intern fault) = ⊥
 IsUnwrittenFault (Gen fault) = ⊥
 
--- while a script is parsed, where IsBad says that a line isn't of the grammar
-abbrev pub IsParsingFault : (ℕ → Type 0) → AppFault → Type 0
-IsParsingFault IsBad Read = ⊥
-IsParsingFault IsBad Write = ⊥
-IsParsingFault IsBad Text = ⊥
-IsParsingFault IsBad (Script line) = IsBad line
-IsParsingFault IsBad Worker = ⊥
-IsParsingFault IsBad (Intern fault) = IsMemory fault
-IsParsingFault IsBad (Gen fault) = ⊥
+-- what a script is refused for, as a fault of the program
+abbrev pub of_script : ScriptFault → AppFault
+of_script (script.NotAStep line) = Script line
+of_script script.Memory = Intern Memory
 
 -- from a script at all
 abbrev pub IsReplayFault : AppFault → Type 0

@@ -4,7 +4,7 @@ use Rattle.std.specs.Io.KnownBytes.{Appends, Keeps}
 use Rattle.string_cache.specs.Tables.{Tables}
 use Rattle.table_generator.specs.Generated.{IsTablesOf}
 use Rattle.table_generator.specs.TableText.{table_text, SpellsPerfectTables}
-use Rattle.atoms.specs.Script.{script_lines}
+use Rattle.replay_script.specs.Script.{script_lines}
 use Rattle.atoms.specs.Streams.{AppendsBeginning}
 
 -- the output is the printed form of tables of the text's lines

@@ -3,6 +3,7 @@
 
 ghost use Rattle.std.specs.Prelude.{◌≡◌};
 
+use replay_script::ScriptFault;
 use std::alloc::{AllocError, AllocFailed};
 use string_cache::Fault;
 use table_generator::tables::GenFault;
@@ -32,6 +33,19 @@ pub enum AppFault {
     /// No tables were made.
     #[error("{0}")]
     Gen(GenFault),
+}
+
+impl From<ScriptFault> for AppFault {
+    ghost use Rattle.atoms.specs.Faults.{of_script};
+
+    ghost from_gives = { λ cause fault. fault ≡ of_script cause };
+
+    fn from(cause: ScriptFault) -> AppFault {
+        match cause {
+            ScriptFault::NotAStep(line) => AppFault::Script(line),
+            ScriptFault::Memory => AppFault::Intern(Fault::Memory),
+        }
+    }
 }
 
 impl From<GenFault> for AppFault {

@@ -5,16 +5,16 @@ ghost use Rattle.std.specs.Prelude.{◌≡◌, ◌≢◌, ◌++◌, false, strin
 ghost use Rattle.std.specs.Str.{IsUtf8};
 ghost use Rattle.std.specs.Io.KnownBytes.{Keeps};
 ghost use Rattle.table_generator.specs.Generated.{texts_of, TellsTables};
+ghost use Rattle.replay_script.specs.Script.{script_lines};
 ghost use Rattle.atoms.specs.Faults.{IsCheckFault, IsGenerateFault};
-ghost use Rattle.atoms.specs.Script.{script_lines};
 ghost use Rattle.atoms.specs.TableCommands.{IsTableOutput, IsAnswer, WritesTables, BeginsTables, WritesAnswer, BeginsAnswer};
 
 #[cfg(test)]
 mod tests;
 
 use crate::faults::AppFault;
-use crate::replay::next_line;
 use crate::streams::{Sink, Source, read_all, write_whole};
+use replay_script::next_line;
 use std::alloc::{AllocError, Global};
 use std::str;
 use table_generator::check::check_tables;

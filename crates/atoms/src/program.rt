@@ -8,8 +8,9 @@ ghost use Rattle.atoms.specs.Streams.{AppendsBeginning};
 ghost use Rattle.atoms.specs.Words.{word_lines};
 ghost use Rattle.atoms.specs.CountLines.{count_lines};
 ghost use Rattle.atoms.specs.Commands.{AreCheck, AreCount, AreGenerate, AreWords, AreReplay, IsRequest, IsWorkers};
-ghost use Rattle.atoms.specs.Replay.{IsReplay, BeginsReplay};
+ghost use Rattle.atoms.specs.Replay.{BeginsReplay};
 ghost use Rattle.atoms.specs.TableCommands.{WritesTables, BeginsTables, WritesAnswer, BeginsAnswer};
+ghost use Rattle.replay_script.specs.Replay.{IsReplay};
 ghost use Rattle.string_cache.specs.Tables.{empty_tables};
 
 #[cfg(test)]

@@ -1,100 +1,24 @@
-// A script of interleaved steps, and the replies to them.
+// A script of interleaved steps that is read, and the replies to them that are written.
 #![tactic(auto)]
 
-ghost use Rattle.std.specs.Prelude.{◌≡◌, ◌≢◌, ◌↔◌, ℕ, List, false, true, string_bytes, IfOk, IfErr, OnOk, OnErr, IfSome};
+ghost use Rattle.std.specs.Prelude.{◌≡◌, ◌≢◌, ◌↔◌, ℕ, List, false, true, string_bytes, IfErr, OnOk, OnErr, IfSome};
 ghost use Rattle.std.specs.Str.{IsUtf8};
 ghost use Rattle.std.specs.Io.KnownBytes.{Appends, IsAtEnd, Keeps};
 ghost use Rattle.string_cache.specs.Tables.{empty_tables};
-ghost use Rattle.string_cache.specs.Runs.{Script};
-ghost use Rattle.atoms.specs.Faults.{IsReadingFault, IsParsingFault, IsReplayFault};
-ghost use Rattle.atoms.specs.Script.{script_lines, SpellSteps, AreSteps, IsFirstBadLine};
-ghost use Rattle.atoms.specs.Replay.{RunsOn, IsOutput, IsReplay, BeginsReplay};
+ghost use Rattle.replay_script.specs.Replay.{IsReplay};
+ghost use Rattle.replay_script.specs.Script.{script_lines, IsFirstBadLine};
+ghost use Rattle.atoms.specs.Faults.{IsReadingFault, IsReplayFault};
+ghost use Rattle.atoms.specs.Replay.{BeginsReplay};
 
-mod line;
-mod print;
-mod script;
 #[cfg(test)]
 pub mod tests;
 
 use crate::faults::AppFault;
 use crate::streams::{Sink, Source, read_all, write_whole};
-use line::step_of_line;
-use print::{append_holders, append_replies};
-pub use script::next_line;
-use script::{buckets_of, check_steps, limits_of};
+pub use replay_script::one_output;
+use replay_script::replay_text;
 use std::alloc::Global;
 use std::str;
-use string_cache::EmptyStaticAtomSet;
-use string_cache::steps::{Step, World};
-use string_cache::word::{Buckets, Limits};
-
-/// The most steps that are kept before they are made.
-const CHUNK: usize = 4096;
-
-/// Makes the steps, and appends the lines of their replies.
-fn run_steps(
-    alloc: Global,
-    world: &mut World<EmptyStaticAtomSet>,
-    steps: &[(u32, Step)],
-    out: &mut String,
-) -> Result<(), AppFault>
-    ensures ok { OnOk result (RunsOn empty_tables world.old world.new steps.now
-        (string_bytes out.old) (string_bytes out.new)) }
-    ensures fault { IfErr result (IsParsingFault (λ n. ⊥)) }
-{
-    let mut replies = Vec::new(alloc);
-    world.run(steps, &mut replies)?;
-    append_replies(out, &replies)?;
-    Ok(())
-}
-
-/// Makes the steps of a text's lines in a world of their own, with so many buckets, and gives the lines of the replies and of
-/// what is held then.
-fn output_of(
-    alloc: Global,
-    limits: Limits,
-    buckets: Buckets,
-    text: &str,
-) -> Result<String, AppFault>
-    requires { AreSteps (script_lines text.now) }
-    ensures ok { IfOk result (λ out. (steps : Script) × SpellSteps (script_lines text.now) steps
-        × IsOutput empty_tables limits buckets steps (string_bytes out)) }
-    ensures fault { IfErr result (IsParsingFault (λ n. ⊥)) }
-{
-    let mut world: World<EmptyStaticAtomSet> = World::with_buckets(alloc, limits, buckets)?;
-    let mut out = String::new(alloc);
-    let mut steps = Vec::new(alloc);
-    let mut most = 0u64;
-    let mut rest = text;
-    while let Some((line, after)) = next_line(rest) {
-        let Some(step) = step_of_line(alloc, line)? else {
-            unreachable!();
-        };
-        steps.push(step)?;
-        most += 1;
-        rest = after;
-        if steps.len() >= CHUNK {
-            run_steps(alloc, &mut world, &steps, &mut out)?;
-            steps.clear();
-        }
-    }
-    run_steps(alloc, &mut world, &steps, &mut out)?;
-    append_holders(&mut out, &world, most)?;
-    Ok(out)
-}
-
-/// The output of a script. `Script` where it isn't one: each line is looked at before the first step is made.
-fn replay_text(alloc: Global, text: &str) -> Result<String, AppFault>
-    ensures ok { IfOk result (λ out. IsReplay empty_tables text.now (string_bytes out)) }
-    ensures fault { IfErr result (IsParsingFault (λ n. IsFirstBadLine (script_lines text.now) n)) }
-{
-    let (limits, body) = limits_of(text);
-    let (buckets, rest) = buckets_of(body);
-    let before = u64::from(limits.is_some()) + u64::from(buckets.is_some());
-    check_steps(alloc, rest, before)?;
-    let limits = limits.unwrap_or(Limits::greatest());
-    output_of(alloc, limits, buckets.unwrap_or(Buckets::usual()), rest)
-}
 
 /// Runs the script that the reader gives, over a table that nothing was interned in: a line for each step's reply, and
 /// then one for each entry that is held.
@@ -141,9 +65,3 @@ pub fn replay<S: Source, K: Sink>(
     let output = replay_text(alloc, text)?;
     write_whole(writer, output.as_bytes())
 }
-
-/// Does nothing. Its contract is that a script has one output.
-pub fn one_output()
-    ensures { (bytes one other : List ℕ) → IsReplay empty_tables bytes one → IsReplay empty_tables bytes other
-        → one ≡ other }
-{}

@@ -1,8 +1,6 @@
 // The worked scripts, and scripts that are large or no scripts.
 #![tactic(auto)]
 
-mod lines;
-
 use crate::faults::AppFault;
 use crate::memory::{Page, Streams};
 use crate::program::tests::{answer_of, words_of_line};
@@ -10,7 +8,6 @@ use crate::replay::replay;
 use crate::streams::Io;
 use std::alloc::Global;
 use std::test::Fail;
-use string_cache::Fault;
 
 /// What `replay` answers and writes over these streams.
 fn replay_of(alloc: Global, streams: &Streams) -> (Result<(), AppFault>, Page) {

@@ -2,7 +2,7 @@ use Rattle.std.proofs.Common.{◌≡◌, ◌++◌, length}
 use denote.Text.{Utf8}
 use denote.Shadow.{shadow}
 use Rattle.table_generator.specs.Generated.{texts_of}
-use Rattle.atoms.specs.Script.{script_lines}
+use Rattle.replay_script.specs.Script.{script_lines}
 use Rattle.atoms.proofs.generate.lines_in.Given as goal
 
 abbrev pub invariant-loop-line : goal.invariant-loop-line

@@ -1,6 +1,0 @@
-use Rattle.std.proofs.Common.{rules, arith, ◌^◌, codes}
-use Rattle.table_generator.proofs.NumberLemmas.{number_below}
-use Rattle.atoms.proofs.replay.line.bucket_bits.Goals as goal
-
-pub returns : goal.returns
-returns c = rw c.ok.ensures.value (number_below c.args.line.now (codes "buckets ") c.in_ok-bits.bits (2 ^ 8) (omega arith) (omega arith) (search rules) c.try_from.result c.try_from.ensures)
