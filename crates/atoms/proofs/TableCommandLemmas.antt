@@ -1,9 +1,15 @@
 -- The bytes that were read are the text that a promise speaks of.
 use Rattle.std.proofs.Common.{◌≡◌, ℕ, List, Option, None, Some, sym, subst, ap, ◌∙◌, inr, codes, [], ◌∷◌, String, string_bytes, length, get_or, arith}
-use Rattle.std.specs.Prelude.{IfSome}
+use Rattle.std.specs.Prelude.{IfErr, IfSome, Result, Err}
 use Rattle.std.specs.Io.KnownBytes.{Appends, Consumes, IsAtEnd}
 use Rattle.std.proofs.lemmas.Fmt.{decimal_injective}
+use Rattle.table_generator.specs.Generated.{TellsTables}
+use Rattle.table_generator.specs.declared.tables.Tables.{Tables}
+use Rattle.table_generator.specs.declared.tables.GenFault.{GenFault}
+use Rattle.atoms.specs.declared.faults.AppFault.{AppFault}
+use Rattle.atoms.specs.declared.faults.AppFault.TheVariants.{Gen}
 use Rattle.atoms.specs.Commands.{AreGenerate, IsRequest}
+use Rattle.atoms.specs.Faults.{IsMakingFault}
 use Rattle.atoms.specs.Streams.{AppendsBeginning}
 use Rattle.atoms.specs.TableCommands.{IsAnswer, IsTableOutput, BeginsAnswer, BeginsTables, WritesAnswer}
 use Rattle.atoms.proofs.StreamLemmas.{consumed_all}
@@ -24,6 +30,13 @@ answer_begun a b old new bytes text out read end same is begun = told_of_all (λ
 pub tables_begun : (key bound : ℕ) (a b old new : Option (List ℕ)) (bytes text out : List ℕ) → Consumes a b bytes → IsAtEnd b → text ≡ bytes → IsTableOutput key bound text out → AppendsBeginning old new out
     → IfSome a (λ t. BeginsTables key bound t old new)
 tables_begun key bound a b old new bytes text out read end same is begun = told_of_all (λ t. BeginsTables key bound t old new) a b bytes text read end same (inr (out, is, begun))
+
+-- a fault of the tables, told of the lines
+pub told_fault : (texts lines : List (List ℕ)) (key bound : ℕ) (r : Result Tables GenFault) (g : GenFault) → TellsTables texts key bound r → r ≡ Err g → texts ≡ lines → TellsTables lines key bound (Err g)
+told_fault texts lines key bound r g told is same = subst (λ (x : Result Tables GenFault). TellsTables lines key bound x) is (subst (λ (l : List (List ℕ)). TellsTables l key bound r) same told)
+
+pub making_fault : {X : Type 0} (P : GenFault → Type 0) (r : Result X AppFault) (g : GenFault) → r ≡ Err (Gen g) → P g → IfErr r (IsMakingFault P)
+making_fault {X} P r g is holds = subst (λ (x : Result X AppFault). IfErr x (IsMakingFault P)) (sym is) holds
 
 -- two texts spell one key and one bound
 pub one_request : (first second : List ℕ) (key bound k b : ℕ) → IsRequest first second key bound → IsRequest first second k b → (k ≡ key) × (b ≡ bound)

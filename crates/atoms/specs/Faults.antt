@@ -4,6 +4,7 @@ use Rattle.atoms.specs.declared.faults.AppFault.TheVariants.{Read, Write, Text, 
 use Rattle.string_cache.specs.declared.Fault.{Fault}
 use Rattle.string_cache.specs.declared.Fault.TheVariants.{Memory, FullCount, TicketsSpent, NotText}
 use Rattle.string_cache.specs.Faults.{IsInternFault}
+use Rattle.table_generator.specs.declared.tables.GenFault.{GenFault}
 use Rattle.replay_script.specs.declared.faults.ScriptFault.{ScriptFault}
 use Rattle.replay_script.specs.declared.faults.ScriptFault.TheVariants as script
 
@@ -77,6 +78,16 @@ IsCountFault (Script line) = ⊥
 IsCountFault Worker = Unit {0}
 IsCountFault (Intern fault) = IsInternFault fault
 IsCountFault (Gen fault) = ⊥
+
+-- once all is read and before anything is written: want of memory, or a fault of the tables of which P holds
+abbrev pub IsMakingFault : (GenFault → Type 0) → AppFault → Type 0
+IsMakingFault P Read = ⊥
+IsMakingFault P Write = ⊥
+IsMakingFault P Text = ⊥
+IsMakingFault P (Script line) = ⊥
+IsMakingFault P Worker = ⊥
+IsMakingFault P (Intern fault) = IsMemory fault
+IsMakingFault P (Gen fault) = P fault
 
 -- from making tables
 abbrev pub IsGenerateFault : AppFault → Type 0

@@ -1,12 +1,13 @@
 // The commands that make static tables of a list of texts, and check a table text.
 #![tactic(auto)]
 
-ghost use Rattle.std.specs.Prelude.{◌≡◌, ◌≢◌, ◌++◌, false, string_bytes, IfOk, IfErr, IfSome, OnOk, OnErr};
+ghost use Rattle.std.specs.Prelude.{◌≡◌, ◌≢◌, ◌↔◌, ◌++◌, false, true, string_bytes, IfOk, IfErr, IfSome, OnOk, OnErr, Err};
 ghost use Rattle.std.specs.Str.{IsUtf8};
-ghost use Rattle.std.specs.Io.KnownBytes.{Keeps};
+ghost use Rattle.std.specs.Io.KnownBytes.{IsAtEnd, Keeps};
 ghost use Rattle.table_generator.specs.Generated.{texts_of, TellsTables};
 ghost use Rattle.replay_script.specs.Script.{script_lines};
-ghost use Rattle.atoms.specs.Faults.{IsCheckFault, IsGenerateFault};
+ghost use Rattle.table_generator.specs.declared.tables.GenFault.{GenFault};
+ghost use Rattle.atoms.specs.Faults.{IsCheckFault, IsGenerateFault, IsMakingFault, IsReadingFault};
 ghost use Rattle.atoms.specs.TableCommands.{IsTableOutput, IsAnswer, WritesTables, BeginsTables, WritesAnswer, BeginsAnswer};
 
 #[cfg(test)]
@@ -36,7 +37,7 @@ fn lines_in(alloc: Global, text: &str) -> Result<Vec<&str>, AllocError>
 /// The printed form of tables of the text's lines.
 fn output_of(alloc: Global, key: u64, bound: u32, text: &str) -> Result<String, AppFault>
     ensures ok { IfOk result (λ out. IsTableOutput key bound text.now (string_bytes out)) }
-    ensures fault { IfErr result (λ fault. fault ≢ AppFault.Write × IsGenerateFault fault) }
+    ensures fault { IfErr result (IsMakingFault (λ g. TellsTables (script_lines text.now) key bound (Err g))) }
 {
     let list = lines_in(alloc, text)?;
     let tables = generate(alloc, &list, key, bound)?;
@@ -56,6 +57,7 @@ pub fn write_tables<S: Source, K: Sink>(
 ) -> Result<(), AppFault>
     requires reader { S.has_failed reader.old ≡ false }
     requires writer { K.has_failed writer.old ≡ false }
+    ensures ended { OnOk result (S.has_ended reader.new ≡ true × IsAtEnd (S.remaining reader.new)) }
     ensures utf8 { OnOk result (IfSome (S.remaining reader.old) IsUtf8) }
     ensures tables { OnOk result (IfSome (S.remaining reader.old) (λ bytes.
         WritesTables key bound bytes (K.contents writer.old) (K.contents writer.new))) }
@@ -63,6 +65,13 @@ pub fn write_tables<S: Source, K: Sink>(
         BeginsTables key bound bytes (K.contents writer.old) (K.contents writer.new))) }
     ensures unwritten { IfErr result (λ fault. fault ≢ AppFault.Write → Keeps (K.contents writer.old) (K.contents writer.new)) }
     ensures fault { IfErr result IsGenerateFault }
+    ensures reading { IfErr result (λ fault. S.has_ended reader.new ≡ false → IsReadingFault fault) }
+    ensures text { result ≡ Err AppFault.Text → S.has_ended reader.new ≡ true
+        × IfSome (S.remaining reader.old) (λ bytes. ¬ (IsUtf8 bytes)) }
+    ensures refused { (g : GenFault) → result ≡ Err (AppFault.Gen g) → S.has_ended reader.new ≡ true
+        × IfSome (S.remaining reader.old) (λ bytes. TellsTables (script_lines bytes) key bound (Err g)) }
+    ensures read { (result ≡ Err AppFault.Read) ↔ (S.has_failed reader.new ≡ true) }
+    ensures write { (result ≡ Err AppFault.Write) ↔ (K.has_failed writer.new ≡ true) }
 {
     let bytes = read_all(alloc, reader)?;
     let Ok(text) = str::from_utf8(&bytes) else {
@@ -75,7 +84,7 @@ pub fn write_tables<S: Source, K: Sink>(
 /// The answer's line of a text: whether it is the printed form of perfect tables.
 fn answer_of(alloc: Global, text: &str) -> Result<&'static str, AppFault>
     ensures ok { IfOk result (λ answer. IsAnswer text.now answer.now) }
-    ensures fault { IfErr result (λ fault. fault ≢ AppFault.Write × IsCheckFault fault) }
+    ensures fault { IfErr result (IsMakingFault (λ g. ⊥)) }
 {
     if check_tables(alloc, text)? {
         Ok("yes\n")
@@ -95,6 +104,7 @@ pub fn write_answer<S: Source, K: Sink>(
 ) -> Result<(), AppFault>
     requires reader { S.has_failed reader.old ≡ false }
     requires writer { K.has_failed writer.old ≡ false }
+    ensures ended { OnOk result (S.has_ended reader.new ≡ true × IsAtEnd (S.remaining reader.new)) }
     ensures utf8 { OnOk result (IfSome (S.remaining reader.old) IsUtf8) }
     ensures answer { OnOk result (IfSome (S.remaining reader.old) (λ bytes.
         WritesAnswer bytes (K.contents writer.old) (K.contents writer.new))) }
@@ -102,6 +112,11 @@ pub fn write_answer<S: Source, K: Sink>(
         BeginsAnswer bytes (K.contents writer.old) (K.contents writer.new))) }
     ensures unwritten { IfErr result (λ fault. fault ≢ AppFault.Write → Keeps (K.contents writer.old) (K.contents writer.new)) }
     ensures fault { IfErr result IsCheckFault }
+    ensures reading { IfErr result (λ fault. S.has_ended reader.new ≡ false → IsReadingFault fault) }
+    ensures text { result ≡ Err AppFault.Text → S.has_ended reader.new ≡ true
+        × IfSome (S.remaining reader.old) (λ bytes. ¬ (IsUtf8 bytes)) }
+    ensures read { (result ≡ Err AppFault.Read) ↔ (S.has_failed reader.new ≡ true) }
+    ensures write { (result ≡ Err AppFault.Write) ↔ (K.has_failed writer.new ≡ true) }
 {
     let bytes = read_all(alloc, reader)?;
     let Ok(text) = str::from_utf8(&bytes) else {

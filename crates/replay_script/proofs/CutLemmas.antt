@@ -1,52 +1,21 @@
 -- Where a number and a space stand in front, they stand there in one way.
 use Rattle.std.proofs.Common.{◌≡◌, ◌≢◌, ℕ, ◌^◌, ◌<◌, ◌≤◌, List, [], ◌∷◌, ◌++◌, length, get_or, sym, refl, ap, subst, ◌∙◌, arith, suc, drop, codes, decimal, length-append}
 use Rattle.std.specs.Prelude.{Option, None, Some, IsSome, IfSome, MatchOption, ◌↔◌}
-use Rattle.std.specs.Str.Pattern.{FindsChar, SplitsAroundMatch}
-use Rattle.std.proofs.lemmas.Str.Pattern.{split_parts, NoCharPasses-char}
-use denote.Ref.{Bor}
 use Rattle.std.proofs.lemmas.Fmt.{decimal_injective}
 use Rattle.std.proofs.lemmas.List.{append_cancel_left}
 use Rattle.string_cache_core.specs.Bounds.{Bounds, AreBounds}
 use Rattle.string_cache_core.specs.Layout.{most_bits}
 use Rattle.string_cache_core.specs.declared.steps.Step.{Step}
 use Rattle.replay_script.specs.Script.{HasWords, step_words, Spells, SpellsBuckets, SpellsLimits}
+use Rattle.table_generator.proofs.Cuts.{Lacks, first_byte}
 use Rattle.table_generator.proofs.NumberLemmas.{decimal_byte}
 
--- no space is in the bytes
-abbrev pub NoSpace : List ℕ → Type 0
-NoSpace bs = (i : ℕ) → i < length bs → get_or bs i 0 ≢ 32
-
--- the first space parts the bytes
-pub first_space : (a b xs ys : List ℕ) → NoSpace a → NoSpace b → a ++ (32 ∷ xs) ≡ b ++ (32 ∷ ys) → (a ≡ b) × (xs ≡ ys)
-first_space [] [] xs ys p q e = (refl, ap (drop 1) e)
-first_space [] (y ∷ b) xs ys p q e = absurd (q 0 (omega arith) (sym (ap (λ v. get_or v 0 0) e)))
-first_space (x ∷ a) [] xs ys p q e = absurd (p 0 (omega arith) (ap (λ v. get_or v 0 0) e))
-first_space (x ∷ a) (y ∷ b) xs ys p q e =
-    let more = first_space a b xs ys (λ i h. p (suc i) (omega arith)) (λ i h. q (suc i) (omega arith)) (ap (drop 1) e) in
-    let head : x ≡ y = ap (λ v. get_or v 0 0) e in
-    (ap (λ v. v ∷ a) head ∙ ap (λ v. y ∷ v) more.0, more.1)
-
-pub decimal_no_space : (n : ℕ) → n < 2 ^ 64 → NoSpace (decimal n)
+pub decimal_no_space : (n : ℕ) → n < 2 ^ 64 → Lacks 32 (decimal n)
 decimal_no_space n small i h e = absurd (omega (arith, (decimal_byte n small i h).0))
 
--- where there is no space, no number stands before one
-pub no_cut : (bs : List ℕ) → NoSpace bs → (n : ℕ) (xs : List ℕ) → bs ≢ decimal n ++ (32 ∷ xs)
-no_cut bs none n xs e = none (length (decimal n)) (omega (arith, ap length e, length-append (decimal n) (32 ∷ xs))) (ap (λ v. get_or v (length (decimal n)) 0) e ∙ at_space (decimal n) xs)
-  where
-    at_space : (a xs : List ℕ) → get_or (a ++ (32 ∷ xs)) (length a) 0 ≡ 32
-    at_space [] xs = refl
-    at_space (x ∷ a) xs = at_space a xs
-
--- what `split_once` answers
-pub no_space : (bs : List ℕ) → FindsChar 32 bs None → NoSpace bs
-no_space bs none i h = NoCharPasses-char 32 bs i none (omega arith) h
-
-pub at_first_space : (bs : List ℕ) (a b : Bor (List ℕ)) → SplitsAroundMatch (FindsChar 32) bs a.now b.now → NoSpace a.now × (bs ≡ a.now ++ (32 ∷ b.now))
-at_first_space bs a b cut = let parts = split_parts 32 bs (Some (a, b)) cut (omega arith) in (parts.1, parts.0)
-
 -- what stands before the first space is the number, if one does
-pub cut_number : (bs a xs : List ℕ) → NoSpace a → bs ≡ a ++ (32 ∷ xs) → (n : ℕ) (ys : List ℕ) → n < 2 ^ 64 → bs ≡ decimal n ++ (32 ∷ ys) → (a ≡ decimal n) × (xs ≡ ys)
-cut_number bs a xs none e n ys small d = first_space a (decimal n) xs ys none (decimal_no_space n small) (sym e ∙ d)
+pub cut_number : (bs a xs : List ℕ) → Lacks 32 a → bs ≡ a ++ (32 ∷ xs) → (n : ℕ) (ys : List ℕ) → n < 2 ^ 64 → bs ≡ decimal n ++ (32 ∷ ys) → (a ≡ decimal n) × (xs ≡ ys)
+cut_number bs a xs none e n ys small d = first_byte 32 a (decimal n) xs ys none (decimal_no_space n small) (sym e ∙ d)
 
 -- two such numbers are one
 pub cut_once : (bs : List ℕ) (m n : ℕ) (xs ys : List ℕ) → m < 2 ^ 64 → n < 2 ^ 64 → bs ≡ decimal m ++ (32 ∷ xs) → bs ≡ decimal n ++ (32 ∷ ys) → (m ≡ n) × (xs ≡ ys)
