@@ -7,7 +7,9 @@ tests run without proofs (rt try --test) up to the named one. Before that, each 
 
 Where a type alone forbids the body, the first line is 'error: TEXT': the compiler's error, which has to come.
 
-usage: tools/caught.py [--jobs N] [WORD..]     with words: only the edits whose paths contain one of them
+With --beside PID no edit is begun, while that process runs, unless a processor is idle.
+
+usage: tools/caught.py [--jobs N] [--beside PID] [WORD..]     with words: only the edits whose paths contain one of them
 """
 
 import argparse
@@ -19,6 +21,7 @@ import subprocess
 import sys
 import tempfile
 import threading
+import time
 from dataclasses import dataclass, field
 from pathlib import Path
 
@@ -141,12 +144,46 @@ def judge_crate(crate, tests, root):
     return True, f"{len(tests)} tests that catch wrong bodies pass over the crate as it is"
 
 
-def works_in(tasks, results, top):
+def processor_times():
+    """What the processors did so far, by kinds, in one unit: the fourth kind is idling, and the fifth waiting for a disk."""
+    first = Path("/proc/stat").read_text(encoding="ascii").splitlines()[0]
+    return [int(word) for word in first.split()[1:]]
+
+
+def idle_processors(seconds=2):
+    """How many processors had nothing to do, on the average of so many seconds."""
+    before = processor_times()
+    time.sleep(seconds)
+    spent = [after - earlier for earlier, after in zip(before, processor_times())]
+    return (os.cpu_count() or 1) * sum(spent[3:5]) / max(sum(spent), 1)
+
+
+def runs(process):
+    return process is not None and Path(f"/proc/{process}").exists()
+
+
+class Turns:
+    """Lets workers begin their tasks: one at a time, and while another process runs only where a processor is idle."""
+
+    def __init__(self, process):
+        self.process = process
+        self.lock = threading.Lock()
+
+    def wait(self):
+        with self.lock:
+            while runs(self.process) and idle_processors() < 0.9:
+                time.sleep(3)
+            if runs(self.process):
+                time.sleep(3)  # until the task that begins shows
+
+
+def works_in(tasks, turns, results, top):
     """Takes tasks until none is left, in a copy of the repository of this worker's own."""
     with tempfile.TemporaryDirectory(prefix="caught-") as room:
         root = Path(room) / "copy"
         shutil.copytree(top, root, ignore=shutil.ignore_patterns("out", ".git"))
         while True:
+            turns.wait()
             try:
                 label, task = tasks.get_nowait()
             except queue.Empty:
@@ -159,6 +196,7 @@ def works_in(tasks, results, top):
 def main():
     parser = argparse.ArgumentParser(description=__doc__, formatter_class=argparse.RawDescriptionHelpFormatter)
     parser.add_argument("--jobs", type=int, default=os.cpu_count() or 1)
+    parser.add_argument("--beside", type=int, metavar="PID")
     parser.add_argument("words", nargs="*")
     given = parser.parse_args()
     top = Path(__file__).resolve().parent.parent
@@ -180,13 +218,17 @@ def main():
         tasks.put((f"caught {crate}", lambda root, crate=crate, named=named: judge_crate(crate, named, root)))
     for edit in edits:
         tasks.put((str(edit), lambda root, edit=edit: judge(edit, root)))
-    workers = [threading.Thread(target=works_in, args=(tasks, results, top)) for _ in range(max(1, given.jobs))]
+    expected = len(results) + tasks.qsize()
+    turns = Turns(given.beside)
+    workers = [threading.Thread(target=works_in, args=(tasks, turns, results, top)) for _ in range(max(1, given.jobs))]
     for worker in workers:
         worker.start()
     for worker in workers:
         worker.join()
-    print(f"{results.count(True)} passed, {results.count(False)} failed")
-    return 0 if all(results) else 1
+    # a worker that ended by an error of its own leaves tasks without a result
+    passed = results.count(True)
+    print(f"{passed} passed, {expected - passed} failed")
+    return 0 if passed == expected else 1
 
 
 if __name__ == "__main__":

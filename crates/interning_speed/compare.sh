@@ -26,7 +26,7 @@ compare() {
                 ours = least["ours", names[i]]
                 if (("plain", names[i]) in least) {
                     plain = least["plain", names[i]]
-                    printf "%-26s %-36s %10.1f %10.1f %6.2f\n", what, names[i], ours, plain, plain > 0 ? ours / plain : 0
+                    printf("%-26s %-36s %10.1f %10.1f %6.2f\n", what, names[i], ours, plain, (plain > 0) ? ours / plain : 0)
                 } else {
                     printf "%-26s %-36s %10.1f %10s %6s\n", what, names[i], ours, "-", "-"
                 }
