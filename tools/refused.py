@@ -34,8 +34,11 @@ SPARED = {
     "refusals::programs::counts_by_sixty_four": 80,
 }
 
-# The most requests that a call may make, by its test's name: a new text has a cell, and a node where no other has room for it.
-FEW = {"refusals::sets::text_is_interned": 2}
+# The most requests that a call may make, by its test's name: a new text has a cell, and a node where its bucket's first one has no room.
+FEW = {
+    "refusals::sets::text_is_interned": 2,
+    "refusals::sets::text_finds_room_in_a_node": 1,
+}
 
 
 def compiler():

@@ -3,7 +3,7 @@ use super::{End, at_last, begin, finish};
 use std::borrow::CowStr;
 use std::test::Fail;
 use string_cache::dynamic_set::Set;
-use string_cache::word::Limits;
+use string_cache::word::{Buckets, Limits};
 use string_cache::{Atom, DefaultAtom, EmptyStaticAtomSet, Fault};
 
 /// The first ticket of "interned": its bucket is 0x210, the low bits of its SipHash by OpenSSL.
@@ -25,6 +25,23 @@ fn text_is_interned(rt: HostRuntime) -> Result<(), Fail> {
     let atom = at_last(&rt, || DefaultAtom::from_str_in(&rt, &set, "interned"))?;
     assert!(rt; atom.unsafe_data() == FIRST && atom.as_str() == "interned");
     assert!(rt; set.linked(&rt) == 1);
+    Ok(())
+}
+
+/// In a set of one bucket: five texts lie in two nodes, and once the oldest is gone the newer node has room for a sixth.
+#[test]
+fn text_finds_room_in_a_node(rt: HostRuntime) -> Result<(), Fail> {
+    let buckets = Buckets::new(0).ok_or("bits")?;
+    let set = Set::<EmptyStaticAtomSet>::with_buckets(rt.alloc(), Limits::greatest(), buckets)?;
+    let oldest = DefaultAtom::from_str_in(&rt, &set, "interned")?;
+    let mut others = Vec::new(rt.alloc());
+    for text in ["tokenised", "sentence", "repeated", "forgotten"] {
+        others.push(DefaultAtom::from_str_in(&rt, &set, text)?)?;
+    }
+    drop(oldest);
+    let atom = at_last(&rt, || DefaultAtom::from_str_in(&rt, &set, "magnitude"))?;
+    assert!(rt; atom.unsafe_data() == 0x6_0000 && atom.as_str() == "magnitude");
+    assert!(rt; set.linked(&rt) == 5);
     Ok(())
 }
 

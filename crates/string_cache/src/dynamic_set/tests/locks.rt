@@ -1,13 +1,13 @@
 // Buckets' locks that are held meanwhile, and what stays linked. By OpenSSL's SipHash the bucket of "afterwards" is 0, of
 // "geometric" 0xfff, and of "forgotten" and "magnitude" 0x72f.
-use crate::dynamic_set::Set;
+use crate::dynamic_set::{Bucket, Set};
 use crate::samples::One;
 use crate::static_sets::EmptyStaticAtomSet;
 use crate::word::ticket_word;
 use crate::{Atom, DefaultAtom, Fault};
 use serde_json::Value;
-use std::sync::Wait;
 use std::sync::atomic::{AtomicBool, Ordering};
+use std::sync::{Mutex, Wait};
 use std::test::Fail;
 use std::thread::{self, Threads};
 use std::time::{Clock, Duration};
@@ -103,9 +103,35 @@ fn drop_of_one_of_two_shares_takes_out_nothing(rt: HostRuntime) -> Result<(), Fa
     Ok(())
 }
 
-/// What the call gives, and whether it ended while this thread had the locks. They are let go after ten seconds.
+/// Entries of other buckets that died under their locks stay linked, and no lock is kept.
+#[test]
+fn last_drop_prunes_its_own_bucket_alone(rt: HostRuntime) -> Result<(), Fail> {
+    let set: Set<EmptyStaticAtomSet> = Set::new(rt.alloc())?;
+    let atom = Atom::from_str_in(&rt, &set, "interned")?;
+    let others = (
+        Atom::from_str_in(&rt, &set, "afterwards")?,
+        Atom::from_str_in(&rt, &set, "geometric")?,
+    );
+    let held = (
+        set.buckets.get(0).ok_or("no bucket")?.lock(&rt),
+        set.buckets.get(0xfff).ok_or("no bucket")?.lock(&rt),
+    );
+    drop(others);
+    drop(held);
+    drop(atom);
+    for bucket in &set.buckets {
+        assert!(rt; bucket.try_lock().is_some());
+    }
+    for _ in 0..2 {
+        assert!(rt; set.linked(&rt) == 2);
+    }
+    Ok(())
+}
+
+/// What the call gives, and whether it ended while this thread had the locks. They are let go after so many milliseconds.
 fn beside<R: Threads + Clock, L: Drop, T: Send, F: FnOnce() -> T + Send>(
     rt: &R,
+    most: u32,
     locks: L,
     call: F,
 ) -> (T, bool)
@@ -121,7 +147,7 @@ fn beside<R: Threads + Clock, L: Drop, T: Send, F: FnOnce() -> T + Send>(
             given
         },
         move || {
-            for _ in 0..10_000 {
+            for _ in 0..most {
                 if ended.load(Ordering::SeqCst) {
                     break;
                 }
@@ -156,7 +182,12 @@ fn calls_that_take_no_lock(rt: HostRuntime) -> Result<(), Fail> {
         held.push(bucket.lock(&rt))?;
     }
     let (handle, shared, atom) = (&rt, &set, &dynamic);
-    let (is_right, ended) = beside(&rt, held, || work_without_locks(handle, shared, atom));
+    let (is_right, ended) = beside(
+        &rt,
+        10_000,
+        held,
+        || work_without_locks(handle, shared, atom),
+    );
     assert!(rt; ended);
     assert!(rt; is_right?);
     Ok(())
@@ -180,9 +211,62 @@ fn interning_takes_the_lock_of_one_bucket(rt: HostRuntime) -> Result<(), Fail> {
         }
     }
     let (handle, shared) = (&rt, &set);
-    let (is_first, ended) = beside(&rt, held, || intern_twice(handle, shared));
+    let (is_first, ended) = beside(&rt, 10_000, held, || intern_twice(handle, shared));
     assert!(rt; ended);
     assert!(rt; is_first?);
+    assert!(rt; set.linked(&rt) == 0);
+    Ok(())
+}
+
+#[test]
+fn linked_waits_for_each_lock(rt: HostRuntime) -> Result<(), Fail> {
+    let set: Set<EmptyStaticAtomSet> = Set::new(rt.alloc())?;
+    let _first = Atom::from_str_in(&rt, &set, "afterwards")?;
+    let _last = Atom::from_str_in(&rt, &set, "geometric")?;
+    let held = set.buckets.get(0xfff).ok_or("no bucket")?.lock(&rt);
+    let (handle, shared) = (&rt, &set);
+    let (sum, ended) = beside(&rt, 1_000, held, || shared.linked(handle));
+    assert!(rt; !ended);
+    assert!(rt; sum == 2);
+    Ok(())
+}
+
+/// Whether the bucket is without entries within ten seconds.
+fn is_emptied<R: Wait + Clock>(rt: &R, bucket: &Mutex<Bucket<EmptyStaticAtomSet>>) -> bool {
+    for _ in 0..10_000 {
+        if bucket.lock(rt).len() == 0 {
+            return true;
+        }
+        thread::sleep(rt, Duration::from_millis(1));
+    }
+    false
+}
+
+/// The first bucket is swept while the last one's lock is held, and the last one once that is let go.
+#[test]
+fn sweep_goes_on_to_the_last_bucket(rt: HostRuntime) -> Result<(), Fail> {
+    let set: Set<EmptyStaticAtomSet> = Set::new(rt.alloc())?;
+    let atoms = (
+        Atom::from_str_in(&rt, &set, "afterwards")?,
+        Atom::from_str_in(&rt, &set, "geometric")?,
+    );
+    let first = set.buckets.get(0).ok_or("no bucket")?;
+    let of_first = first.lock(&rt);
+    let of_last = set.buckets.get(0xfff).ok_or("no bucket")?.lock(&rt);
+    drop(atoms);
+    drop(of_first);
+    let (handle, shared) = (&rt, &set);
+    let ((), is_first_swept) = thread::join(
+        &rt,
+        || shared.sweep(handle),
+        move || {
+            let is_swept = is_emptied(handle, first);
+            thread::sleep(handle, Duration::from_millis(100));
+            drop(of_last);
+            is_swept
+        },
+    );
+    assert!(rt; is_first_swept);
     assert!(rt; set.linked(&rt) == 0);
     Ok(())
 }
