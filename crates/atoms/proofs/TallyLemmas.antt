@@ -1,11 +1,11 @@
 -- A tally after a word is counted.
-use Rattle.std.proofs.Common.{◌≡◌, ℕ, ◌+◌, ◌<◌, Bool, true, false, cond, List, [], ◌∷◌, refl, sym, ap, ◌∙◌, subst, add-zero, HashMap}
+use Rattle.std.proofs.Common.{◌≡◌, ℕ, ◌+◌, ◌<◌, Bool, true, false, cond, List, [], ◌∷◌, refl, sym, ap, ◌∙◌, subst, add-zero, HashMap, IfSome}
 use Rattle.std.specs.Prelude.{Option, Some, None}
 use Rattle.std.specs.Option.{option_map_or}
 use Rattle.std.specs.HashMap.{UpdatesBy, PutsEntry, get_by}
 use Rattle.std.specs.Cmp.Lexicographic.{bytes_decides, nat_list_eq_equiv}
 use Rattle.std.specs.List.{All}
-use Rattle.std.specs.Map.{set_value}
+use Rattle.std.specs.Map.{lookup, set_value}
 use Rattle.std.specs.Str.{bytes_eq}
 use Rattle.std.proofs.lemmas.List.Elements.{All-cons, All-head, All-tail}
 use Rattle.std.proofs.lemmas.List.Sorted.{All-permutation}
@@ -39,7 +39,7 @@ added m k word v n updates is other =
     ∙ step_number (bytes_eq word other) (bytes_eq other word) v (get_by (λ key. bytes_eq other key.now) m) n (nat_list_eq_equiv.symm other word)
     (λ e. is ∙ ap (λ t. number_of m t + n) ((bytes_decides word other).0 e))
 
-own_set : (word : Bor (List ℕ)) (v : AtomValue × ℕ) → v.0.text ≡ word.now → 0 < v.1 → (es : List (Bor (List ℕ) × (AtomValue × ℕ))) → All IsOwn es
+pub own_set : (word : Bor (List ℕ)) (v : AtomValue × ℕ) → v.0.text ≡ word.now → 0 < v.1 → (es : List (Bor (List ℕ) × (AtomValue × ℕ))) → All IsOwn es
     → All IsOwn (set_value (same_word word) es v)
 own_set word v text some [] own = own
 own_set word v text some (e ∷ es) own =
@@ -53,3 +53,13 @@ pub own_put : {S : Type 0} (m k : HashMap (Bor (List ℕ)) (AtomValue × ℕ) S)
     → v.0.text ≡ word.now → 0 < v.1 → PutsEntry same_word m k word v old → All IsOwn m.entries → All IsOwn k.entries
 own_put m k word v None text some puts own = All-permutation IsOwn ((word, v) ∷ m.entries) k.entries puts (All-cons IsOwn (word, v) m.entries (text, some) own)
 own_put m k word v (Some o) text some puts own = subst (All IsOwn) (sym puts) (own_set word v text some m.entries own)
+
+-- what is found by a word has an atom of that text
+pub own_found : (word : List ℕ) (es : List (Bor (List ℕ) × (AtomValue × ℕ))) → All IsOwn es → IfSome (lookup (λ key. bytes_eq word key.now) es) (λ found. found.0.text ≡ word)
+own_found word [] own = tt
+own_found word (e ∷ es) own =
+    let rest = own_found word es (All-tail IsOwn e es own) in
+    elim (bytes_eq word e.0.now) as (λ b. bytes_eq word e.0.now ≡ b → IfSome (cond b (Some e.1) (lookup (λ key. bytes_eq word key.now) es)) (λ found. found.0.text ≡ word)) [
+      | true ↦ λ same. (All-head IsOwn e es own).0 ∙ sym ((bytes_decides word e.0.now).0 same)
+      | false ↦ λ same. rest
+    ] refl

@@ -29,7 +29,8 @@ pub trait Gate: Sync {
     /// Called by a worker before it interns the words of its piece.
     fn enter<R: Wait>(&self, rt: &R, piece: u32);
 
-    /// Called by a worker once it has, or was refused, while it holds all of its atoms.
+    /// Called by a worker once it has, or was refused, while it holds an atom of each of its words, and of each place of a
+    /// dynamic one.
     fn leave<R: Wait>(&self, rt: &R, piece: u32);
 }
 

@@ -36,7 +36,8 @@ impl Interner for Table<EmptyStaticAtomSet> {
     }
 }
 
-/// Interns words in a set, and holds their atoms.
+/// Interns words in a set, and holds the atom of each place of a dynamic one. Inline and static atoms hold nothing of the
+/// set, so they aren't kept.
 #[derive(Drop)]
 struct Holder<'r, 's, R: Wait, Static: StaticAtomSet> {
     rt: &'r R,
@@ -57,7 +58,9 @@ impl<'r, 's, R: Wait, Static: StaticAtomSet> Holder<'r, 's, R, Static> {
 impl<R: Wait, Static: StaticAtomSet> Interner for Holder<'_, '_, R, Static> {
     fn intern(&mut self, word: &str) -> Result<(), Fault> {
         let atom = Atom::from_str_in(self.rt, self.set, word)?;
-        self.atoms.push(atom)?;
+        if atom.is_dynamic() {
+            self.atoms.push(atom)?;
+        }
         Ok(())
     }
 }
@@ -71,8 +74,9 @@ fn count_word<'t>(counts: &mut Counts<'t>, word: &'t str) -> Result<u64, AllocEr
     ensures before { IfOk result (λ n. n ≡ count_of counts.old word.now) }
     ensures counted { OnOk result (CountsOneMore counts.old counts.new word.now) }
 {
-    let n = counts.get(word).copied().unwrap_or(0);
-    counts.insert(word, n + 1)?;
+    let number = counts.entry(word)?.or_insert(0);
+    let n = *number;
+    *number += 1;
     Ok(n)
 }
 
@@ -134,7 +138,7 @@ fn tell<I: Interner, S: Source, K: Sink>(
 }
 
 /// For each word that the reader gives, a line that tells how often it came before. The words are interned in the set,
-/// repeated ones again, and their atoms are held to the end of the call.
+/// repeated ones again, and the atoms of dynamic ones are held to the end of the call; others hold nothing of the set.
 ///
 /// `Read` and `Text`, input that isn't UTF-8, come before anything is written, and so does `Intern(Memory)` while the
 /// input is read. After another fault a beginning of the lines is written.

@@ -17,30 +17,28 @@ use string_cache::{Atom, StaticAtomSet};
 /// An atom of each word and how often the word came, found by the word where it lies in the text.
 pub type Tally<'e, Static> = HashMap<&'e str, (Atom<'e, Static>, u64)>;
 
-/// The number of the word, or 0.
-fn number<Static: StaticAtomSet>(tally: &Tally<'_, Static>, word: &str) -> u64
-    ensures { result ≡ number_of tally.now word.now }
-{
-    match tally.get(word) {
-        Some((_, number)) => *number,
-        None => 0,
-    }
-}
-
-/// Counts the word once more, with this atom. What it had before comes back.
+/// Counts the word once more, with this atom. The atom comes back where the tally has one of the word.
 pub fn add<'e, Static: StaticAtomSet>(
     tally: &mut Tally<'e, Static>,
     word: &'e str,
     atom: Atom<'e, Static>,
-) -> Result<Option<(Atom<'e, Static>, u64)>, AllocError>
+) -> Result<Option<Atom<'e, Static>>, AllocError>
     requires of_word { atom.text ≡ word.now }
     requires fits { number_of tally.old word.now + 1 < 2 ^ 64 }
     requires labelled { IsLabelled tally.old }
     ensures numbers { OnOk result (AddsTo tally.old tally.new word.now 1) }
     ensures labelled { OnOk result (IsLabelled tally.new) }
 {
-    let number = number(tally, word) + 1;
-    Ok(tally.insert(word, (atom, number))?)
+    match tally.get_mut(word) {
+        Some(held) => {
+            held.1 += 1;
+            Ok(Some(atom))
+        }
+        None => {
+            tally.insert(word, (atom, 1))?;
+            Ok(None)
+        }
+    }
 }
 
 /// The atoms with their numbers, in the order of texts.

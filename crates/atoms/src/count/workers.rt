@@ -35,7 +35,8 @@ impl<'e, Static: StaticAtomSet> Promise<Result<Counts<'e, Static>, Fault>> for C
         × IfErr result IsInternFault };
 }
 
-/// Interns a place of a word and counts it. The atom of a further place is held beside those of the tally.
+/// Interns a place of a word and counts it. The atom of a further place is held beside those of the tally, if it is dynamic:
+/// others hold nothing of the set.
 fn intern_place<'e, R: Wait, Static: StaticAtomSet>(
     rt: &R,
     set: &'e Set<Static>,
@@ -50,8 +51,10 @@ fn intern_place<'e, R: Wait, Static: StaticAtomSet>(
     ensures refused { IfErr result IsInternFault }
 {
     let atom = Atom::from_str_in(rt, set, word)?;
-    if let Some((held, _)) = add(tally, word, atom)? {
-        further.push(held)?;
+    if let Some(held) = add(tally, word, atom)? {
+        if held.is_dynamic() {
+            further.push(held)?;
+        }
     }
     Ok(())
 }
@@ -83,7 +86,8 @@ fn intern_words<'e, R: Wait, Static: StaticAtomSet>(
     Ok(())
 }
 
-/// What a worker does: it interns its words between the gate's two calls, and holds every atom past both.
+/// What a worker does: it interns its words between the gate's two calls, and holds past both an atom of each word, and of each
+/// place of a dynamic one.
 fn count_part<'e, R: Wait, Static: StaticAtomSet, G: Gate>(
     rt: &R,
     set: &'e Set<Static>,
