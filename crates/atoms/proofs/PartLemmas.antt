@@ -7,7 +7,7 @@ use Rattle.std.proofs.lemmas.List.{drop-append-le, drop-take, length-take, take_
 use Rattle.std.proofs.lemmas.List.Sums.{sum_by_push, count_by-le-length}
 use Rattle.std.proofs.lemmas.Nat.{le-div}
 use Rattle.std.proofs.Math.Nat.{div-mul-le_self, mul-div_cancel_left}
-use Rattle.std.proofs.Math.Seq.{take-append_seam, take-add, take-length}
+use Rattle.std.proofs.Math.Seq.{take-append_seam, take-add}
 use Rattle.std.specs.Prelude.{encode_utf8_all, map}
 use Rattle.string_cache.specs.AtomValue.{AtomValue}
 use Rattle.atoms.specs.MergedCounts.{merged}
@@ -104,6 +104,5 @@ pub back_fits : (ws : List (List ℕ)) (s e : ℕ) (counts : List (AtomValue × 
 back_fits ws s e counts small is = subst (All (λ (pair : List ℕ × ℕ). pair.1 < 2 ^ 63)) (sym is) (counts_fit (drop s (take e ws)) (omega (arith, small, length-take e ws, length-drop s (take e ws))))
 
 -- the parts of all pieces are all words
-pub whole_cut : (ws : List (List ℕ)) (n w p : ℕ) → p ≡ n → w ≡ length ws → 1 ≤ p → take (n * w / p) ws ≡ ws
-whole_cut ws n w p same is some =
-    ap (λ k. take k ws) (ap (λ d. n * w / d) same ∙ mul-div_cancel_left w (omega (arith, some, same)) ∙ is) ∙ take-length ws
+pub whole_cut : (ws : List (List ℕ)) (w p : ℕ) → length ws ≤ w → 1 ≤ p → take (p * w / p) ws ≡ ws
+whole_cut ws w p enough some = ap (λ k. take k ws) (mul-div_cancel_left w (omega (arith, some))) ∙ take_all w ws enough

@@ -1,11 +1,11 @@
 -- The words of a text come off its front, one by one.
-use Rattle.std.proofs.Common.{◌≡◌, ℕ, ◌<◌, Bool, true, false, not, List, [], ◌∷◌, ◌++◌, length, sym, refl, ap, ◌∙◌, subst, append_assoc, append-nil, length-append, arith, map, cond, suc, take, drop, filter}
+use Rattle.std.proofs.Common.{◌≡◌, ℕ, ◌<◌, ◌≤◌, Bool, true, false, not, List, [], ◌∷◌, ◌++◌, length, sym, refl, ap, ◌∙◌, subst, append_assoc, append-nil, length-append, arith, map, cond, suc, take, drop, filter}
 use Rattle.std.proofs.Math.Seq.{drop-cons}
 use Rattle.std.specs.Prelude.{encode_utf8_all, encode_utf8, slice_index}
 use Rattle.std.specs.Str.{NonePass, NoCharPasses, EmptyOrStartsWithPassing, IsUtf8, chars}
 use Rattle.std.specs.Char.{is_whitespace, is_not_whitespace}
-use Rattle.std.proofs.lemmas.Str.{cons_from_encodes, encode_same, encodes_same, length-encode, len_utf8_bounds, chars-append, chars_past_char, chars_from_encodes, encode_ascii, IsCharBoundary-before_ascii, IsUtf8-take, IsUtf8-drop}
-use Rattle.std.proofs.lemmas.List.{take-append-drop, map-append}
+use Rattle.std.proofs.lemmas.Str.{cons_from_encodes, encode_same, encodes_same, length-encode, len_utf8_bounds, chars-append, chars_past_char, encodes-chars, length-le-encodes, chars_from_encodes, encode_ascii, IsCharBoundary-before_ascii, IsUtf8-take, IsUtf8-drop}
+use Rattle.std.proofs.lemmas.List.{take-append-drop, map-append, length-map}
 use Rattle.std.proofs.lemmas.List.Elements.{filter-append}
 use Rattle.atoms.specs.Words.{cons_first, parts, has_chars, char_words, words}
 
@@ -138,3 +138,24 @@ words_joined text i utf8 within ascii white =
 -- nothing has no words
 pub words_of_nothing : words [] ≡ []
 words_of_nothing = ap (λ cs. map encode_utf8_all (char_words cs)) (sym (chars_from_encodes [] [] ([], (refl, refl)) refl))
+
+-- ---- no more words than bytes
+
+some_follow : (p : List ℕ) (ps : List (List ℕ)) → length (filter has_chars ps) ≤ length (filter has_chars (p ∷ ps))
+some_follow [] ps = omega arith
+some_follow (c ∷ p) ps = omega arith
+
+few_words : (cs : List ℕ) → length (char_words cs) ≤ length cs
+few_words [] = omega arith
+few_words (c ∷ cs) =
+    let rest = few_words cs in
+    let some = some_parts cs in
+    elim (is_whitespace c) as (λ b. length (filter has_chars (cond b ([] ∷ parts cs) (cons_first c (parts cs)))) ≤ suc (length cs)) [
+      | true ↦ omega (arith, rest)
+      | false ↦ subst (λ ps. length (filter has_chars (cons_first c ps)) ≤ suc (length cs)) (sym some.1.1)
+          (omega (arith, some_follow some.0 some.1.0, subst (λ ps. length (filter has_chars ps) ≤ length cs) some.1.1 rest))
+    ]
+
+pub length-words-le : (text : List ℕ) → IsUtf8 text → length (words text) ≤ length text
+length-words-le text utf8 =
+    omega (arith, length-map (char_words (chars text)) encode_utf8_all, few_words (chars text), length-le-encodes (chars text), ap length (encodes-chars text utf8))

@@ -10,6 +10,7 @@ mod cut;
 #[cfg(test)]
 mod gates;
 mod lines;
+mod marks;
 mod merge;
 mod tally;
 #[cfg(test)]

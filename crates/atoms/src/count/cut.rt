@@ -1,12 +1,12 @@
-// How the words of a text are cut into pieces, and how many there are.
+// How the words of a text are cut into pieces, and the text itself into sections.
 #![tactic(auto)]
 
-ghost use Rattle.std.specs.Prelude.{◌≡◌, ◌+◌, ◌≤◌, ◌<◌, ◌*◌, ◌/◌, ◌^◌, ◌++◌, length, true, slice_index, IfSome};
+ghost use Rattle.std.specs.Prelude.{◌≡◌, ◌+◌, ◌≤◌, ◌<◌, ◌*◌, ◌/◌, ◌^◌, ◌++◌, length, true, slice_index, IfOk, IfSome};
 ghost use Rattle.std.specs.Char.{is_whitespace};
-ghost use Rattle.std.specs.Thread.{IsSync};
+ghost use Rattle.atoms.specs.Sections.{AreSections};
 ghost use Rattle.atoms.specs.Words.{words};
 
-use std::thread::{Threads, join};
+use std::alloc::{AllocError, Global};
 
 /// How words are cut into pieces: of `words` words, piece i of `pieces` has those from index `(i - 1) * words / pieces` up
 /// to but not including `i * words / pieces`.
@@ -29,22 +29,9 @@ impl Cut {
     }
 }
 
-/// How many words the text has.
-fn words_in(text: &str) -> usize
-    ensures words { result ≡ length (words text.now) }
-    ensures bound { result ≤ length text.now }
-{
-    // No more words than bytes, so that their number fits.
-    let _most = text.len();
-    let mut n = 0;
-    for _word in text.split_whitespace() {
-        n += 1;
-    }
-    n
-}
-
 /// Where a space or a line feed is, from the given place on.
 fn space_from(bytes: &[u8], start: usize) -> Option<usize>
+    ensures behind { IfSome result (λ i. start ≤ i) }
     ensures within { IfSome result (λ i. i < length bytes.now) }
     ensures ascii { IfSome result (λ i. slice_index bytes.now i < 128) }
     ensures white { IfSome result (λ i. is_whitespace (slice_index bytes.now i) ≡ true) }
@@ -57,41 +44,37 @@ fn space_from(bytes: &[u8], start: usize) -> Option<usize>
     None
 }
 
-/// The text in two parts, cut between words behind its middle. Where no space is there, the second one is empty.
-fn halves(text: &str) -> (&str, &str)
+/// A section has so many bytes, and those up to the next space. A text of fewer isn't worth a thread.
+const SECTION: usize = 1 << 16;
+
+/// The text in two parts, cut between words behind the bytes of one section. Where no space is there, the second one is empty.
+fn cut_off(text: &str) -> (&str, &str)
     ensures words { words text.now ≡ words result.0.now ++ words result.1.now }
-    ensures len { length text.now ≡ length result.0.now + length result.1.now }
+    ensures shorter { 0 < length text.now → length result.1.now < length text.now }
 {
-    let Some(cut) = space_from(text.as_bytes(), text.len() / 2) else {
+    let Some(cut) = space_from(text.as_bytes(), SECTION) else {
         return (text, "");
     };
     text.split_at(cut)
 }
 
-/// A text of fewer bytes isn't worth a thread.
-const SHORT: usize = 1 << 16;
+/// A part of a text that is cut between words, and the text from there on.
+#[derive(Clone, Copy)]
+pub struct Section<'e> {
+    pub own: &'e str,
+    pub rest: &'e str,
+}
 
-/// How many words the text has, counted in so many parts at once where it isn't short.
-pub fn number_of_words<R: Threads + Sync>(rt: &R, text: &str, parts: u32) -> usize
-    ensures words { result ≡ length (words text.now) }
-    ensures bound { result ≤ length text.now }
+/// The text in sections.
+pub fn sections<'e>(alloc: Global, text: &'e str) -> Result<Vec<Section<'e>>, AllocError>
+    ensures { IfOk result (λ sections. AreSections text.now sections.items) }
 {
-    if parts <= 1 || text.len() < SHORT {
-        return words_in(text);
+    let mut sections = Vec::new(alloc);
+    let mut rest = text;
+    while !rest.is_empty() {
+        let (own, behind) = cut_off(rest);
+        sections.push(Section { own, rest })?;
+        rest = behind;
     }
-    let (front, back) = halves(text);
-    let (before, behind) = join(
-        rt,
-        || -> usize
-            requires { IsSync R.row }
-            ensures words { result ≡ length (words front.entry.now) }
-            ensures bound { result ≤ length front.entry.now }
-        { number_of_words(rt, front, parts / 2) },
-        || -> usize
-            requires { IsSync R.row }
-            ensures words { result ≡ length (words back.entry.now) }
-            ensures bound { result ≤ length back.entry.now }
-        { number_of_words(rt, back, parts - parts / 2) },
-    );
-    before + behind
+    Ok(sections)
 }

@@ -62,6 +62,20 @@ fn counts_of_the_example(rt: HostRuntime) -> Result<(), Fail> {
     Ok(())
 }
 
+/// A text of several sections, so that workers begin at different marks.
+#[test]
+fn counts_of_a_long_text(rt: HostRuntime) -> Result<(), Fail> {
+    let mut text = String::new(rt.alloc());
+    for _ in 0..20_000 {
+        text.push_str("interned a\n")?;
+    }
+    let set = Set::<EmptyStaticAtomSet>::new(rt.alloc())?;
+    let counts = count(&rt, &set, &text, 4, &Open).expect(&rt, "counts");
+    assert!(rt; are(&counts, &[("a", 20_000), ("interned", 20_000)]));
+    assert!(rt; set.linked(&rt) == 1);
+    Ok(())
+}
+
 /// Two workers are in their pieces at once.
 #[test]
 fn workers_run_at_once(rt: HostRuntime) -> Result<(), Fail> {

@@ -9,7 +9,8 @@ ghost use Rattle.atoms.specs.WordCounts.{counted_texts, word_counts};
 ghost use Rattle.atoms.specs.Words.{words};
 
 use super::Gate;
-use super::cut::{Cut, number_of_words};
+use super::cut::Cut;
+use super::marks::{Marked, Part, mark_and_cut};
 use super::merge::{Counts, merge};
 use super::tally::{Tally, add, into_pairs};
 use crate::faults::AppFault;
@@ -117,12 +118,12 @@ fn counts_to<'x, 'e: 'x, R: Threads + Wait + Sync, Static: StaticAtomSet + Send 
     rt: &'e R,
     set: &'e Set<Static>,
     gate: &'e G,
-    text: &'e str,
+    marked: &Marked<'e>,
     cut: Cut,
     i: u32,
 ) -> Result<Counts<'e, Static>, AppFault>
     requires { i ≤ cut.pieces }
-    ensures counts { IfOk result (λ counts. counted_texts counts.items ≡ word_counts (take (i * cut.words / cut.pieces) (words text.now))) }
+    ensures counts { IfOk result (λ counts. counted_texts counts.items ≡ word_counts (take (i * cut.words / cut.pieces) (words marked.now.text.now))) }
     ensures fault { IfErr result IsCountFault }
 {
     if i == 0 {
@@ -130,10 +131,12 @@ fn counts_to<'x, 'e: 'x, R: Threads + Wait + Sync, Static: StaticAtomSet + Send 
     }
     let from = cut.end(i - 1);
     let to = cut.end(i);
+    let part = marked.part(from, to);
+    let Part { text, from, to } = part;
     let started = scope.spawn_with(CountsOf { text, from, to }, move || {
         count_part(rt, set, gate, text, from, to, i)
     });
-    let below = counts_to(scope, rt, set, gate, text, cut, i - 1);
+    let below = counts_to(scope, rt, set, gate, marked, cut, i - 1);
     let Ok(worker) = started else {
         below?;
         return Err(AppFault::Worker);
@@ -142,6 +145,29 @@ fn counts_to<'x, 'e: 'x, R: Threads + Wait + Sync, Static: StaticAtomSet + Send 
     let front = below?;
     let counts = merge(set.allocator(), front, own?)?;
     Ok(counts)
+}
+
+/// The counts of the words of all pieces, by a worker for each.
+fn counts_of_pieces<'e, R: Threads + Wait + Sync, Static: StaticAtomSet + Send + Sync, G: Gate>(
+    rt: &'e R,
+    set: &'e Set<Static>,
+    gate: &'e G,
+    marked: Marked<'e>,
+    cut: Cut,
+) -> Result<Counts<'e, Static>, AppFault>
+    requires { length (words marked.text.now) ≤ cut.words }
+    ensures counts { IfOk result (λ counts. counted_texts counts.items ≡ word_counts (words marked.entry.text.now)) }
+    ensures fault { IfErr result IsCountFault }
+{
+    thread::scope(
+        thread::scope_env::<'e>(),
+        rt,
+        move |scope| -> Result<Counts<'_, Static>, AppFault>
+            requires { length (words marked.text.now) ≤ cut.words }
+            ensures counts { IfOk result (λ counts. counted_texts counts.items ≡ word_counts (words marked.entry.text.now)) }
+            ensures fault { IfErr result IsCountFault }
+        { counts_to(scope, rt, set, gate, &marked, cut, cut.pieces) },
+    )
 }
 
 /// The counts of the words of the text, by `n` workers.
@@ -161,17 +187,6 @@ pub fn counts_by_workers<
     ensures counts { IfOk result (λ counts. counted_texts counts.items ≡ word_counts (words text.now)) }
     ensures fault { IfErr result IsCountFault }
 {
-    let cut = Cut {
-        words: number_of_words(rt, text, n),
-        pieces: n,
-    };
-    thread::scope(
-        thread::scope_env::<'e>(),
-        rt,
-        |scope| -> Result<Counts<'_, Static>, AppFault>
-            requires { (cut.pieces ≡ n) × (cut.words ≡ length (words text.now)) }
-            ensures counts { IfOk result (λ counts. counted_texts counts.items ≡ word_counts (words text.entry.now)) }
-            ensures fault { IfErr result IsCountFault }
-        { counts_to(scope, rt, set, gate, text, cut, n) },
-    )
+    let (marked, cut) = mark_and_cut(rt, set.allocator(), text, n)?;
+    counts_of_pieces(rt, set, gate, marked, cut)
 }

@@ -2,7 +2,7 @@ use Rattle.std.proofs.Common.{ap, ◌∙◌, arith}
 use Rattle.std.specs.Str.Iter.{split_whitespace_rest}
 use Rattle.atoms.proofs.CutWords.{counted_begins, counted_next, counted_all}
 use Rattle.atoms.proofs.WordLemmas.{word_comes_off}
-use Rattle.atoms.proofs.count.cut.words_in.Goals as goal
+use Rattle.atoms.proofs.count.marks.words_in.Goals as goal
 
 pub loop-word-init : goal.loop-word-init
 loop-word-init c =
@@ -13,11 +13,8 @@ loop-word-preserved c =
     let before = c.loop-word.invariant in
     counted_next before (word_comes_off before.cutting.left _ c.in-Some._word.now _ before.cutting.spells c.in-Some.ensures.steps)
 
-pub returns-clause-words : goal.returns-clause-words
-returns-clause-words c = counted_all c.loop-word.invariant c.in-None.ensures.steps.1
+pub returns : goal.returns
+returns c = counted_all c.loop-word.invariant c.in-None.ensures.steps.1
 
 pub overflow_add-n : goal.overflow_add-n
 overflow_add-n c = omega (arith, c.loop-word.invariant.bound)
-
-pub returns-clause-bound : goal.returns-clause-bound
-returns-clause-bound c = omega (arith, c.loop-word.invariant.bound)

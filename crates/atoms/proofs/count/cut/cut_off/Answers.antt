@@ -2,7 +2,7 @@ use Rattle.std.proofs.Common.{ap, sym, subst, ◌≡◌, ◌<◌, ◌∙◌, ◌
 use Rattle.std.specs.Char.{is_whitespace}
 use Rattle.atoms.specs.Words.{words}
 use Rattle.atoms.proofs.WordLemmas.{words_joined, words_of_nothing}
-use Rattle.atoms.proofs.count.cut.halves.Goals as goal
+use Rattle.atoms.proofs.count.cut.cut_off.Goals as goal
 
 pub returns-clause-words : goal.returns-clause-words
 returns-clause-words c =
