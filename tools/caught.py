@@ -25,7 +25,8 @@ import time
 from dataclasses import dataclass, field
 from pathlib import Path
 
-SECONDS = "60"  # for one test, as the gate gives it
+SECONDS = 60  # for one test of a wrong body, which may hang
+BASE_SECONDS = 300  # for one test of the crate as it is, which only other work makes slow
 TEST = re.compile(r"test (\S+) \.\.\. (\w+)")
 
 
@@ -93,9 +94,9 @@ def ended(found, test):
     return [outcome for path, outcome in found.items() if f"::{path}".endswith(f"::{test}")]
 
 
-def outcomes(crate, test=None):
+def outcomes(crate, seconds, test=None):
     """Runs the crate's tests without proofs, up to the named one: what became of each, by its path, and all that was said."""
-    command = ["rt", "try", "--test", "--seconds", SECONDS]
+    command = ["rt", "try", "--test", "--seconds", str(seconds)]
     ran = subprocess.Popen(command, cwd=crate, stdin=subprocess.DEVNULL, stdout=subprocess.PIPE, stderr=subprocess.STDOUT)
     found, said = {}, []
     for line in ran.stdout:
@@ -119,7 +120,7 @@ def judge(edit, root):
     try:
         for file, text in texts.items():
             file.write_text(text, encoding="utf-8")
-        found, said = outcomes(root / "crates" / edit.crate.name, edit.test)
+        found, said = outcomes(root / "crates" / edit.crate.name, SECONDS, edit.test)
     finally:
         for file, text in kept.items():
             file.write_bytes(text)
@@ -137,7 +138,7 @@ def judge(edit, root):
 
 def judge_crate(crate, tests, root):
     """Whether all the named tests pass over the crate as it is, and what to say."""
-    found, said = outcomes(root / "crates" / crate)
+    found, said = outcomes(root / "crates" / crate, BASE_SECONDS)
     bad = sorted(test for test in tests if ended(found, test) != ["ok"])
     if bad:
         return False, f"these names aren't of one test that passes over the crate as it is: {', '.join(bad)}; it said: {said.strip()[:600]}"

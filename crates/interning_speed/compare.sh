@@ -1,6 +1,6 @@
 #!/usr/bin/env bash
 # Times the library and what one would write without it in turn, and prints the least time of each kind of call, in
-# nanoseconds, and the ratio of the two: ./compare.sh [TURNS]
+# nanoseconds, and the ratio of the two: ./compare.sh [TURNS]. A set of 1,000,000 texts gets one turn.
 set -euo pipefail
 cd "$(dirname "$0")"
 turns=${1:-5}
@@ -43,6 +43,7 @@ for bits in 12 14; do
     for texts in 10000 100000; do
         compare live "$texts" "$bits" 1
     done
+    turns=1 compare live 1000000 "$bits" 1
 done
 for threads in 1 2 4; do
     compare crowd 20000 12 "$threads"
