@@ -31,6 +31,7 @@ EVERY = sys.maxsize
 SPARED = {
     "refusals::programs::counts_by_one": 2,
     "refusals::programs::counts_by_two": 8,
+    "refusals::programs::counts_by_three": 12,
     "refusals::programs::counts_by_sixty_four": 80,
 }
 

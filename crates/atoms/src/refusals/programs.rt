@@ -135,6 +135,11 @@ fn counts_by_two(rt: HostRuntime) -> Result<(), Fail> {
 }
 
 #[test]
+fn counts_by_three(rt: HostRuntime) -> Result<(), Fail> {
+    example_is_counted(&rt, rt.alloc(), 3)
+}
+
+#[test]
 fn counts_by_sixty_four(rt: HostRuntime) -> Result<(), Fail> {
     example_is_counted(&rt, rt.alloc(), 64)
 }
