@@ -34,6 +34,7 @@ add() {
     fi
 }
 
+export RT_JOBS=${RT_JOBS:-$(tools/lanes.py)}
 run ci rt ci &
 ci=$!
 run caught tools/caught.py --beside "$ci" > "$said/bodies" &

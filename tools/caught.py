@@ -13,10 +13,12 @@ usage: tools/caught.py [--jobs N] [--beside PID] [WORD..]     with words: only t
 """
 
 import argparse
+import contextlib
 import os
 import queue
 import re
 import shutil
+import signal
 import subprocess
 import sys
 import tempfile
@@ -94,10 +96,35 @@ def ended(found, test):
     return [outcome for path, outcome in found.items() if f"::{path}".endswith(f"::{test}")]
 
 
+def started_by(process):
+    """The processes that the process started, each with the words of its command."""
+    for folder in Path("/proc").glob("[0-9]*"):
+        try:
+            parent = (folder / "stat").read_text(encoding="ascii", errors="replace").rpartition(")")[2].split()[1]
+            if int(parent) == process:
+                yield int(folder.name), (folder / "cmdline").read_bytes().split(b"\0")
+        except (OSError, IndexError):
+            continue  # it has ended
+
+
+def end_hint(ran):
+    """Ends the check that rt try starts beside a run for a hint on reserved names: it takes as much time as the run itself, and
+    says nothing of a body. Where none is found within five seconds, nothing is ended."""
+    for _ in range(50):
+        hints = [process for process, words in started_by(ran.pid) if b"--start" in words and b"no function" in words]
+        for process in hints:
+            with contextlib.suppress(ProcessLookupError):
+                os.kill(process, signal.SIGKILL)
+        if hints or ran.poll() is not None:
+            return
+        time.sleep(0.1)
+
+
 def outcomes(crate, seconds, test=None):
     """Runs the crate's tests without proofs, up to the named one: what became of each, by its path, and all that was said."""
     command = ["rt", "try", "--test", "--seconds", str(seconds)]
     ran = subprocess.Popen(command, cwd=crate, stdin=subprocess.DEVNULL, stdout=subprocess.PIPE, stderr=subprocess.STDOUT)
+    end_hint(ran)
     found, said = {}, []
     for line in ran.stdout:
         said.append(line.decode(errors="replace"))
