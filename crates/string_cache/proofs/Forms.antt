@@ -1,13 +1,17 @@
 -- What the form of a text tells.
-use Rattle.std.proofs.Common.{◌≡◌, ℕ, ◌<◌, ◌≤◌, List, [], length, Bool, true, false, refl, sym, ◌∙◌, ap, subst, arith, if◌then◌else◌, nat_lt, IsTrue, ◌⊎◌, ⊎_elim}
+use Rattle.std.proofs.Common.{◌≡◌, ℕ, ◌<◌, ◌≤◌, List, [], length, Bool, true, false, refl, sym, ◌∙◌, ap, subst, arith, if◌then◌else◌, nat_eq, nat_lt, IsTrue, ◌⊎◌, ⊎_elim}
+use Rattle.std.proofs.lemmas.Bool.Decides.{Decides-eqb, Decides-like, same_from_decides}
 use Rattle.std.proofs.lemmas.List.{get_or_default, get_or_past}
+use Rattle.std.proofs.lemmas.Slice.Eq.{bytes_eq-Decides}
 use Rattle.std.specs.List.{Contains}
-use Rattle.std.specs.Cmp.Lexicographic.{same_text}
+use Rattle.std.specs.Cmp.Lexicographic.{pointwise, same_text}
 use Rattle.std.specs.Str.{bytes_eq}
 use Rattle.string_cache_core.specs.declared.static_sets.TextForm.{TextForm}
 use Rattle.string_cache_core.specs.declared.static_sets.TextForm.TheVariants.{Inline, Static, Dynamic}
 use Rattle.string_cache_core.specs.Tables.{Tables, IsPerfectTable, IsStaticIndex, form_of_text, is_static_form, place_in, text_at}
+use Rattle.string_cache_core.specs.Word.{IsInlineText, inline_word}
 use Rattle.string_cache_core.proofs.TableLemmas.{placed_static}
+use Rattle.string_cache_core.proofs.Unpacking.{inline_word_same}
 
 static_by : (long listed : Bool) (place word hash index : ℕ) → (let form : TextForm = if long then (if listed then Static place else Dynamic hash) else Inline word in form) ≡ Static index
     → (listed ≡ true) × (place ≡ index)
@@ -45,3 +49,10 @@ pub not_static : (t : Tables) (text : List ℕ) (form : TextForm) → form ≡ f
     → is_static_form (form_of_text t text) ≡ false
 not_static t text form is either =
     ap is_static_form (sym is) ∙ ⊎_elim {C = is_static_form form ≡ false} (λ inline. ap is_static_form inline.1) (λ dynamic. ap is_static_form dynamic.1) either
+
+-- two inline texts are equal exactly where their words are
+pub words_tell : (s t : List ℕ) → IsInlineText s → IsInlineText t → nat_eq (inline_word s) (inline_word t) ≡ pointwise nat_eq s t
+words_tell s t a b =
+    let word = nat_eq (inline_word s) (inline_word t) in
+    let tells = Decides-like word (inline_word_same s t a b) (ap inline_word) (Decides-eqb (inline_word s) (inline_word t)) in
+    same_from_decides word (pointwise nat_eq s t) tells (bytes_eq-Decides s t)

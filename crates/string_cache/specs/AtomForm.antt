@@ -1,5 +1,5 @@
 -- What an atom holds.
-use Rattle.std.specs.Prelude.{◌≡◌, ◌<◌, length, Some, None}
+use Rattle.std.specs.Prelude.{◌≡◌, ◌<◌, ◌%◌, ◌^◌, length, Some, None}
 use Rattle.string_cache_core.specs.Tables.{Tables, form_of_text, text_at, IsStaticIndex}
 use Rattle.string_cache_core.specs.declared.static_sets.TextForm.TheVariants as form
 use Rattle.string_cache_core.specs.Word.{inline_word, static_word, IsInlineText}
@@ -12,10 +12,10 @@ use Rattle.string_cache.specs.declared.atom.Form.TheVariants.{Inline, Static, Dy
 abbrev pub value_of_form : {X : Type 0} → Tables → Form X → AtomValue
 value_of_form t (Inline text) = record { text = text; word = inline_word text; bits = None }
 value_of_form t (Static index) = record { text = text_at t index; word = static_word index; bits = None }
-value_of_form t (Dynamic held) = record { text = held.text; word = held.ticket; bits = Some held.bits }
+value_of_form t (Dynamic half held) = record { text = held.text; word = held.ticket; bits = Some held.bits }
 
 -- the text is one of this form
 abbrev pub IsOwnForm : {X : Type 0} → Tables → Form X → Type 0
 IsOwnForm t (Inline text) = IsInlineText text
 IsOwnForm t (Static index) = IsStaticIndex t index × (index < length t.atoms)
-IsOwnForm t (Dynamic held) = (form_of_text t held.text ≡ form.Dynamic held.hash) × IsRight t held
+IsOwnForm t (Dynamic half held) = (form_of_text t held.text ≡ form.Dynamic held.hash) × IsRight t held × (half ≡ held.hash % 2 ^ 32)

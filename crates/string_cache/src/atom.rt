@@ -35,7 +35,8 @@ enum Form<'s, Static: StaticAtomSet> {
     Inline(InlineText),
     /// The text at this index of the static tables.
     Static(u32),
-    Dynamic(Held<'s, Static>),
+    /// The low half of the entry's hash, which tells most texts apart without a look at their entries, and the share.
+    Dynamic(u32, Held<'s, Static>),
 }
 
 /// A text, in the form that it has under the tables of its static type. A dynamic one is shared with the set `'s`: its end
@@ -86,7 +87,7 @@ impl<'s, Static: StaticAtomSet> Atom<'s, Static> {
             TextForm::Static(index) => Ok(Self::of_form(Form::Static(index))),
             TextForm::Dynamic(hash) => {
                 let held = set.intern(rt, text, hash)?;
-                Ok(Self::of_form(Form::Dynamic(held)))
+                Ok(Self::of_form(Form::Dynamic((hash % (1 << 32)) as u32, held)))
             }
         }
     }
@@ -130,7 +131,7 @@ impl<'s, Static: StaticAtomSet> Atom<'s, Static> {
         let form = match &self.form {
             Form::Inline(text) => Form::Inline(*text),
             Form::Static(index) => Form::Static(*index),
-            Form::Dynamic(held) => Form::Dynamic(held.clone_share(rt)?),
+            Form::Dynamic(half, held) => Form::Dynamic(*half, held.clone_share(rt)?),
         };
         Ok(Self::of_form(form))
     }
@@ -188,7 +189,7 @@ impl<'s, Static: StaticAtomSet> Atom<'s, Static> {
         match &self.form {
             Form::Inline(text) => text.as_str(),
             Form::Static(index) => Static::get().atoms[*index as usize],
-            Form::Dynamic(held) => held.text(),
+            Form::Dynamic(_, held) => held.text(),
         }
     }
 
@@ -208,7 +209,7 @@ impl<'s, Static: StaticAtomSet> Atom<'s, Static> {
         match &self.form {
             Form::Inline(text) => text.word(),
             Form::Static(index) => static_word(*index),
-            Form::Dynamic(held) => held.ticket(),
+            Form::Dynamic(_, held) => held.ticket(),
         }
     }
 
@@ -220,7 +221,7 @@ impl<'s, Static: StaticAtomSet> Atom<'s, Static> {
         match &self.form {
             Form::Inline(text) => text.word(),
             Form::Static(index) => Static::get().hashes[*index as usize],
-            Form::Dynamic(held) => held.hash(),
+            Form::Dynamic(_, held) => held.hash(),
         }
     }
 
@@ -242,7 +243,7 @@ impl<'s, Static: StaticAtomSet> Atom<'s, Static> {
     pub fn is_dynamic(&self) -> bool
         ensures { result ≡ is_dynamic_form (form_of_text Static.tables self.now.text) }
     {
-        matches!(&self.form, Form::Dynamic(_))
+        matches!(&self.form, Form::Dynamic(..))
     }
 }
 
@@ -262,10 +263,15 @@ impl<'s, Static: StaticAtomSet> PartialEq for Atom<'s, Static> {
     ghost laws = { on_per (λ a. a.text) (Cmp.partial_equiv_from_equiv nat_list_eq_equiv) };
 
     #[inline]
+    #[tactic(auto, using(crate::proofs::Forms::words_tell))]
     fn eq(&self, other: &Self) -> bool {
         match (&self.form, &other.form) {
-            (Form::Dynamic(one), Form::Dynamic(two)) => one.has_text_of(two),
-            _ => self.as_str() == other.as_str(),
+            (Form::Inline(one), Form::Inline(two)) => one.word() == two.word(),
+            (Form::Static(one), Form::Static(two)) => one == two,
+            (Form::Dynamic(half, one), Form::Dynamic(other_half, two)) => {
+                half == other_half && one.text() == two.text()
+            }
+            _ => false,
         }
     }
 }

@@ -64,15 +64,6 @@ impl<'s, Static: StaticAtomSet> Held<'s, Static> {
         self.share.text()
     }
 
-    /// Whether both entries have the same text. Texts with different hashes aren't compared.
-    #[inline]
-    pub(crate) fn has_text_of(&self, other: &Held<'s, Static>) -> bool
-        ensures { IsTrue result ↔ (self.now.text ≡ other.now.text) }
-    {
-        let (own, others) = (&self.share, &other.share);
-        own.label().hash == others.label().hash && own.text() == others.text()
-    }
-
     /// The hash of the entry's text.
     pub(crate) fn hash(&self) -> u64
         ensures { result ≡ self.now.hash }
