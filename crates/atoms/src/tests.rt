@@ -134,13 +134,13 @@ fn large_text(rt: HostRuntime) -> Result<(), Fail> {
     let alloc = rt.alloc();
     let mut front = String::new(alloc);
     for _ in 0..100 {
-        front.push_str("abcdefghijklmnopqrst")?;
+        front.push_str("abcdefghijklmnopqrst").expect(&rt, "room");
     }
     let (text, lines) = numbered_words(alloc, &front, 550)?;
     assert!(rt; text.len() > 1_100_000);
-    let set: Set<EmptyStaticAtomSet> = Set::new(alloc)?;
+    let set: Set<EmptyStaticAtomSet> = Set::new(alloc).expect(&rt, "a set");
     let mut writer = Io::new(Vec::new(alloc));
-    words(&rt, &set, &mut Io::new(text.as_bytes()), &mut writer)?;
+    words(&rt, &set, &mut Io::new(text.as_bytes()), &mut writer).expect(&rt, "an answer");
     assert!(rt; writer.into_inner().as_slice() == lines.as_bytes());
     Ok(())
 }
@@ -151,20 +151,19 @@ fn is_dynamic<R: Wait>(rt: &R, set: &Set<EmptyStaticAtomSet>, text: &str) -> Res
 }
 
 #[test]
-fn dynamic_words_of_the_example(rt: HostRuntime) -> Result<(), Fail> {
-    let set: Set<EmptyStaticAtomSet> = Set::new(rt.alloc())?;
+fn dynamic_words_of_the_example(rt: HostRuntime) {
+    let set: Set<EmptyStaticAtomSet> = Set::new(rt.alloc()).expect(&rt, "a set");
     let longer = ["sentence", "tokenised", "interned", "repeated"];
     for word in str::from_utf8(EXAMPLE)
         .expect(&rt, "a text")
         .split_whitespace()
     {
         assert_eq!(rt;
-            is_dynamic(&rt, &set, word)?,
+            is_dynamic(&rt, &set, word).expect(&rt, "an answer"),
             longer.contains(&word),
             "of {word:?}"
         );
     }
-    Ok(())
 }
 
 /// Takes all bytes. At each write it notes how many entries are linked in the set, and what interning a text there answers.
@@ -212,14 +211,14 @@ impl<R: Wait> Sink for Watcher<'_, R> {
 #[test]
 fn words_are_held_to_the_end(rt: HostRuntime) -> Result<(), Fail> {
     let alloc = rt.alloc();
-    let set: Set<EmptyStaticAtomSet> = Set::new(alloc)?;
+    let set: Set<EmptyStaticAtomSet> = Set::new(alloc).expect(&rt, "a set");
     let (many, _) = numbered_words(alloc, "word", 3000)?;
     for (text, linked) in [
         ("interned tokenised interned short", 2),
         (many.as_str(), 3000),
     ] {
         let mut writer = Watcher::new(&rt, &set, "");
-        words(&rt, &set, &mut Bytes::whole(text.as_bytes()), &mut writer)?;
+        words(&rt, &set, &mut Bytes::whole(text.as_bytes()), &mut writer).expect(&rt, "an answer");
         assert!(rt; writer.linked == linked);
         assert!(rt; set.linked(&rt) == 0);
     }
@@ -229,9 +228,9 @@ fn words_are_held_to_the_end(rt: HostRuntime) -> Result<(), Fail> {
 /// Where an entry has one holder at most, a word of the text is refused to others while the lines are written, and another
 /// text isn't.
 #[test]
-fn words_are_interned_themselves(rt: HostRuntime) -> Result<(), Fail> {
+fn words_are_interned_themselves(rt: HostRuntime) {
     let limits = Limits::new(1, 9).expect(&rt, "limits");
-    let set: Set<EmptyStaticAtomSet> = Set::with_limits(rt.alloc(), limits)?;
+    let set: Set<EmptyStaticAtomSet> = Set::with_limits(rt.alloc(), limits).expect(&rt, "a set");
     for (text, answer) in [
         ("interned", Err(Fault::FullCount)),
         ("tokenised", Err(Fault::FullCount)),
@@ -243,10 +242,10 @@ fn words_are_interned_themselves(rt: HostRuntime) -> Result<(), Fail> {
             &set,
             &mut Bytes::whole(b"interned tokenised"),
             &mut writer,
-        )?;
+        )
+        .expect(&rt, "an answer");
         assert_eq!(rt; writer.answer, answer, "of {text:?}");
     }
-    Ok(())
 }
 
 /// What `words` answers and writes of a text over this set.
@@ -281,9 +280,9 @@ fn holders_are_full(rt: HostRuntime) -> Result<(), Fail> {
 
 /// A ticket isn't given again to a word whose atoms are gone.
 #[test]
-fn tickets_are_spent(rt: HostRuntime) -> Result<(), Fail> {
+fn tickets_are_spent(rt: HostRuntime) {
     let limits = Limits::new(9, 1).expect(&rt, "limits");
-    let set: Set<EmptyStaticAtomSet> = Set::with_limits(rt.alloc(), limits)?;
+    let set: Set<EmptyStaticAtomSet> = Set::with_limits(rt.alloc(), limits).expect(&rt, "a set");
     for (wanted, lines) in [
         (
             Ok(()),
@@ -295,7 +294,6 @@ fn tickets_are_spent(rt: HostRuntime) -> Result<(), Fail> {
         assert_eq!(rt; answer, wanted);
         assert!(rt; written.written() == lines);
     }
-    Ok(())
 }
 
 /// At each step of the choice, and on both sides of it.

@@ -6,7 +6,6 @@ mod odd;
 
 use crate::samples::One;
 use std::sync::Wait;
-use std::test::Fail;
 use string_cache::dynamic_set::Set;
 use string_cache::static_sets::StaticAtomSet;
 use string_cache::trivial_impls::PrecomputedHash;
@@ -168,14 +167,14 @@ const VECTORS: [Vector; 11] = [
 ];
 
 #[test]
-fn vectors(rt: HostRuntime) -> Result<(), Fail> {
-    let empty: Set<EmptyStaticAtomSet> = Set::new(rt.alloc())?;
-    let one: Set<One> = Set::new(rt.alloc())?;
+fn vectors(rt: HostRuntime) {
+    let empty: Set<EmptyStaticAtomSet> = Set::new(rt.alloc()).expect(&rt, "a set");
+    let one: Set<One> = Set::new(rt.alloc()).expect(&rt, "a set");
     for vector in VECTORS {
         let text = vector.text;
         let told = match vector.tables {
-            Tables::Empty => tell(&rt, &empty, text)?,
-            Tables::One => tell(&rt, &one, text)?,
+            Tables::Empty => tell(&rt, &empty, text).expect(&rt, "an answer"),
+            Tables::One => tell(&rt, &one, text).expect(&rt, "an answer"),
         };
         assert_eq!(rt; told.word, vector.word, "of {text:?}");
         assert_eq!(rt; told.form, vector.form, "of {text:?}");
@@ -183,5 +182,4 @@ fn vectors(rt: HostRuntime) -> Result<(), Fail> {
         assert_eq!(rt; told.precomputed, vector.precomputed, "of {text:?}");
         assert_eq!(rt; told.debug.as_str(), vector.debug, "of {text:?}");
     }
-    Ok(())
 }

@@ -7,7 +7,6 @@ use linked_list_allocator::LocalHeap;
 use std::alloc::{AllocError, Allocator, Global};
 use std::process::Abort;
 use std::sync::Wait;
-use std::test::Fail;
 use std::thread;
 
 /// A share that is given back at its drop.
@@ -95,20 +94,19 @@ fn one_life<R: Wait + Abort>(rt: &R, alloc: Global, text: &str) -> Result<(), Al
 }
 
 #[test]
-fn a_cell_keeps_its_text(rt: HostRuntime) -> Result<(), Fail> {
+fn a_cell_keeps_its_text(rt: HostRuntime) {
     let alloc = rt.alloc();
-    one_life(&rt, alloc, "")?;
-    one_life(&rt, alloc, "a")?;
-    one_life(&rt, alloc, "interned")?;
-    one_life(&rt, alloc, "tokenised ü")?;
-    one_life(&rt, alloc, "a longer text, which takes more than one word")?;
-    Ok(())
+    one_life(&rt, alloc, "").expect(&rt, "an answer");
+    one_life(&rt, alloc, "a").expect(&rt, "an answer");
+    one_life(&rt, alloc, "interned").expect(&rt, "an answer");
+    one_life(&rt, alloc, "tokenised ü").expect(&rt, "an answer");
+    one_life(&rt, alloc, "a longer text, which takes more than one word").expect(&rt, "an answer");
 }
 
 /// The replies from the first share to the last one, at a limit of 2.
 #[test]
-fn replies(rt: HostRuntime) -> Result<(), Fail> {
-    let (owner, first) = make(rt.alloc(), 2, "interned")?;
+fn replies(rt: HostRuntime) {
+    let (owner, first) = make(rt.alloc(), 2, "interned").expect(&rt, "an answer");
     assert!(rt; owner.dying().is_err());
     let second = share_answer(first.share.add(&rt)).share(&rt);
     assert!(rt; matches!(reply_answer(owner.add(&rt)), Answer::Full));
@@ -122,7 +120,6 @@ fn replies(rt: HostRuntime) -> Result<(), Fail> {
     assert!(rt; matches!(reply_answer(owner.add(&rt)), Answer::Dying));
     assert!(rt; owner.dying().is_ok());
     assert!(rt; frees(owner));
-    Ok(())
 }
 
 /// Adds a share and gives it back, again and again. How many were refused.
@@ -138,8 +135,8 @@ fn clone_and_give<R: Wait>(rt: &R, share: &Share) -> u64 {
 
 /// No share is lost or left over, and none is refused, though two threads change one count.
 #[test]
-fn one_count_in_two_threads(rt: HostRuntime) -> Result<(), Fail> {
-    let (owner, first) = make(rt.alloc(), 3, "interned")?;
+fn one_count_in_two_threads(rt: HostRuntime) {
+    let (owner, first) = make(rt.alloc(), 3, "interned").expect(&rt, "an answer");
     let (lent, handle) = (&first.share, &rt);
     let refused = thread::join(
         &rt,
@@ -154,18 +151,16 @@ fn one_count_in_two_threads(rt: HostRuntime) -> Result<(), Fail> {
     assert!(rt; !third.gives_last());
     assert!(rt; second.gives_last());
     assert!(rt; frees(owner));
-    Ok(())
 }
 
 /// Of two threads that each give a share back, exactly one gave the last.
 #[test]
-fn one_of_two_is_the_last(rt: HostRuntime) -> Result<(), Fail> {
-    let (owner, first) = make(rt.alloc(), 2, "interned")?;
+fn one_of_two_is_the_last(rt: HostRuntime) {
+    let (owner, first) = make(rt.alloc(), 2, "interned").expect(&rt, "an answer");
     let second = share_answer(first.share.add(&rt)).share(&rt);
     let last = thread::join(&rt, || first.gives_last(), || second.gives_last());
     assert!(rt; last.0 != last.1);
     assert!(rt; frees(owner));
-    Ok(())
 }
 
 /// How many bytes of the heap are taken once a cell has ended at its owner's `finish`, or at its drop.
@@ -182,30 +177,28 @@ fn left_by_an_end(heap: &LocalHeap, by_drop: bool) -> Result<usize, AllocError> 
 
 /// A cell is one block, which is given back at the end of the owner where no share is left, and never where one is.
 #[test]
-fn the_end_frees_what_is_not_held(rt: HostRuntime) -> Result<(), Fail> {
-    let heap = LocalHeap::new(rt.alloc(), 4096)?;
-    assert!(rt; left_by_an_end(&heap, false)? == 0);
-    assert!(rt; left_by_an_end(&heap, true)? == 0);
-    let (owner, share) = make(&heap, 1, "left behind")?;
+fn the_end_frees_what_is_not_held(rt: HostRuntime) {
+    let heap = LocalHeap::new(rt.alloc(), 4096).expect(&rt, "an answer");
+    assert!(rt; left_by_an_end(&heap, false).expect(&rt, "an answer") == 0);
+    assert!(rt; left_by_an_end(&heap, true).expect(&rt, "an answer") == 0);
+    let (owner, share) = make(&heap, 1, "left behind").expect(&rt, "an answer");
     let block = heap.used();
     assert!(rt; block == 64);
     assert!(rt; matches!(owner.finish(), Ending::Left(_)));
     assert!(rt; share.share.text() == "left behind" && heap.used() == block);
     assert!(rt; share.gives_last());
     assert!(rt; heap.used() == block);
-    Ok(())
 }
 
 /// A heap without room refuses a cell and loses nothing.
 #[test]
-fn without_memory_nothing_is_made(rt: HostRuntime) -> Result<(), Fail> {
-    let heap = LocalHeap::new(rt.alloc(), 128)?;
-    let (owner, share) = make(&heap, 1, "interned")?;
+fn without_memory_nothing_is_made(rt: HostRuntime) {
+    let heap = LocalHeap::new(rt.alloc(), 128).expect(&rt, "an answer");
+    let (owner, share) = make(&heap, 1, "interned").expect(&rt, "an answer");
     let used = heap.used();
     let long = "a text that finds no room in this heap, since it is longer than what is left of it";
     assert!(rt; make(&heap, 1, long).is_err());
     assert!(rt; heap.used() == used);
     assert!(rt; share.gives_last());
     assert!(rt; frees(owner));
-    Ok(())
 }

@@ -3,7 +3,6 @@
 
 use crate::{ScriptFault, next_line, replay_text};
 use std::alloc::Global;
-use std::test::Fail;
 
 /// As `replay_text`. Where memory was refused, the call is made once more.
 fn replayed(alloc: Global, script: &str) -> Result<String, ScriptFault> {
@@ -16,7 +15,7 @@ fn replayed(alloc: Global, script: &str) -> Result<String, ScriptFault> {
 /// A text is the rest of its line as it stands, the last line may lack its line feed, and numbers reach their bounds. A
 /// text of 7 bytes is inline and takes no bucket, so a byte that got lost would show.
 #[test]
-fn good_lines(rt: HostRuntime) -> Result<(), Fail> {
+fn good_lines(rt: HostRuntime) {
     for (script, output) in [
         ("", ""),
         ("limits 1 1", ""),
@@ -41,10 +40,9 @@ fn good_lines(rt: HostRuntime) -> Result<(), Fail> {
             "taken\nlinked e1 serial 1\nleft\ntaken\nno\nheld e1 1\n",
         ),
     ] {
-        let written = replayed(rt.alloc(), script)?;
+        let written = replayed(rt.alloc(), script).expect(&rt, "an answer");
         assert!(rt; written.as_str() == output, "of {script:?}");
     }
-    Ok(())
 }
 
 /// Lines that spell no step, no limits and no number of buckets, between line feeds.
@@ -172,17 +170,16 @@ fn bad_line_is_named(rt: HostRuntime) {
 
 /// More steps than are kept before they are made.
 #[test]
-fn many_steps(rt: HostRuntime) -> Result<(), Fail> {
+fn many_steps(rt: HostRuntime) {
     let alloc = rt.alloc();
     let mut script = String::new(alloc);
     let mut lines = String::new(alloc);
     for _ in 0..5000 {
-        script.push_str("1 leave\n")?;
-        lines.push_str("no\n")?;
+        script.push_str("1 leave\n").expect(&rt, "room");
+        lines.push_str("no\n").expect(&rt, "room");
     }
-    let written = replayed(alloc, &script)?;
+    let written = replayed(alloc, &script).expect(&rt, "an answer");
     assert!(rt; written.as_str() == lines.as_str());
-    Ok(())
 }
 
 #[test]
@@ -194,13 +191,12 @@ fn lines_one_by_one(rt: HostRuntime) {
 }
 
 #[test]
-fn printed_faults(rt: HostRuntime) -> Result<(), Fail> {
+fn printed_faults(rt: HostRuntime) {
     for (fault, text) in [
         (ScriptFault::NotAStep(12), "line 12: not a step"),
         (ScriptFault::Memory, "no memory"),
     ] {
-        let printed = format!(in rt.alloc(); "{fault}")?;
+        let printed = format!(in rt.alloc(); "{fault}").expect(&rt, "a text");
         assert_eq!(rt; printed.as_str(), text);
     }
-    Ok(())
 }

@@ -9,7 +9,6 @@ use crate::static_sets::EmptyStaticAtomSet;
 use crate::word::ticket_word;
 use crate::{Atom, DefaultAtom, Fault};
 use std::sync::Wait;
-use std::test::Fail;
 use std::thread;
 
 /// Compiles only for what threads may share and send.
@@ -25,8 +24,8 @@ fn are_equal<'s, R: Wait>(
 }
 
 #[test]
-fn inline_atoms(rt: HostRuntime) -> Result<(), Fail> {
-    let set: Set<EmptyStaticAtomSet> = Set::new(rt.alloc())?;
+fn inline_atoms(rt: HostRuntime) {
+    let set: Set<EmptyStaticAtomSet> = Set::new(rt.alloc()).expect(&rt, "a set");
     for (text, word) in [
         ("", 0x01),
         ("a", 0x6111),
@@ -35,20 +34,19 @@ fn inline_atoms(rt: HostRuntime) -> Result<(), Fail> {
         ("\0", 0x11),
         ("é", 0xa9_c321),
     ] {
-        let atom = Atom::from_str_in(&rt, &set, text)?;
+        let atom = Atom::from_str_in(&rt, &set, text).expect(&rt, "an atom");
         assert!(rt; atom.is_inline());
         assert!(rt; atom.unsafe_data() == word);
         assert!(rt; atom.as_bytes() == text.as_bytes());
     }
-    assert!(rt; !are_equal(&rt, (&set, "\0"), (&set, ""))?);
-    Ok(())
+    assert!(rt; !are_equal(&rt, (&set, "\0"), (&set, "")).expect(&rt, "an answer"));
 }
 
 #[test]
-fn dynamic_atoms(rt: HostRuntime) -> Result<(), Fail> {
-    let set: Set<EmptyStaticAtomSet> = Set::new(rt.alloc())?;
+fn dynamic_atoms(rt: HostRuntime) {
+    let set: Set<EmptyStaticAtomSet> = Set::new(rt.alloc()).expect(&rt, "a set");
     // Held to the end, so that its entry is found again.
-    let _held = Atom::from_str_in(&rt, &set, "abcdefgh")?;
+    let _held = Atom::from_str_in(&rt, &set, "abcdefgh").expect(&rt, "an atom");
     // The low 12 bits of f1 are the bucket: of 0x86f9a2c5, 0x06a47210 and 0xb9737e77.
     for (text, bucket) in [
         ("abcdefgh", 0x2c5),
@@ -56,21 +54,19 @@ fn dynamic_atoms(rt: HostRuntime) -> Result<(), Fail> {
         ("tokenised", 0xe77),
         ("abcdefgh", 0x2c5),
     ] {
-        let atom = Atom::from_str_in(&rt, &set, text)?;
+        let atom = Atom::from_str_in(&rt, &set, text).expect(&rt, "an atom");
         assert!(rt; atom.is_dynamic());
         assert!(rt; atom.unsafe_data() == ticket_word(1, bucket));
         assert!(rt; atom.as_str() == text);
     }
-    Ok(())
 }
 
 #[test]
-fn atoms_of_two_sets(rt: HostRuntime) -> Result<(), Fail> {
-    let one: Set<EmptyStaticAtomSet> = Set::new(rt.alloc())?;
-    let other: Set<EmptyStaticAtomSet> = Set::new(rt.alloc())?;
-    assert!(rt; are_equal(&rt, (&one, "abcdefgh"), (&other, "abcdefgh"))?);
-    assert!(rt; !are_equal(&rt, (&one, "abcdefgh"), (&other, "interned"))?);
-    Ok(())
+fn atoms_of_two_sets(rt: HostRuntime) {
+    let one: Set<EmptyStaticAtomSet> = Set::new(rt.alloc()).expect(&rt, "a set");
+    let other: Set<EmptyStaticAtomSet> = Set::new(rt.alloc()).expect(&rt, "a set");
+    assert!(rt; are_equal(&rt, (&one, "abcdefgh"), (&other, "abcdefgh")).expect(&rt, "an answer"));
+    assert!(rt; !are_equal(&rt, (&one, "abcdefgh"), (&other, "interned")).expect(&rt, "an answer"));
 }
 
 #[test]
@@ -96,10 +92,10 @@ fn packed_inline(rt: HostRuntime) {
 }
 
 #[test]
-fn static_atoms(rt: HostRuntime) -> Result<(), Fail> {
-    let set: Set<One> = Set::new(rt.alloc())?;
+fn static_atoms(rt: HostRuntime) {
+    let set: Set<One> = Set::new(rt.alloc()).expect(&rt, "a set");
     for atom in [
-        Atom::from_str_in(&rt, &set, "sentence")?,
+        Atom::from_str_in(&rt, &set, "sentence").expect(&rt, "an atom"),
         Atom::try_static("sentence").expect(&rt, "a static text"),
         Atom::pack_static(0).expect(&rt, "a static text"),
     ] {
@@ -107,8 +103,11 @@ fn static_atoms(rt: HostRuntime) -> Result<(), Fail> {
         assert!(rt; atom.unsafe_data() == 2);
         assert!(rt; atom.as_str() == "sentence");
     }
-    assert!(rt; Atom::from_str_in(&rt, &set, "sentencf")?.is_dynamic());
-    Ok(())
+    assert!(rt;
+        Atom::from_str_in(&rt, &set, "sentencf")
+            .expect(&rt, "an atom")
+            .is_dynamic()
+    );
 }
 
 #[test]
@@ -120,20 +119,22 @@ fn not_static(rt: HostRuntime) {
 }
 
 #[test]
-fn shared_by_threads(rt: HostRuntime) -> Result<(), Fail> {
-    let set: Set<EmptyStaticAtomSet> = Set::new(rt.alloc())?;
+fn shared_by_threads(rt: HostRuntime) {
+    let set: Set<EmptyStaticAtomSet> = Set::new(rt.alloc()).expect(&rt, "a set");
     crosses(&set);
     let (shared, handle) = (&set, &rt);
     let intern = |own: &str| -> Result<_, Fault> {
-        let both = Atom::from_str_in(handle, shared, "tokenised")?;
-        let own = Atom::from_str_in(handle, shared, own)?;
+        let both = Atom::from_str_in(handle, shared, "tokenised").expect(&rt, "an atom");
+        let own = Atom::from_str_in(handle, shared, own).expect(&rt, "an atom");
         Ok((both, own))
     };
     let (left, right) = thread::join(&rt, || intern("sentence"), || intern("repeated"));
-    let (left, right) = (left?, right?);
+    let (left, right) = (
+        left.expect(&rt, "an answer"),
+        right.expect(&rt, "an answer"),
+    );
     crosses(&left);
     assert!(rt; left.0 == right.0 && left.1 != right.1);
     assert!(rt; left.0.unsafe_data() == right.0.unsafe_data());
     assert!(rt; left.1.as_str() == "sentence" && right.1.as_str() == "repeated");
-    Ok(())
 }

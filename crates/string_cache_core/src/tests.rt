@@ -12,7 +12,6 @@ use crate::word::{
     pack_inline_word, static_word, ticket_word, unpack_inline,
 };
 use std::fmt::Write;
-use std::test::Fail;
 
 #[test]
 fn inline_words(rt: HostRuntime) {
@@ -50,19 +49,23 @@ fn inline_words_as_bytes(rt: HostRuntime) {
 }
 
 #[test]
-fn inline_texts(rt: HostRuntime) -> Result<(), Fail> {
+fn inline_texts(rt: HostRuntime) {
     for (text, printed) in [
         ("", "InlineText(\"\")"),
         ("foo", "InlineText(\"foo\")"),
         ("\0", "InlineText(\"\\0\")"),
     ] {
-        let inline = InlineText::new(text).ok_or("an inline text")?;
+        let inline = InlineText::new(text).expect(&rt, "an inline text");
         assert_eq!(rt; inline.as_str(), text);
         assert_eq!(rt; Some(inline.word()), pack_inline_word(text));
-        assert_eq!(rt; format!(in rt.alloc(); "{inline:?}")?.as_str(), printed);
+        assert_eq!(rt;
+            format!(in rt.alloc(); "{inline:?}")
+                .expect(&rt, "a text")
+                .as_str(),
+            printed
+        );
     }
     assert_eq!(rt; InlineText::new("abcdefgh"), None);
-    Ok(())
 }
 
 #[test]
@@ -235,17 +238,16 @@ fn checked_tables(rt: HostRuntime) {
 
 /// Tables that are made while the program runs.
 #[test]
-fn borrowed_tables(rt: HostRuntime) -> Result<(), Fail> {
+fn borrowed_tables(rt: HostRuntime) {
     let alloc = rt.alloc();
-    let first = String::from_str(alloc, "sentence")?;
-    let second = String::from_str(alloc, "interned")?;
-    let disps = vec![in alloc; (0u32, 0u32); 1]?;
+    let first = String::from_str(alloc, "sentence").expect(&rt, "a text");
+    let second = String::from_str(alloc, "interned").expect(&rt, "a text");
+    let disps = vec![in alloc; (0u32, 0u32); 1].expect(&rt, "an answer");
     let right = [first.as_str(), second.as_str()];
     let wrong = [second.as_str(), first.as_str()];
     assert!(rt; check_parts(0, &disps, &right, &[1, 2]));
     assert!(rt; !check_parts(0, &disps, &wrong, &[1, 2]));
     assert!(rt; !check_parts(0, &disps, &right, &[1]));
-    Ok(())
 }
 
 #[test]
@@ -269,7 +271,7 @@ fn empty_set(rt: HostRuntime) {
 }
 
 #[test]
-fn faults(rt: HostRuntime) -> Result<(), Fail> {
+fn faults(rt: HostRuntime) {
     for (fault, number, text) in [
         (Fault::Memory, 1, "no memory"),
         (Fault::FullCount, 2, "count is full"),
@@ -278,8 +280,7 @@ fn faults(rt: HostRuntime) -> Result<(), Fail> {
     ] {
         assert_eq!(rt; fault.number(), number);
         let mut printed = String::new(rt.alloc());
-        write!(printed, "{fault}")?;
+        write!(printed, "{fault}").expect(&rt, "an answer");
         assert_eq!(rt; printed.as_str(), text);
     }
-    Ok(())
 }

@@ -8,7 +8,6 @@ use crate::count::{Gate, Open, count};
 use crate::faults::AppFault;
 use crate::tests::EXAMPLE;
 use std::sync::Wait;
-use std::test::Fail;
 use std::thread::Threads;
 use std::{str, thread};
 use string_cache::dynamic_set::Set;
@@ -51,47 +50,44 @@ pub fn are(counts: &Counts, wanted: &[(&str, u64)]) -> bool {
 }
 
 #[test]
-fn counts_of_the_example(rt: HostRuntime) -> Result<(), Fail> {
-    let set = Set::<EmptyStaticAtomSet>::new(rt.alloc())?;
+fn counts_of_the_example(rt: HostRuntime) {
+    let set = Set::<EmptyStaticAtomSet>::new(rt.alloc()).expect(&rt, "a set");
     let text = str::from_utf8(EXAMPLE).expect(&rt, "a text");
     for n in [1, 2, 3, 64] {
         let counts = count(&rt, &set, text, n, &Open).expect(&rt, "counts");
         assert!(rt; are(&counts, &EXAMPLE_COUNTS), "by {n}");
     }
     assert!(rt; set.linked(&rt) == 0);
-    Ok(())
 }
 
 /// A text of several sections, so that workers begin at different marks.
 #[test]
-fn counts_of_a_long_text(rt: HostRuntime) -> Result<(), Fail> {
+fn counts_of_a_long_text(rt: HostRuntime) {
     let mut text = String::new(rt.alloc());
     for _ in 0..20_000 {
-        text.push_str("interned a\n")?;
+        text.push_str("interned a\n").expect(&rt, "room");
     }
-    let set = Set::<EmptyStaticAtomSet>::new(rt.alloc())?;
+    let set = Set::<EmptyStaticAtomSet>::new(rt.alloc()).expect(&rt, "a set");
     let counts = count(&rt, &set, &text, 4, &Open).expect(&rt, "counts");
     assert!(rt; are(&counts, &[("a", 20_000), ("interned", 20_000)]));
     assert!(rt; set.linked(&rt) == 1);
-    Ok(())
 }
 
 /// Two workers are in their pieces at once.
 #[test]
-fn workers_run_at_once(rt: HostRuntime) -> Result<(), Fail> {
-    let set = Set::<EmptyStaticAtomSet>::new(rt.alloc())?;
+fn workers_run_at_once(rt: HostRuntime) {
+    let set = Set::<EmptyStaticAtomSet>::new(rt.alloc()).expect(&rt, "a set");
     let text = str::from_utf8(EXAMPLE).expect(&rt, "a text");
     let gate = BothEnter::new();
     let counts = count(&rt, &set, text, 2, &gate).expect(&rt, "counts");
     assert!(rt; are(&counts, &EXAMPLE_COUNTS));
     assert!(rt; !gate.was_missed());
-    Ok(())
 }
 
 /// Of one word and two pieces, the first piece has none.
 #[test]
-fn empty_pieces(rt: HostRuntime) -> Result<(), Fail> {
-    let set = Set::<EmptyStaticAtomSet>::new(rt.alloc())?;
+fn empty_pieces(rt: HostRuntime) {
+    let set = Set::<EmptyStaticAtomSet>::new(rt.alloc()).expect(&rt, "a set");
     let gate = BothEnter::new();
     let counts = count(&rt, &set, "a", 2, &gate).expect(&rt, "counts");
     assert!(rt; are(&counts, &[("a", 1)]));
@@ -100,80 +96,74 @@ fn empty_pieces(rt: HostRuntime) -> Result<(), Fail> {
     let counts = count(&rt, &set, "", 64, &watch).expect(&rt, "counts");
     assert!(rt; counts.is_empty());
     assert!(rt; watch.passed() == (64, 64));
-    Ok(())
 }
 
 /// Two workers that hold the same text hold one entry, past `leave`.
 #[test]
-fn workers_share_entries(rt: HostRuntime) -> Result<(), Fail> {
-    let set = Set::<EmptyStaticAtomSet>::new(rt.alloc())?;
+fn workers_share_entries(rt: HostRuntime) {
+    let set = Set::<EmptyStaticAtomSet>::new(rt.alloc()).expect(&rt, "a set");
     let gate = BothLeave::new(&set);
     let counts = count(&rt, &set, "interned interned", 2, &gate).expect(&rt, "counts");
     assert!(rt; are(&counts, &[("interned", 2)]));
     assert!(rt; !gate.was_missed());
     assert_eq!(rt; gate.linked(), 1);
-    Ok(())
 }
 
 /// A worker interns between `enter` and `leave`, and still holds its atoms in `leave`.
 #[test]
-fn workers_intern_between_the_calls(rt: HostRuntime) -> Result<(), Fail> {
-    let set = Set::<EmptyStaticAtomSet>::new(rt.alloc())?;
+fn workers_intern_between_the_calls(rt: HostRuntime) {
+    let set = Set::<EmptyStaticAtomSet>::new(rt.alloc()).expect(&rt, "a set");
     let watch = Watch::new(&set);
     let counts = count(&rt, &set, "interned", 1, &watch).expect(&rt, "counts");
     assert!(rt; are(&counts, &[("interned", 1)]));
     assert!(rt; watch.linked() == (0, 1));
-    Ok(())
 }
 
 /// A refused worker still holds what it interned in `leave`.
 #[test]
-fn refused_workers_hold_their_atoms(rt: HostRuntime) -> Result<(), Fail> {
+fn refused_workers_hold_their_atoms(rt: HostRuntime) {
     let limits = Limits::new(2, 9).expect(&rt, "limits");
-    let set = Set::<EmptyStaticAtomSet>::with_limits(rt.alloc(), limits)?;
+    let set = Set::<EmptyStaticAtomSet>::with_limits(rt.alloc(), limits).expect(&rt, "a set");
     let watch = Watch::new(&set);
     let answer = count(&rt, &set, "interned interned interned", 1, &watch);
     assert!(rt; matches!(answer, Err(AppFault::Intern(Fault::FullCount))));
     assert!(rt; watch.linked() == (0, 1));
     assert!(rt; set.linked(&rt) == 0);
-    Ok(())
 }
 
 /// Each place is a holder, also of a word that came before.
 #[test]
-fn every_place_is_interned(rt: HostRuntime) -> Result<(), Fail> {
+fn every_place_is_interned(rt: HostRuntime) {
     let limits = Limits::new(2, 9).expect(&rt, "limits");
-    let set = Set::<EmptyStaticAtomSet>::with_limits(rt.alloc(), limits)?;
+    let set = Set::<EmptyStaticAtomSet>::with_limits(rt.alloc(), limits).expect(&rt, "a set");
     let counts = count(&rt, &set, "interned interned", 1, &Open).expect(&rt, "counts");
     assert!(rt; are(&counts, &[("interned", 2)]));
     drop(counts);
     let answer = count(&rt, &set, "interned interned interned", 1, &Open);
     assert!(rt; matches!(answer, Err(AppFault::Intern(Fault::FullCount))));
-    Ok(())
 }
 
 /// Of two workers that are refused, the fault of the first piece is answered, and no atom stays.
 #[test]
-fn lowest_fault_is_answered(rt: HostRuntime) -> Result<(), Fail> {
+fn lowest_fault_is_answered(rt: HostRuntime) {
     let limits = Limits::new(1, 1).expect(&rt, "limits");
-    let set = Set::<EmptyStaticAtomSet>::with_limits(rt.alloc(), limits)?;
-    let held = Atom::from_str_in(&rt, &set, "interned")?;
-    drop(Atom::from_str_in(&rt, &set, "tokenised")?);
+    let set = Set::<EmptyStaticAtomSet>::with_limits(rt.alloc(), limits).expect(&rt, "a set");
+    let held = Atom::from_str_in(&rt, &set, "interned").expect(&rt, "an atom");
+    drop(Atom::from_str_in(&rt, &set, "tokenised").expect(&rt, "an atom"));
     let answer = count(&rt, &set, "interned tokenised", 2, &Open);
     assert!(rt; matches!(answer, Err(AppFault::Intern(Fault::FullCount))));
     let answer = count(&rt, &set, "tokenised interned", 2, &Open);
     assert!(rt; matches!(answer, Err(AppFault::Intern(Fault::TicketsSpent))));
     assert!(rt; set.linked(&rt) == 1);
     assert!(rt; held.eq_str("interned"));
-    Ok(())
 }
 
 /// What other workers interned is gone after a refusal.
 #[test]
-fn refusals_let_go_of_all(rt: HostRuntime) -> Result<(), Fail> {
+fn refusals_let_go_of_all(rt: HostRuntime) {
     let limits = Limits::new(1, 9).expect(&rt, "limits");
-    let set = Set::<EmptyStaticAtomSet>::with_limits(rt.alloc(), limits)?;
-    let held = Atom::from_str_in(&rt, &set, "interned")?;
+    let set = Set::<EmptyStaticAtomSet>::with_limits(rt.alloc(), limits).expect(&rt, "a set");
+    let held = Atom::from_str_in(&rt, &set, "interned").expect(&rt, "an atom");
     for text in ["interned tokenised repeated", "repeated tokenised interned"] {
         let answer = count(&rt, &set, text, 3, &Open);
         assert!(rt;
@@ -183,7 +173,6 @@ fn refusals_let_go_of_all(rt: HostRuntime) -> Result<(), Fail> {
         assert!(rt; set.linked(&rt) == 1, "of {text:?}");
     }
     assert!(rt; held.eq_str("interned"));
-    Ok(())
 }
 
 /// Clones a borrowed atom, compares its text, and drops the clone.
@@ -220,12 +209,11 @@ fn interned_by_worker<'e, R: Threads + Wait + Sync>(
 }
 
 #[test]
-fn atoms_cross_threads(rt: HostRuntime) -> Result<(), Fail> {
-    let set = Set::<EmptyStaticAtomSet>::new(rt.alloc())?;
+fn atoms_cross_threads(rt: HostRuntime) {
+    let set = Set::<EmptyStaticAtomSet>::new(rt.alloc()).expect(&rt, "a set");
     let atom = interned_by_worker(&rt, &set).expect(&rt, "an atom");
     assert!(rt; lent_to_two(&rt, &atom) == Some((true, true)));
     assert!(rt; atom.eq_str("interned"));
     drop(atom);
     assert!(rt; set.linked(&rt) == 0);
-    Ok(())
 }

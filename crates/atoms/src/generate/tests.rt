@@ -35,7 +35,8 @@ fn one_text(rt: HostRuntime) -> Result<(), Fail> {
     let wanted = format!(in alloc;
         "key 0\ndisp 0 0\natom {:08x}{:08x} sentence\n",
         hashes.g, hashes.f1
-    )?;
+    )
+    .expect(&rt, "a text");
     for input in [b"sentence".as_slice(), b"sentence\n".as_slice()] {
         let answer = answer_to(&rt, alloc, "generate 0 1", input)?;
         assert_eq!(rt; answer.status, 0);
@@ -48,7 +49,8 @@ fn one_text(rt: HostRuntime) -> Result<(), Fail> {
     let wanted = format!(in alloc;
         "key 7\ndisp 0 0\natom {:08x}{:08x} \n",
         hashes.g, hashes.f1
-    )?;
+    )
+    .expect(&rt, "a text");
     let answer = answer_to(&rt, alloc, "generate 7 1", b"\n")?;
     assert_eq!(rt; answer.status, 0);
     assert!(rt; answer.output.written() == wanted.as_bytes());
@@ -136,9 +138,9 @@ fn checked_texts(rt: HostRuntime) -> Result<(), Fail> {
 }
 
 #[test]
-fn failing_streams(rt: HostRuntime) -> Result<(), Fail> {
+fn failing_streams(rt: HostRuntime) {
     for line in ["generate 0 1", "check"] {
-        let args = words_of_line(rt.alloc(), line)?;
+        let args = words_of_line(rt.alloc(), line).expect(&rt, "an answer");
         for (read_fails_at, takes, faults) in [
             (2, usize::MAX, b"atoms: read failed\n".as_slice()),
             (0, 0, b"atoms: write failed\n".as_slice()),
@@ -156,12 +158,11 @@ fn failing_streams(rt: HostRuntime) -> Result<(), Fail> {
             assert!(rt; answer.output.written().is_empty(), "at {line:?}");
         }
     }
-    Ok(())
 }
 
 /// Several hundred names are placed, and what is printed of them is checked.
 #[test]
-fn vocabulary(rt: HostRuntime) -> Result<(), Fail> {
+fn vocabulary(rt: HostRuntime) {
     let alloc = rt.alloc();
     assert!(rt; NAMES.lines().count() > 300);
     let mut table = Vec::new(alloc);
@@ -176,9 +177,8 @@ fn vocabulary(rt: HostRuntime) -> Result<(), Fail> {
     }
     assert!(rt; !table.is_empty());
     let mut answer = Io::new(Vec::new(alloc));
-    write_answer(alloc, &mut Io::new(table.as_slice()), &mut answer)?;
+    write_answer(alloc, &mut Io::new(table.as_slice()), &mut answer).expect(&rt, "an answer");
     assert!(rt; answer.into_inner().as_slice() == b"yes\n".as_slice());
-    Ok(())
 }
 
 /// Under the tables that were generated of the names, each long name is found without a set.

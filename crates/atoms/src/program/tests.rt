@@ -10,7 +10,6 @@ use std::env::FillError;
 use std::io;
 use std::rt::Env;
 use std::sync::Wait;
-use std::test::Fail;
 use std::thread::Threads;
 use string_cache::Fault;
 
@@ -61,7 +60,7 @@ pub fn words_of_line(alloc: Global, line: &str) -> Result<Vec<String>, AllocErro
 }
 
 #[test]
-fn other_arguments(rt: HostRuntime) -> Result<(), Fail> {
+fn other_arguments(rt: HostRuntime) {
     let answer = answer_of(&rt, rt.alloc(), &[], &Streams::ample(EXAMPLE));
     assert_eq!(rt; answer.status, 2);
     assert!(rt; answer.faults.written() == USAGE);
@@ -82,26 +81,25 @@ fn other_arguments(rt: HostRuntime) -> Result<(), Fail> {
         "Count 1",
         "replay replay",
     ] {
-        let args = words_of_line(rt.alloc(), line)?;
+        let args = words_of_line(rt.alloc(), line).expect(&rt, "an answer");
         let answer = answer_of(&rt, rt.alloc(), &args, &Streams::ample(EXAMPLE));
         assert_eq!(rt; answer.status, 2, "at {line:?}");
         assert!(rt; answer.output.written().is_empty(), "at {line:?}");
         assert!(rt; answer.faults.written() == USAGE, "at {line:?}");
     }
-    Ok(())
 }
 
 /// An argument that begins with a space is no number.
 #[test]
-fn other_number_of_workers(rt: HostRuntime) -> Result<(), Fail> {
+fn other_number_of_workers(rt: HostRuntime) {
     let alloc = rt.alloc();
-    let mut args = words_of_line(alloc, "count")?;
-    args.push(String::from_str(alloc, " 1")?)?;
+    let mut args = words_of_line(alloc, "count").expect(&rt, "an answer");
+    args.push(String::from_str(alloc, " 1").expect(&rt, "a text"))
+        .expect(&rt, "room");
     let answer = answer_of(&rt, alloc, &args, &Streams::ample(EXAMPLE));
     assert_eq!(rt; answer.status, 2);
     assert!(rt; answer.output.written().is_empty());
     assert!(rt; answer.faults.written() == USAGE);
-    Ok(())
 }
 
 pub const EXAMPLE_COUNTS: &[u8] = b"1 a
@@ -124,7 +122,7 @@ pub const EXAMPLE_COUNTS: &[u8] = b"1 a
 const NO_WORKER: &[u8] = b"atoms: worker not started\n";
 
 #[test]
-fn program_of_counts(rt: HostRuntime) -> Result<(), Fail> {
+fn program_of_counts(rt: HostRuntime) {
     for (line, input, status, output, faults) in [
         ("count 1", EXAMPLE, 0, EXAMPLE_COUNTS, b"".as_slice()),
         ("count 2", EXAMPLE, 0, EXAMPLE_COUNTS, b"".as_slice()),
@@ -139,18 +137,17 @@ fn program_of_counts(rt: HostRuntime) -> Result<(), Fail> {
         ("count 3", b"".as_slice(), 0, b"".as_slice(), b"".as_slice()),
         ("count 2", b"\xff".as_slice(), 1, b"".as_slice(), NOT_TEXT),
     ] {
-        let args = words_of_line(rt.alloc(), line)?;
+        let args = words_of_line(rt.alloc(), line).expect(&rt, "an answer");
         let answer = answer_of(&rt, rt.alloc(), &args, &Streams::ample(input));
         assert_eq!(rt; answer.status, status, "at {line:?}");
         assert!(rt; answer.output.written() == output, "at {line:?}");
         assert!(rt; answer.faults.written() == faults, "at {line:?}");
     }
-    Ok(())
 }
 
 #[test]
-fn program_of_words(rt: HostRuntime) -> Result<(), Fail> {
-    let args = words_of_line(rt.alloc(), "words")?;
+fn program_of_words(rt: HostRuntime) {
+    let args = words_of_line(rt.alloc(), "words").expect(&rt, "an answer");
     for (input, status, output, faults) in [
         (EXAMPLE, 0, EXAMPLE_LINES, b"".as_slice()),
         (b"".as_slice(), 0, b"".as_slice(), b"".as_slice()),
@@ -161,17 +158,16 @@ fn program_of_words(rt: HostRuntime) -> Result<(), Fail> {
         assert!(rt; answer.output.written() == output, "of {input:?}");
         assert!(rt; answer.faults.written() == faults, "of {input:?}");
     }
-    Ok(())
 }
 
 #[test]
-fn program_fails_at_its_streams(rt: HostRuntime) -> Result<(), Fail> {
+fn program_fails_at_its_streams(rt: HostRuntime) {
     for (line, input) in [
         ("words", EXAMPLE),
         ("count 3", EXAMPLE),
         ("replay", b"1 link\n1 leave\n".as_slice()),
     ] {
-        let args = words_of_line(rt.alloc(), line)?;
+        let args = words_of_line(rt.alloc(), line).expect(&rt, "an answer");
         for (read_fails_at, takes, faults) in [
             (2, usize::MAX, b"atoms: read failed\n".as_slice()),
             (0, 0, b"atoms: write failed\n".as_slice()),
@@ -189,14 +185,13 @@ fn program_fails_at_its_streams(rt: HostRuntime) -> Result<(), Fail> {
             assert!(rt; answer.output.written().is_empty(), "at {line:?}");
         }
     }
-    Ok(())
 }
 
 /// What can't be said on standard error changes no status.
 #[test]
-fn faults_fail(rt: HostRuntime) -> Result<(), Fail> {
+fn faults_fail(rt: HostRuntime) {
     for (line, status) in [("words", 1), ("jump", 2)] {
-        let args = words_of_line(rt.alloc(), line)?;
+        let args = words_of_line(rt.alloc(), line).expect(&rt, "an answer");
         let streams = Streams::ample(b"\xff");
         assert_eq!(rt;
             program(
@@ -210,7 +205,6 @@ fn faults_fail(rt: HostRuntime) -> Result<(), Fail> {
             status
         );
     }
-    Ok(())
 }
 
 #[test]
@@ -289,16 +283,23 @@ const NAME_LINE: CommandLine = &[b"atoms"];
 const BYTES_LINE: CommandLine = &[b"atoms", b"words", b"\xff"];
 
 #[test]
-fn arguments_without_the_name(rt: HostRuntime) -> Result<(), Fail> {
-    let args = arguments_of(rt.alloc(), COUNT_LINE)?.expect(&rt, "texts");
-    let wanted = words_of_line(rt.alloc(), "count 3")?;
+fn arguments_without_the_name(rt: HostRuntime) {
+    let args = arguments_of(rt.alloc(), COUNT_LINE)
+        .expect(&rt, "an answer")
+        .expect(&rt, "texts");
+    let wanted = words_of_line(rt.alloc(), "count 3").expect(&rt, "an answer");
     assert!(rt; args.as_slice() == wanted.as_slice());
     for line in [EMPTY_LINE, NAME_LINE] {
-        let args = arguments_of(rt.alloc(), line)?.expect(&rt, "texts");
+        let args = arguments_of(rt.alloc(), line)
+            .expect(&rt, "an answer")
+            .expect(&rt, "texts");
         assert!(rt; args.is_empty());
     }
-    assert!(rt; arguments_of(rt.alloc(), BYTES_LINE)?.is_none());
-    Ok(())
+    assert!(rt;
+        arguments_of(rt.alloc(), BYTES_LINE)
+            .expect(&rt, "an answer")
+            .is_none()
+    );
 }
 
 /// What is run for an outcome of reading the arguments. The input isn't a text.
@@ -326,9 +327,9 @@ fn ran<R: Threads + Wait + Sync>(
 }
 
 #[test]
-fn outcomes_of_arguments(rt: HostRuntime) -> Result<(), Fail> {
-    let words = words_of_line(rt.alloc(), "words")?;
-    let jump = words_of_line(rt.alloc(), "jump")?;
+fn outcomes_of_arguments(rt: HostRuntime) {
+    let words = words_of_line(rt.alloc(), "words").expect(&rt, "an answer");
+    let jump = words_of_line(rt.alloc(), "jump").expect(&rt, "an answer");
     for (args, status, faults) in [
         (Ok(Some(words)), 1, NOT_TEXT),
         (Ok(Some(jump)), 2, USAGE),
@@ -340,5 +341,4 @@ fn outcomes_of_arguments(rt: HostRuntime) -> Result<(), Fail> {
         assert!(rt; answer.output.written().is_empty());
         assert!(rt; answer.faults.written() == faults);
     }
-    Ok(())
 }

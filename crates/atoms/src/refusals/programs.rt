@@ -22,8 +22,8 @@ use string_cache::EmptyStaticAtomSet;
 use string_cache::dynamic_set::Set;
 
 #[test]
-fn words_in_a_set(rt: HostRuntime) -> Result<(), Fail> {
-    let set = Set::<EmptyStaticAtomSet>::new(rt.alloc())?;
+fn words_in_a_set(rt: HostRuntime) {
+    let set = Set::<EmptyStaticAtomSet>::new(rt.alloc()).expect(&rt, "a set");
     let mut page = Page::wide();
     begin(&rt);
     let answer = words(&rt, &set, &mut Bytes::whole(EXAMPLE), &mut page);
@@ -33,16 +33,15 @@ fn words_in_a_set(rt: HostRuntime) -> Result<(), Fail> {
     if matches!(ended, End::Refused) {
         assert!(rt; EXAMPLE_LINES.starts_with(page.written()));
         page = Page::wide();
-        words(&rt, &set, &mut Bytes::whole(EXAMPLE), &mut page)?;
+        words(&rt, &set, &mut Bytes::whole(EXAMPLE), &mut page).expect(&rt, "an answer");
     } else {
-        answer?;
+        answer.expect(&rt, "an answer");
     }
     assert!(rt; page.written() == EXAMPLE_LINES);
-    Ok(())
 }
 
 #[test]
-fn words_in_a_table(rt: HostRuntime) -> Result<(), Fail> {
+fn words_in_a_table(rt: HostRuntime) {
     let mut page = Page::wide();
     begin(&rt);
     let answer = words_alone(rt.alloc(), &mut Bytes::whole(EXAMPLE), &mut page);
@@ -51,12 +50,11 @@ fn words_in_a_table(rt: HostRuntime) -> Result<(), Fail> {
     if matches!(ended, End::Refused) {
         assert!(rt; EXAMPLE_LINES.starts_with(page.written()));
         page = Page::wide();
-        words_alone(rt.alloc(), &mut Bytes::whole(EXAMPLE), &mut page)?;
+        words_alone(rt.alloc(), &mut Bytes::whole(EXAMPLE), &mut page).expect(&rt, "an answer");
     } else {
-        answer?;
+        answer.expect(&rt, "an answer");
     }
     assert!(rt; page.written() == EXAMPLE_LINES);
-    Ok(())
 }
 
 /// What a worked script prints.
@@ -146,8 +144,8 @@ fn counts_by_sixty_four(rt: HostRuntime) -> Result<(), Fail> {
 
 /// The whole program, whose fault is a line.
 #[test]
-fn program_runs(rt: HostRuntime) -> Result<(), Fail> {
-    let args = words_of_line(rt.alloc(), "words")?;
+fn program_runs(rt: HostRuntime) {
+    let args = words_of_line(rt.alloc(), "words").expect(&rt, "an answer");
     begin(&rt);
     let answer = answer_of(&rt, rt.alloc(), &args, &Streams::ample(EXAMPLE));
     let is_refused = answer.status == 1;
@@ -158,14 +156,12 @@ fn program_runs(rt: HostRuntime) -> Result<(), Fail> {
     } else {
         assert!(rt; answer.output.written() == EXAMPLE_LINES);
     }
-    Ok(())
 }
 
 #[test]
-fn arguments_are_read(rt: HostRuntime) -> Result<(), Fail> {
+fn arguments_are_read(rt: HostRuntime) {
     let alloc = rt.alloc();
-    let wanted = words_of_line(alloc, "count 3")?;
-    let args = at_last(&rt, || arguments_of(alloc, COUNT_LINE))?;
+    let wanted = words_of_line(alloc, "count 3").expect(&rt, "an answer");
+    let args = at_last(&rt, || arguments_of(alloc, COUNT_LINE)).expect(&rt, "an answer");
     assert!(rt; args.expect(&rt, "texts").as_slice() == wanted.as_slice());
-    Ok(())
 }

@@ -10,39 +10,53 @@ use string_cache::{Atom, DefaultAtom, EmptyStaticAtomSet, Fault};
 const FIRST: u64 = 0x1_0840;
 
 #[test]
-fn set_is_made(rt: HostRuntime) -> Result<(), Fail> {
+fn set_is_made(rt: HostRuntime) {
     let alloc = rt.alloc();
-    let set: Set<EmptyStaticAtomSet> = at_last(&rt, || Set::new(alloc))?;
+    let set: Set<EmptyStaticAtomSet> = at_last(&rt, || Set::new(alloc)).expect(&rt, "an answer");
     assert!(rt; set.limits() == Limits::greatest());
     assert!(rt; set.linked(&rt) == 0);
-    assert!(rt; DefaultAtom::from_str_in(&rt, &set, "interned")?.unsafe_data() == FIRST);
-    Ok(())
+    assert!(rt;
+        DefaultAtom::from_str_in(&rt, &set, "interned")
+            .expect(&rt, "an atom")
+            .unsafe_data()
+            == FIRST
+    );
 }
 
 #[test]
-fn text_is_interned(rt: HostRuntime) -> Result<(), Fail> {
-    let set: Set<EmptyStaticAtomSet> = Set::new(rt.alloc())?;
-    let atom = at_last(&rt, || DefaultAtom::from_str_in(&rt, &set, "interned"))?;
+fn text_is_interned(rt: HostRuntime) {
+    let set: Set<EmptyStaticAtomSet> = Set::new(rt.alloc()).expect(&rt, "a set");
+    let atom = at_last(&rt, || DefaultAtom::from_str_in(&rt, &set, "interned")).expect(
+        &rt,
+        "an answer",
+    );
     assert!(rt; atom.unsafe_data() == FIRST && atom.as_str() == "interned");
     assert!(rt; set.linked(&rt) == 1);
-    Ok(())
 }
 
 /// In a set of one bucket: five texts lie in two nodes, and once the oldest is gone the newer node has room for a sixth.
 #[test]
-fn text_finds_room_in_a_node(rt: HostRuntime) -> Result<(), Fail> {
-    let buckets = Buckets::new(0).ok_or("bits")?;
-    let set = Set::<EmptyStaticAtomSet>::with_buckets(rt.alloc(), Limits::greatest(), buckets)?;
-    let oldest = DefaultAtom::from_str_in(&rt, &set, "interned")?;
+fn text_finds_room_in_a_node(rt: HostRuntime) {
+    let buckets = Buckets::new(0).expect(&rt, "bits");
+    let set = Set::<EmptyStaticAtomSet>::with_buckets(
+        rt.alloc(),
+        Limits::greatest(),
+        buckets,
+    ).expect(&rt, "a set");
+    let oldest = DefaultAtom::from_str_in(&rt, &set, "interned").expect(&rt, "an atom");
     let mut others = Vec::new(rt.alloc());
     for text in ["tokenised", "sentence", "repeated", "forgotten"] {
-        others.push(DefaultAtom::from_str_in(&rt, &set, text)?)?;
+        others
+            .push(DefaultAtom::from_str_in(&rt, &set, text).expect(&rt, "an atom"))
+            .expect(&rt, "room");
     }
     drop(oldest);
-    let atom = at_last(&rt, || DefaultAtom::from_str_in(&rt, &set, "magnitude"))?;
+    let atom = at_last(&rt, || DefaultAtom::from_str_in(&rt, &set, "magnitude")).expect(
+        &rt,
+        "an answer",
+    );
     assert!(rt; atom.unsafe_data() == 0x6_0000 && atom.as_str() == "magnitude");
     assert!(rt; set.linked(&rt) == 5);
-    Ok(())
 }
 
 #[test]
@@ -99,22 +113,26 @@ fn long_text_is_put_into_upper_case(rt: HostRuntime) -> Result<(), Fail> {
 }
 
 #[test]
-fn json_is_made(rt: HostRuntime) -> Result<(), Fail> {
+fn json_is_made(rt: HostRuntime) {
     let alloc = rt.alloc();
-    let set: Set<EmptyStaticAtomSet> = Set::new(alloc)?;
-    let atom = Atom::from_str_in(&rt, &set, "interned")?;
-    let value = at_last(&rt, || atom.to_json(alloc))?;
+    let set: Set<EmptyStaticAtomSet> = Set::new(alloc).expect(&rt, "a set");
+    let atom = Atom::from_str_in(&rt, &set, "interned").expect(&rt, "an atom");
+    let value = at_last(&rt, || atom.to_json(alloc)).expect(&rt, "an answer");
     assert!(rt; value.as_str() == Some("interned"));
-    Ok(())
 }
 
 #[test]
-fn json_text_is_interned(rt: HostRuntime) -> Result<(), Fail> {
-    let other: Set<EmptyStaticAtomSet> = Set::new(rt.alloc())?;
-    let value = DefaultAtom::from_str_in(&rt, &other, "interned")?.to_json(rt.alloc())?;
-    let set: Set<EmptyStaticAtomSet> = Set::new(rt.alloc())?;
-    let atom = at_last(&rt, || DefaultAtom::from_json_in(&rt, &set, &value))?;
+fn json_text_is_interned(rt: HostRuntime) {
+    let other: Set<EmptyStaticAtomSet> = Set::new(rt.alloc()).expect(&rt, "a set");
+    let value = DefaultAtom::from_str_in(&rt, &other, "interned")
+        .expect(&rt, "an atom")
+        .to_json(rt.alloc())
+        .expect(&rt, "an answer");
+    let set: Set<EmptyStaticAtomSet> = Set::new(rt.alloc()).expect(&rt, "a set");
+    let atom = at_last(&rt, || DefaultAtom::from_json_in(&rt, &set, &value)).expect(
+        &rt,
+        "an answer",
+    );
     assert!(rt; atom.unsafe_data() == FIRST && atom.as_str() == "interned");
     assert!(rt; set.linked(&rt) == 1);
-    Ok(())
 }

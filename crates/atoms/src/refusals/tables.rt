@@ -22,12 +22,14 @@ fn midway(is_refused: bool) -> End {
 }
 
 #[test]
-fn table_is_made(rt: HostRuntime) -> Result<(), Fail> {
+fn table_is_made(rt: HostRuntime) {
     let alloc = rt.alloc();
-    let mut table: Table<EmptyStaticAtomSet> = at_last(&rt, || Table::new(alloc))?;
+    let mut table: Table<EmptyStaticAtomSet> = at_last(&rt, || Table::new(alloc)).expect(
+        &rt,
+        "an answer",
+    );
     assert!(rt; table.entries() == 0 && table.text_bytes() == 0);
-    assert!(rt; table.intern("interned")? == FIRST);
-    Ok(())
+    assert!(rt; table.intern("interned").expect(&rt, "a word") == FIRST);
 }
 
 /// A refusal may leave room for further texts in the table, and nothing else.
@@ -83,38 +85,42 @@ fn end_of(answer: &Result<Vec<TableReply>, Fault>) -> End {
 /// An `Err` changes nothing, and the run is made again in the same table. Where one of the calls was refused, all are made again in
 /// a new one.
 #[test]
-fn calls_are_run(rt: HostRuntime) -> Result<(), Fail> {
+fn calls_are_run(rt: HostRuntime) {
     let alloc = rt.alloc();
-    let calls = calls(alloc)?;
-    let mut table = Table::<EmptyStaticAtomSet>::new(alloc)?;
+    let calls = calls(alloc).expect(&rt, "an answer");
+    let mut table = Table::<EmptyStaticAtomSet>::new(alloc).expect(&rt, "a table");
     begin(&rt);
     let answer = table.run(&calls);
     let ended = end_of(&answer);
     finish(&rt, ended);
     let replies = match ended {
-        End::Given => answer?,
+        End::Given => answer.expect(&rt, "an answer"),
         End::Refused => {
             assert!(rt; table.entries() == 0 && table.text_bytes() == 0);
-            table.run(&calls)?
+            table.run(&calls).expect(&rt, "replies")
         }
         End::RefusedMidway => {
-            assert!(rt; answer?.len() == calls.len());
-            Table::<EmptyStaticAtomSet>::new(alloc)?.run(&calls)?
+            assert!(rt; answer.expect(&rt, "an answer").len() == calls.len());
+            Table::<EmptyStaticAtomSet>::new(alloc)
+                .expect(&rt, "a table")
+                .run(&calls)
+                .expect(&rt, "replies")
         }
     };
     assert!(rt; replies.as_slice() == REPLIES.as_slice());
-    Ok(())
 }
 
 #[test]
-fn world_is_made(rt: HostRuntime) -> Result<(), Fail> {
+fn world_is_made(rt: HostRuntime) {
     let alloc = rt.alloc();
     let limits = Limits::greatest();
-    let mut world: World<EmptyStaticAtomSet> = at_last(&rt, || World::new(alloc, limits))?;
+    let mut world: World<EmptyStaticAtomSet> = at_last(&rt, || World::new(alloc, limits)).expect(
+        &rt,
+        "an answer",
+    );
     assert!(rt; world.count(1).is_none());
-    let text = String::from_str(alloc, "interned")?;
-    assert!(rt; world.step(1, Step::TakeIntern(text))? == StepReply::Taken);
-    Ok(())
+    let text = String::from_str(alloc, "interned").expect(&rt, "a text");
+    assert!(rt; world.step(1, Step::TakeIntern(text)).expect(&rt, "a reply") == StepReply::Taken);
 }
 
 /// Two parties that share an entry.
@@ -154,10 +160,12 @@ const STEP_REPLIES: [StepReply; 8] = [
 
 /// A run that is refused goes on from the replies that were appended.
 #[test]
-fn steps_are_run(rt: HostRuntime) -> Result<(), Fail> {
+fn steps_are_run(rt: HostRuntime) {
     let alloc = rt.alloc();
-    let steps = steps(alloc)?;
-    let mut world = World::<EmptyStaticAtomSet>::new(alloc, Limits::greatest())?;
+    let steps = steps(alloc).expect(&rt, "an answer");
+    let mut world = World::<EmptyStaticAtomSet>::new(alloc, Limits::greatest()).expect(
+        &rt, "a world",
+    );
     let mut replies = Vec::new(alloc);
     begin(&rt);
     let answer = world.run(&steps, &mut replies);
@@ -167,11 +175,10 @@ fn steps_are_run(rt: HostRuntime) -> Result<(), Fail> {
         let done = replies.len();
         assert!(rt; STEP_REPLIES.starts_with(replies.as_slice()));
         let rest = steps.get(done..).expect(&rt, "the steps that are left");
-        world.run(rest, &mut replies)?;
+        world.run(rest, &mut replies).expect(&rt, "replies");
     } else {
-        answer?;
+        answer.expect(&rt, "an answer");
     }
     assert!(rt; replies.as_slice() == STEP_REPLIES.as_slice());
     assert!(rt; world.count(1) == Some(2));
-    Ok(())
 }

@@ -2,71 +2,72 @@
 use super::{End, begin, finish};
 use crate::samples::One;
 use std::cmp::Ordering;
-use std::test::Fail;
 use string_cache::dynamic_set::Set;
 use string_cache::table::Table;
 use string_cache::word::Limits;
 use string_cache::{Atom, DefaultAtom, EmptyStaticAtomSet, Fault};
 
 #[test]
-fn short_text_is_interned(rt: HostRuntime) -> Result<(), Fail> {
-    let set: Set<EmptyStaticAtomSet> = Set::new(rt.alloc())?;
-    let mut table = Table::<EmptyStaticAtomSet>::new(rt.alloc())?;
+fn short_text_is_interned(rt: HostRuntime) {
+    let set: Set<EmptyStaticAtomSet> = Set::new(rt.alloc()).expect(&rt, "a set");
+    let mut table = Table::<EmptyStaticAtomSet>::new(rt.alloc()).expect(&rt, "a table");
     begin(&rt);
     let atom = DefaultAtom::from_str_in(&rt, &set, "abcdefg");
     let word = table.intern("abcdefg");
     finish(&rt, End::Given);
-    assert!(rt; atom?.unsafe_data() == 0x6766_6564_6362_6171);
-    assert!(rt; word? == 0x6766_6564_6362_6171);
-    Ok(())
+    assert!(rt; atom.expect(&rt, "an answer").unsafe_data() == 0x6766_6564_6362_6171);
+    assert!(rt; word.expect(&rt, "an answer") == 0x6766_6564_6362_6171);
 }
 
 #[test]
-fn static_text_is_interned(rt: HostRuntime) -> Result<(), Fail> {
-    let set: Set<One> = Set::new(rt.alloc())?;
-    let mut table = Table::<One>::new(rt.alloc())?;
+fn static_text_is_interned(rt: HostRuntime) {
+    let set: Set<One> = Set::new(rt.alloc()).expect(&rt, "a set");
+    let mut table = Table::<One>::new(rt.alloc()).expect(&rt, "a table");
     begin(&rt);
     let atom = Atom::from_str_in(&rt, &set, "sentence");
     let word = table.intern("sentence");
     finish(&rt, End::Given);
-    assert!(rt; atom?.unsafe_data() == 2);
-    assert!(rt; word? == 2);
-    Ok(())
+    assert!(rt; atom.expect(&rt, "an answer").unsafe_data() == 2);
+    assert!(rt; word.expect(&rt, "an answer") == 2);
 }
 
 /// The values of a short text and of a static one.
 #[test]
-fn json_is_read(rt: HostRuntime) -> Result<(), Fail> {
-    let set: Set<One> = Set::new(rt.alloc())?;
-    let short = Atom::from_str_in(&rt, &set, "abcdefg")?.to_json(rt.alloc())?;
-    let long = Atom::from_str_in(&rt, &set, "sentence")?.to_json(rt.alloc())?;
+fn json_is_read(rt: HostRuntime) {
+    let set: Set<One> = Set::new(rt.alloc()).expect(&rt, "a set");
+    let short = Atom::from_str_in(&rt, &set, "abcdefg")
+        .expect(&rt, "an atom")
+        .to_json(rt.alloc())
+        .expect(&rt, "an answer");
+    let long = Atom::from_str_in(&rt, &set, "sentence")
+        .expect(&rt, "an atom")
+        .to_json(rt.alloc())
+        .expect(&rt, "an answer");
     begin(&rt);
     let (short, long) = (
         Atom::from_json_in(&rt, &set, &short),
         Atom::from_json_in(&rt, &set, &long),
     );
     finish(&rt, End::Given);
-    assert!(rt; short?.unsafe_data() == 0x6766_6564_6362_6171);
-    assert!(rt; long?.unsafe_data() == 2);
-    Ok(())
+    assert!(rt; short.expect(&rt, "an answer").unsafe_data() == 0x6766_6564_6362_6171);
+    assert!(rt; long.expect(&rt, "an answer").unsafe_data() == 2);
 }
 
 #[test]
-fn lower_case_is_a_static_text(rt: HostRuntime) -> Result<(), Fail> {
-    let set: Set<One> = Set::new(rt.alloc())?;
-    let upper = Atom::from_str_in(&rt, &set, "SENTENCE")?;
+fn lower_case_is_a_static_text(rt: HostRuntime) {
+    let set: Set<One> = Set::new(rt.alloc()).expect(&rt, "a set");
+    let upper = Atom::from_str_in(&rt, &set, "SENTENCE").expect(&rt, "an atom");
     begin(&rt);
     let lower = upper.to_ascii_lowercase_in(&rt, &set);
     finish(&rt, End::Given);
-    assert!(rt; lower?.unsafe_data() == 2);
-    Ok(())
+    assert!(rt; lower.expect(&rt, "an answer").unsafe_data() == 2);
 }
 
 #[test]
-fn atoms_are_cloned_compared_and_dropped(rt: HostRuntime) -> Result<(), Fail> {
-    let set: Set<EmptyStaticAtomSet> = Set::new(rt.alloc())?;
-    let first = DefaultAtom::from_str_in(&rt, &set, "interned")?;
-    let other = DefaultAtom::from_str_in(&rt, &set, "tokenised")?;
+fn atoms_are_cloned_compared_and_dropped(rt: HostRuntime) {
+    let set: Set<EmptyStaticAtomSet> = Set::new(rt.alloc()).expect(&rt, "a set");
+    let first = DefaultAtom::from_str_in(&rt, &set, "interned").expect(&rt, "an atom");
+    let other = DefaultAtom::from_str_in(&rt, &set, "tokenised").expect(&rt, "an atom");
     begin(&rt);
     let clone = first.clone_atom(&rt);
     let again = DefaultAtom::from_atom(&rt, &first);
@@ -80,13 +81,12 @@ fn atoms_are_cloned_compared_and_dropped(rt: HostRuntime) -> Result<(), Fail> {
     finish(&rt, End::Given);
     assert!(rt; is_other && are_same);
     assert!(rt; linked == 1 && other.as_str() == "tokenised");
-    Ok(())
 }
 
 #[test]
-fn sets_are_swept(rt: HostRuntime) -> Result<(), Fail> {
-    let set: Set<EmptyStaticAtomSet> = Set::new(rt.alloc())?;
-    let atom = DefaultAtom::from_str_in(&rt, &set, "interned")?;
+fn sets_are_swept(rt: HostRuntime) {
+    let set: Set<EmptyStaticAtomSet> = Set::new(rt.alloc()).expect(&rt, "a set");
+    let atom = DefaultAtom::from_str_in(&rt, &set, "interned").expect(&rt, "an atom");
     begin(&rt);
     set.sweep(&rt);
     let held = set.linked(&rt);
@@ -95,19 +95,23 @@ fn sets_are_swept(rt: HostRuntime) -> Result<(), Fail> {
     let left = set.linked(&rt);
     finish(&rt, End::Given);
     assert!(rt; (held, left) == (1, 0));
-    Ok(())
 }
 
 /// Whether or not memory is there.
 #[test]
-fn tickets_are_spent(rt: HostRuntime) -> Result<(), Fail> {
+fn tickets_are_spent(rt: HostRuntime) {
     let limits = Limits::new(9, 1).expect(&rt, "limits");
-    let set: Set<EmptyStaticAtomSet> = Set::with_limits(rt.alloc(), limits)?;
-    let mut table = Table::<EmptyStaticAtomSet>::with_limits(rt.alloc(), limits)?;
-    let word = table.intern("interned")?;
+    let set: Set<EmptyStaticAtomSet> = Set::with_limits(rt.alloc(), limits).expect(&rt, "a set");
+    let mut table = Table::<EmptyStaticAtomSet>::with_limits(rt.alloc(), limits).expect(
+        &rt, "a table",
+    );
+    let word = table.intern("interned").expect(&rt, "a word");
     table.give(word);
-    let value = DefaultAtom::from_str_in(&rt, &set, "interned")?.to_json(rt.alloc())?;
-    let text = String::from_str(rt.alloc(), "interned")?;
+    let value = DefaultAtom::from_str_in(&rt, &set, "interned")
+        .expect(&rt, "an atom")
+        .to_json(rt.alloc())
+        .expect(&rt, "an answer");
+    let text = String::from_str(rt.alloc(), "interned").expect(&rt, "a text");
     begin(&rt);
     let borrowed = DefaultAtom::from_str_in(&rt, &set, "interned").err();
     let owned = DefaultAtom::from_string_in(&rt, &set, text).err();
@@ -117,5 +121,4 @@ fn tickets_are_spent(rt: HostRuntime) -> Result<(), Fail> {
     for refused in [borrowed, owned, of_json, in_table] {
         assert_eq!(rt; refused, Some(Fault::TicketsSpent));
     }
-    Ok(())
 }

@@ -243,15 +243,14 @@ freed
 ];
 
 #[test]
-fn worked_scripts(rt: HostRuntime) -> Result<(), Fail> {
-    let args = words_of_line(rt.alloc(), "replay")?;
+fn worked_scripts(rt: HostRuntime) {
+    let args = words_of_line(rt.alloc(), "replay").expect(&rt, "an answer");
     for (script, output) in WORKED {
         let answer = answer_of(&rt, rt.alloc(), &args, &Streams::ample(script));
         assert_eq!(rt; answer.status, 0, "of {script:?}");
         assert!(rt; answer.output.written() == output, "of {script:?}");
         assert!(rt; answer.faults.written().is_empty(), "of {script:?}");
     }
-    Ok(())
 }
 
 #[test]
@@ -293,28 +292,27 @@ fn more_than_one_piece(rt: HostRuntime) -> Result<(), Fail> {
 
 /// More than a megabyte of long lines.
 #[test]
-fn large_script(rt: HostRuntime) -> Result<(), Fail> {
+fn large_script(rt: HostRuntime) {
     let alloc = rt.alloc();
     let mut text = String::new(alloc);
     for _ in 0..100 {
-        text.push_str("abcdefghijklmnopqrst")?;
+        text.push_str("abcdefghijklmnopqrst").expect(&rt, "room");
     }
-    let mut script = String::from_str(alloc, "1 sweep 0\n")?;
-    let mut lines = String::from_str(alloc, "taken\n")?;
+    let mut script = String::from_str(alloc, "1 sweep 0\n").expect(&rt, "a text");
+    let mut lines = String::from_str(alloc, "taken\n").expect(&rt, "a text");
     for _ in 0..550 {
-        writeln!(script, "1 intern {text}")?;
-        lines.push_str("no\n")?;
+        writeln!(script, "1 intern {text}").expect(&rt, "an answer");
+        lines.push_str("no\n").expect(&rt, "room");
     }
     assert!(rt; script.len() > 1_100_000);
     let mut writer = Io::new(Vec::new(alloc));
-    replay(alloc, &mut Io::new(script.as_bytes()), &mut writer)?;
+    replay(alloc, &mut Io::new(script.as_bytes()), &mut writer).expect(&rt, "an answer");
     assert!(rt; writer.into_inner().as_slice() == lines.as_bytes());
-    Ok(())
 }
 
 #[test]
-fn program_of_scripts(rt: HostRuntime) -> Result<(), Fail> {
-    let args = words_of_line(rt.alloc(), "replay")?;
+fn program_of_scripts(rt: HostRuntime) {
+    let args = words_of_line(rt.alloc(), "replay").expect(&rt, "an answer");
     for (script, status, output, faults) in [
         (SCRIPT, 0, OUTPUT, b"".as_slice()),
         (b"".as_slice(), 0, b"".as_slice(), b"".as_slice()),
@@ -342,5 +340,4 @@ fn program_of_scripts(rt: HostRuntime) -> Result<(), Fail> {
         assert!(rt; answer.output.written() == output, "of {script:?}");
         assert!(rt; answer.faults.written() == faults, "of {script:?}");
     }
-    Ok(())
 }

@@ -1,6 +1,5 @@
 // Words that are odd, or of nothing, and tables that are odd.
 use crate::samples::{One, Short, Twice};
-use std::test::Fail;
 use string_cache::dynamic_set::Set;
 use string_cache::static_sets::{PhfStrSet, StaticAtomSet};
 use string_cache::word::{Form, InlineText, Limits, form_of, ticket_word};
@@ -108,22 +107,20 @@ fn checked_tables(rt: HostRuntime) {
 
 /// By OpenSSL's SipHash f2 of "sentence" is 0x56e93a5c, so its place among two is 0.
 #[test]
-fn text_listed_twice(rt: HostRuntime) -> Result<(), Fail> {
-    let set: Set<Twice> = Set::new(rt.alloc())?;
-    let atom = Atom::from_str_in(&rt, &set, "sentence")?;
+fn text_listed_twice(rt: HostRuntime) {
+    let set: Set<Twice> = Set::new(rt.alloc()).expect(&rt, "a set");
+    let atom = Atom::from_str_in(&rt, &set, "sentence").expect(&rt, "an atom");
     assert!(rt; atom.is_static() && atom.unsafe_data() == 2);
     assert!(rt; atom.get_hash() == 1);
     assert!(rt; Atom::<Twice>::pack_static(0) == Some(atom));
     assert!(rt; Atom::<Twice>::pack_static(1).is_none());
-    Ok(())
 }
 
 #[test]
-fn short_text_in_tables(rt: HostRuntime) -> Result<(), Fail> {
-    let set: Set<Short> = Set::new(rt.alloc())?;
-    let atom = Atom::from_str_in(&rt, &set, "short")?;
+fn short_text_in_tables(rt: HostRuntime) {
+    let set: Set<Short> = Set::new(rt.alloc()).expect(&rt, "a set");
+    let atom = Atom::from_str_in(&rt, &set, "short").expect(&rt, "an atom");
     assert!(rt; atom.unsafe_data() == 0x7472_6f68_7351);
     assert!(rt; Atom::<Short>::try_static("short").is_none());
     assert!(rt; Atom::<Short>::pack_static(0).is_none());
-    Ok(())
 }

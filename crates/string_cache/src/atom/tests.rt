@@ -8,7 +8,6 @@ use std::borrow::CowStr;
 use std::cmp::Ordering;
 use std::collections::{BTreeMap, HashMap};
 use std::sync::Wait;
-use std::test::Fail;
 
 #[test]
 fn default_atom(rt: HostRuntime) {
@@ -18,8 +17,8 @@ fn default_atom(rt: HostRuntime) {
 }
 
 #[test]
-fn hash_numbers(rt: HostRuntime) -> Result<(), Fail> {
-    let set: Set<One> = Set::new(rt.alloc())?;
+fn hash_numbers(rt: HostRuntime) {
+    let set: Set<One> = Set::new(rt.alloc()).expect(&rt, "a set");
     // The last is g and f1 of the text, as OpenSSL's SipHash tells them.
     for (text, number) in [
         ("", 1),
@@ -27,10 +26,9 @@ fn hash_numbers(rt: HostRuntime) -> Result<(), Fail> {
         ("sentence", 0x1122_3344_5566_7788),
         ("interned", 0x556a_6dba_06a4_7210),
     ] {
-        let atom = Atom::from_str_in(&rt, &set, text)?;
+        let atom = Atom::from_str_in(&rt, &set, text).expect(&rt, "an atom");
         assert!(rt; atom.get_hash() == number, "of {text:?}");
     }
-    Ok(())
 }
 
 /// The order of the atoms of two texts, of which "sentence" is static.
@@ -40,8 +38,8 @@ fn order<R: Wait>(rt: &R, set: &Set<One>, left: &str, right: &str) -> Result<Ord
 }
 
 #[test]
-fn orders(rt: HostRuntime) -> Result<(), Fail> {
-    let set: Set<One> = Set::new(rt.alloc())?;
+fn orders(rt: HostRuntime) {
+    let set: Set<One> = Set::new(rt.alloc()).expect(&rt, "a set");
     // By their words "b" would stand before "aa", and "sentence" before "interned".
     for (left, right, wanted) in [
         ("é", "z", Ordering::Greater),
@@ -51,10 +49,9 @@ fn orders(rt: HostRuntime) -> Result<(), Fail> {
         ("interned", "inter", Ordering::Greater),
         ("interned", "interned", Ordering::Equal),
     ] {
-        let found = order(&rt, &set, left, right)?;
+        let found = order(&rt, &set, left, right).expect(&rt, "an answer");
         assert!(rt; found == wanted, "of {left:?} and {right:?}");
     }
-    Ok(())
 }
 
 /// Whether atoms of two texts are equal: as they are, and without case.
@@ -72,8 +69,8 @@ fn equalities<R: Wait>(
 }
 
 #[test]
-fn without_case(rt: HostRuntime) -> Result<(), Fail> {
-    let set: Set<EmptyStaticAtomSet> = Set::new(rt.alloc())?;
+fn without_case(rt: HostRuntime) {
+    let set: Set<EmptyStaticAtomSet> = Set::new(rt.alloc()).expect(&rt, "a set");
     for (left, right, equal, without_case) in [
         ("FOO", "foo", false, true),
         ("É", "é", false, false),
@@ -81,50 +78,56 @@ fn without_case(rt: HostRuntime) -> Result<(), Fail> {
         ("[", "{", false, false),
         ("foo", "foo", true, true),
     ] {
-        let found = equalities(&rt, &set, left, right)?;
+        let found = equalities(&rt, &set, left, right).expect(&rt, "an answer");
         assert!(rt; found == (equal, without_case), "of {left:?} and {right:?}");
     }
-    let atom = Atom::from_str_in(&rt, &set, "Foo")?;
+    let atom = Atom::from_str_in(&rt, &set, "Foo").expect(&rt, "an atom");
     assert!(rt; atom.eq_str("Foo") && !atom.eq_str("foo"));
     assert!(rt; atom.eq_str_ignore_ascii_case("fOO") && !atom.eq_str_ignore_ascii_case("fo"));
-    Ok(())
 }
 
 #[test]
-fn clones(rt: HostRuntime) -> Result<(), Fail> {
-    let set: Set<One> = Set::new(rt.alloc())?;
+fn clones(rt: HostRuntime) {
+    let set: Set<One> = Set::new(rt.alloc()).expect(&rt, "a set");
     for text in ["foo", "sentence", "interned"] {
-        let atom = Atom::from_str_in(&rt, &set, text)?;
-        for clone in [atom.clone_atom(&rt)?, Atom::from_atom(&rt, &atom)?] {
+        let atom = Atom::from_str_in(&rt, &set, text).expect(&rt, "an atom");
+        for clone in [
+            atom.clone_atom(&rt).expect(&rt, "an atom"),
+            Atom::from_atom(&rt, &atom).expect(&rt, "an atom"),
+        ] {
             assert!(rt; clone.unsafe_data() == atom.unsafe_data());
             assert!(rt; clone.as_str() == text);
         }
     }
-    Ok(())
 }
 
 #[test]
-fn owned_texts(rt: HostRuntime) -> Result<(), Fail> {
-    let set: Set<EmptyStaticAtomSet> = Set::new(rt.alloc())?;
-    let atom = Atom::from_str_in(&rt, &set, "interned")?;
+fn owned_texts(rt: HostRuntime) {
+    let set: Set<EmptyStaticAtomSet> = Set::new(rt.alloc()).expect(&rt, "a set");
+    let atom = Atom::from_str_in(&rt, &set, "interned").expect(&rt, "an atom");
     for other in [
-        Atom::from_string_in(&rt, &set, String::from_str(rt.alloc(), "interned")?)?,
-        Atom::from_cow_in(&rt, &set, CowStr::Borrowed("interned"))?,
+        Atom::from_string_in(
+            &rt,
+            &set,
+            String::from_str(rt.alloc(), "interned").expect(&rt, "a text"),
+        )
+        .expect(&rt, "an atom"),
+        Atom::from_cow_in(&rt, &set, CowStr::Borrowed("interned")).expect(&rt, "an atom"),
         Atom::from_cow_in(
             &rt,
             &set,
-            CowStr::Owned(String::from_str(rt.alloc(), "interned")?),
-        )?,
+            CowStr::Owned(String::from_str(rt.alloc(), "interned").expect(&rt, "a text")),
+        )
+        .expect(&rt, "an atom"),
     ] {
         assert!(rt; other.is_dynamic() && other == atom);
         assert!(rt; other.unsafe_data() == atom.unsafe_data());
     }
-    Ok(())
 }
 
 #[test]
-fn cases(rt: HostRuntime) -> Result<(), Fail> {
-    let set: Set<EmptyStaticAtomSet> = Set::new(rt.alloc())?;
+fn cases(rt: HostRuntime) {
+    let set: Set<EmptyStaticAtomSet> = Set::new(rt.alloc()).expect(&rt, "a set");
     for (text, upper, lower) in [
         ("é", "é", "é"),
         ("École", "ÉCOLE", "École"),
@@ -132,43 +135,65 @@ fn cases(rt: HostRuntime) -> Result<(), Fail> {
         ("@[`{09", "@[`{09", "@[`{09"),
         ("azAZ", "AZAZ", "azaz"),
     ] {
-        let atom = Atom::from_str_in(&rt, &set, text)?;
-        assert!(rt; atom.to_ascii_uppercase_in(&rt, &set)?.as_str() == upper);
-        assert!(rt; atom.to_ascii_lowercase_in(&rt, &set)?.as_str() == lower);
+        let atom = Atom::from_str_in(&rt, &set, text).expect(&rt, "an atom");
+        assert!(rt;
+            atom.to_ascii_uppercase_in(&rt, &set)
+                .expect(&rt, "an atom")
+                .as_str()
+                == upper
+        );
+        assert!(rt;
+            atom.to_ascii_lowercase_in(&rt, &set)
+                .expect(&rt, "an atom")
+                .as_str()
+                == lower
+        );
     }
     for letters in [64, 65] {
-        let text = "a".repeat(rt.alloc(), letters)?;
-        let atom = Atom::from_str_in(&rt, &set, text.as_str())?;
-        let upper = atom.to_ascii_uppercase_in(&rt, &set)?;
-        assert!(rt; upper.eq_str("A".repeat(rt.alloc(), letters)?.as_str()));
+        let text = "a".repeat(rt.alloc(), letters).expect(&rt, "an answer");
+        let atom = Atom::from_str_in(&rt, &set, text.as_str()).expect(&rt, "an atom");
+        let upper = atom.to_ascii_uppercase_in(&rt, &set).expect(&rt, "an atom");
+        assert!(rt;
+            upper.eq_str(
+                "A".repeat(rt.alloc(), letters)
+                    .expect(&rt, "an answer")
+                    .as_str()
+            )
+        );
     }
-    Ok(())
 }
 
 #[test]
-fn cases_of_a_static_text(rt: HostRuntime) -> Result<(), Fail> {
-    let set: Set<One> = Set::new(rt.alloc())?;
-    let upper = Atom::from_str_in(&rt, &set, "sentence")?.to_ascii_uppercase_in(&rt, &set)?;
+fn cases_of_a_static_text(rt: HostRuntime) {
+    let set: Set<One> = Set::new(rt.alloc()).expect(&rt, "a set");
+    let upper = Atom::from_str_in(&rt, &set, "sentence")
+        .expect(&rt, "an atom")
+        .to_ascii_uppercase_in(&rt, &set)
+        .expect(&rt, "an atom");
     assert!(rt; upper.as_str() == "SENTENCE" && upper.is_dynamic());
-    let lower = upper.to_ascii_lowercase_in(&rt, &set)?;
+    let lower = upper
+        .to_ascii_lowercase_in(&rt, &set)
+        .expect(&rt, "an atom");
     assert!(rt; lower.is_static() && lower.unsafe_data() == 2);
-    Ok(())
 }
 
 #[test]
-fn keys_of_maps(rt: HostRuntime) -> Result<(), Fail> {
-    let set: Set<One> = Set::new(rt.alloc())?;
+fn keys_of_maps(rt: HostRuntime) {
+    let set: Set<One> = Set::new(rt.alloc()).expect(&rt, "a set");
     let mut counts: HashMap<Atom<'_, One>, u64> = HashMap::new(rt.alloc());
     let mut sorted: BTreeMap<Atom<'_, One>, u64> = BTreeMap::new(rt.alloc());
     for word in "interned sentence a interned b a interned".split_whitespace() {
-        let atom = Atom::from_str_in(&rt, &set, word)?;
-        let count = counts.entry(atom.clone_atom(&rt)?)?.or_insert(0);
+        let atom = Atom::from_str_in(&rt, &set, word).expect(&rt, "an atom");
+        let count = counts
+            .entry(atom.clone_atom(&rt).expect(&rt, "an atom"))
+            .expect(&rt, "an answer")
+            .or_insert(0);
         *count = count.saturating_add(1);
-        let count = sorted.entry(atom)?.or_insert(0);
+        let count = sorted.entry(atom).expect(&rt, "an answer").or_insert(0);
         *count = count.saturating_add(1);
     }
     for (word, count) in [("interned", 3), ("sentence", 1), ("a", 2), ("b", 1)] {
-        let atom = Atom::from_str_in(&rt, &set, word)?;
+        let atom = Atom::from_str_in(&rt, &set, word).expect(&rt, "an atom");
         assert!(rt; counts.get(&atom) == Some(&count), "of {word:?}");
     }
     assert!(rt; counts.len() == 4);
@@ -177,23 +202,23 @@ fn keys_of_maps(rt: HostRuntime) -> Result<(), Fail> {
     for ((atom, count), wanted) in sorted.iter().zip(wanted.iter()) {
         assert!(rt; (atom.as_str(), *count) == *wanted);
     }
-    Ok(())
 }
 
 /// A text of 200,000 bytes, interned, put into another case, and there and back as JSON.
 #[test]
-fn long_text(rt: HostRuntime) -> Result<(), Fail> {
+fn long_text(rt: HostRuntime) {
     let alloc = rt.alloc();
-    let set: Set<EmptyStaticAtomSet> = Set::new(alloc)?;
-    let text = "a".repeat(alloc, 200_000)?;
-    let atom = Atom::from_str_in(&rt, &set, text.as_str())?;
-    let again = Atom::from_json_in(&rt, &set, &atom.to_json(alloc)?)?;
-    let upper = atom.to_ascii_uppercase_in(&rt, &set)?;
-    let owned = Atom::from_string_in(&rt, &set, text)?;
+    let set: Set<EmptyStaticAtomSet> = Set::new(alloc).expect(&rt, "a set");
+    let text = "a".repeat(alloc, 200_000).expect(&rt, "an answer");
+    let atom = Atom::from_str_in(&rt, &set, text.as_str()).expect(&rt, "an atom");
+    let again = Atom::from_json_in(&rt, &set, &atom.to_json(alloc).expect(&rt, "an answer")).expect(
+        &rt, "an atom",
+    );
+    let upper = atom.to_ascii_uppercase_in(&rt, &set).expect(&rt, "an atom");
+    let owned = Atom::from_string_in(&rt, &set, text).expect(&rt, "an atom");
     assert!(rt; atom.as_bytes().len() == 200_000 && upper.as_bytes().len() == 200_000);
     assert!(rt;
         again.unsafe_data() == atom.unsafe_data() && owned.unsafe_data() == atom.unsafe_data()
     );
     assert!(rt; upper != atom && upper.eq_ignore_ascii_case(&atom));
-    Ok(())
 }

@@ -12,7 +12,6 @@ use crate::samples::hash_of;
 use crate::static_sets::EmptyStaticAtomSet;
 use crate::word::{Buckets, Limits, ticket_word};
 use std::sync::Wait;
-use std::test::Fail;
 
 /// Looks at the ticket alone, and gives it as its share. Entries that aren't named die to `add` and stay to `dying`.
 #[derive(Drop)]
@@ -110,7 +109,7 @@ fn found(answer: Pass<u64>) -> u64 {
 }
 
 #[test]
-fn passes(rt: HostRuntime) -> Result<(), Fail> {
+fn passes(rt: HostRuntime) {
     let (first, second, third) = (
         ticket_word(1, 0xe77),
         ticket_word(2, 0xe77),
@@ -124,9 +123,9 @@ fn passes(rt: HostRuntime) -> Result<(), Fail> {
     ] {
         let limits = Limits::greatest();
         let mut bucket = Bucket::new(rt.alloc(), Buckets::usual());
-        let one = link(&mut bucket, "tokenised", &limits)?;
-        let two = link(&mut bucket, "tokenised", &limits)?;
-        let three = link(&mut bucket, "tokenised", &limits)?;
+        let one = link(&mut bucket, "tokenised", &limits).expect(&rt, "an answer");
+        let two = link(&mut bucket, "tokenised", &limits).expect(&rt, "an answer");
+        let three = link(&mut bucket, "tokenised", &limits).expect(&rt, "an answer");
         assert!(rt; (one.ticket(), two.ticket(), three.ticket()) == (first, second, third));
         assert!(rt; tickets(&mut bucket) == [third, second, first]);
 
@@ -136,7 +135,6 @@ fn passes(rt: HostRuntime) -> Result<(), Fail> {
         assert!(rt; tickets(&mut bucket) == left);
         assert!(rt; one.text() == "tokenised" && two.text() == three.text());
     }
-    Ok(())
 }
 
 fn intern<R: Wait>(
@@ -150,29 +148,28 @@ fn intern<R: Wait>(
 }
 
 #[test]
-fn shares_of_a_bucket(rt: HostRuntime) -> Result<(), Fail> {
+fn shares_of_a_bucket(rt: HostRuntime) {
     let limits = Limits::new(2, 2).expect(&rt, "limits");
     let mut bucket = Bucket::new(rt.alloc(), Buckets::usual());
-    let one = intern(&rt, &mut bucket, "tokenised", &limits)?;
-    let two = intern(&rt, &mut bucket, "tokenised", &limits)?;
+    let one = intern(&rt, &mut bucket, "tokenised", &limits).expect(&rt, "an answer");
+    let two = intern(&rt, &mut bucket, "tokenised", &limits).expect(&rt, "an answer");
     assert!(rt; one.ticket() == two.ticket());
     let three = intern(&rt, &mut bucket, "tokenised", &limits);
     assert!(rt; matches!(three, Err(Fault::FullCount)));
     drop(one);
     drop(two);
     // The entry is dying, and goes with the pass that links the next.
-    let next = intern(&rt, &mut bucket, "tokenised", &limits)?;
+    let next = intern(&rt, &mut bucket, "tokenised", &limits).expect(&rt, "an answer");
     assert!(rt; next.ticket() == ticket_word(2, 0xe77));
     assert!(rt; tickets(&mut bucket) == [next.ticket(), 0, 0]);
-    Ok(())
 }
 
 /// A share that outlives its bucket keeps its text, as does one whose entry made-up counts took out.
 #[test]
-fn share_outlives_its_bucket(rt: HostRuntime) -> Result<(), Fail> {
+fn share_outlives_its_bucket(rt: HostRuntime) {
     let limits = Limits::greatest();
     let mut bucket = Bucket::new(rt.alloc(), Buckets::usual());
-    let taken_out = link(&mut bucket, "tokenised", &limits)?;
+    let taken_out = link(&mut bucket, "tokenised", &limits).expect(&rt, "an answer");
     let mut fake = Fake {
         added: 0,
         full: 0,
@@ -180,35 +177,32 @@ fn share_outlives_its_bucket(rt: HostRuntime) -> Result<(), Fail> {
     };
     assert!(rt; found(pass(&rt, &mut bucket, "tokenised", &mut fake)) == 0);
     assert!(rt; tickets(&mut bucket) == [0, 0, 0]);
-    let linked = link(&mut bucket, "tokenised", &limits)?;
+    let linked = link(&mut bucket, "tokenised", &limits).expect(&rt, "an answer");
     drop(bucket);
     assert!(rt; linked.text() == "tokenised" && linked.ticket() == ticket_word(2, 0xe77));
     assert!(rt; taken_out.text() == "tokenised" && taken_out.ticket() == ticket_word(1, 0xe77));
-    Ok(())
 }
 
 #[test]
-fn spent_tickets(rt: HostRuntime) -> Result<(), Fail> {
+fn spent_tickets(rt: HostRuntime) {
     let limits = Limits::new(1, 2).expect(&rt, "limits");
     let mut bucket = Bucket::new(rt.alloc(), Buckets::usual());
     for serial in [1, 2] {
-        let share = link(&mut bucket, "tokenised", &limits)?;
+        let share = link(&mut bucket, "tokenised", &limits).expect(&rt, "an answer");
         assert!(rt; share.ticket() == ticket_word(serial, 0xe77));
         assert!(rt; share.text() == "tokenised");
     }
     let refused = link(&mut bucket, "tokenised", &limits);
     assert!(rt; matches!(refused, Err(Fault::TicketsSpent)));
-    Ok(())
 }
 
 /// A bucket asks for a text's hash alone: g and f1 of this one, which is inline, are 0x7f1a22d084b2f283 by OpenSSL's SipHash.
 #[test]
-fn short_text_of_a_bucket(rt: HostRuntime) -> Result<(), Fail> {
+fn short_text_of_a_bucket(rt: HostRuntime) {
     let limits = Limits::greatest();
     let mut bucket = Bucket::new(rt.alloc(), Buckets::usual());
-    let share = intern(&rt, &mut bucket, "foo", &limits)?;
+    let share = intern(&rt, &mut bucket, "foo", &limits).expect(&rt, "an answer");
     assert!(rt; share.ticket() == ticket_word(1, 0x283));
-    let again = intern(&rt, &mut bucket, "foo", &limits)?;
+    let again = intern(&rt, &mut bucket, "foo", &limits).expect(&rt, "an answer");
     assert!(rt; again.ticket() == share.ticket() && again.text() == "foo");
-    Ok(())
 }

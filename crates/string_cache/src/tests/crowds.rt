@@ -191,15 +191,18 @@ fn many_workers_at_one_of_the_most_buckets(rt: HostRuntime) -> Result<(), Fail> 
 
 /// What nobody holds doesn't stay, in a loop over many texts.
 #[test]
-fn ten_thousand_texts_come_and_go(rt: HostRuntime) -> Result<(), Fail> {
-    let set: Set<EmptyStaticAtomSet> = Set::new(rt.alloc())?;
-    for (n, text) in numbers(rt.alloc(), 10_000)?.iter().enumerate() {
-        let atom = Atom::from_str_in(&rt, &set, text)?;
+fn ten_thousand_texts_come_and_go(rt: HostRuntime) {
+    let set: Set<EmptyStaticAtomSet> = Set::new(rt.alloc()).expect(&rt, "a set");
+    for (n, text) in numbers(rt.alloc(), 10_000)
+        .expect(&rt, "an answer")
+        .iter()
+        .enumerate()
+    {
+        let atom = Atom::from_str_in(&rt, &set, text).expect(&rt, "an atom");
         assert!(rt; atom.as_str() == text.as_str());
         drop(atom);
         if n % 1000 == 999 {
             assert!(rt; set.linked(&rt) == 0, "after {n}");
         }
     }
-    Ok(())
 }

@@ -11,7 +11,6 @@ use StepReply::{
 };
 use std::alloc::{AllocError, Global};
 use std::process::Abort;
-use std::test::Fail;
 
 // A step whose text is a literal.
 #[derive(Clone, Copy)]
@@ -63,8 +62,8 @@ fn check(
     limits: Limits,
     rows: &[(u32, Do, StepReply)],
     held: &[u64],
-) -> Result<(), Fail> {
-    check_in(rt, alloc, limits, Buckets::usual(), rows, held)
+) {
+    check_in(rt, alloc, limits, Buckets::usual(), rows, held);
 }
 
 // By `step` and by `run`: each row's step of its party has that reply, and then the entries are held so often.
@@ -75,18 +74,24 @@ fn check_in(
     buckets: Buckets,
     rows: &[(u32, Do, StepReply)],
     held: &[u64],
-) -> Result<(), Fail> {
-    let mut stepped = World::<EmptyStaticAtomSet>::with_buckets(alloc, limits, buckets)?;
+) {
+    let mut stepped = World::<EmptyStaticAtomSet>::with_buckets(alloc, limits, buckets).expect(
+        rt, "a world",
+    );
     let mut script = Vec::new(alloc);
     let mut want = Vec::new(alloc);
     for (party, step, reply) in rows {
-        assert_eq!(rt; stepped.step(*party, step_of(alloc, *step)?)?, *reply);
-        script.push((*party, step_of(alloc, *step)?))?;
-        want.push(*reply)?;
+        let again = step_of(alloc, *step).expect(rt, "a step");
+        script.push((*party, again)).expect(rt, "room");
+        let step = step_of(alloc, *step).expect(rt, "a step");
+        assert_eq!(rt; stepped.step(*party, step).expect(rt, "a reply"), *reply);
+        want.push(*reply).expect(rt, "room");
     }
-    let mut ran = World::<EmptyStaticAtomSet>::with_buckets(alloc, limits, buckets)?;
+    let mut ran = World::<EmptyStaticAtomSet>::with_buckets(alloc, limits, buckets).expect(
+        rt, "a world",
+    );
     let mut given = Vec::new(alloc);
-    ran.run(script.as_slice(), &mut given)?;
+    ran.run(script.as_slice(), &mut given).expect(rt, "replies");
     assert!(rt; given == want);
     for (k, count) in held.iter().enumerate() {
         let entry = k as u64 + 1;
@@ -94,11 +99,10 @@ fn check_in(
         assert_eq!(rt; ran.count(entry), Some(*count));
     }
     assert!(rt; ran.count(0).is_none() && ran.count(held.len() as u64 + 1).is_none());
-    Ok(())
 }
 
 #[test]
-fn two_parties_share_an_entry(rt: HostRuntime) -> Result<(), Fail> {
+fn two_parties_share_an_entry(rt: HostRuntime) {
     let ticket = ticket_of("interned", 1);
     let rows = [
         (1, Do::Intern("interned"), Taken),
@@ -110,11 +114,11 @@ fn two_parties_share_an_entry(rt: HostRuntime) -> Result<(), Fail> {
         (2, Do::Add(1), Added { ticket, holders: 2 }),
         (2, Do::Leave, Left),
     ];
-    check(&rt, rt.alloc(), Limits::greatest(), &rows, &[2])
+    check(&rt, rt.alloc(), Limits::greatest(), &rows, &[2]);
 }
 
 #[test]
-fn a_dying_entry_is_linked_anew(rt: HostRuntime) -> Result<(), Fail> {
+fn a_dying_entry_is_linked_anew(rt: HostRuntime) {
     let first = ticket_of("tokenised", 1);
     let second = ticket_of("tokenised", 2);
     let rows = [
@@ -144,11 +148,11 @@ fn a_dying_entry_is_linked_anew(rt: HostRuntime) -> Result<(), Fail> {
         (2, Do::Free(1), Freed),
         (2, Do::Free(1), No),
     ];
-    check(&rt, rt.alloc(), Limits::greatest(), &rows, &[0, 1])
+    check(&rt, rt.alloc(), Limits::greatest(), &rows, &[0, 1]);
 }
 
 #[test]
-fn limits_of_one(rt: HostRuntime) -> Result<(), Fail> {
+fn limits_of_one(rt: HostRuntime) {
     let ticket = ticket_of("tokenised", 1);
     let rows = [
         (1, Do::Intern("tokenised"), Taken),
@@ -180,7 +184,7 @@ fn limits_of_one(rt: HostRuntime) -> Result<(), Fail> {
 }
 
 #[test]
-fn a_link_without_room(rt: HostRuntime) -> Result<(), Fail> {
+fn a_link_without_room(rt: HostRuntime) {
     let rows = [
         (1, Do::Intern("interned"), Taken),
         (1, Do::Link(false), Memory),
@@ -188,11 +192,11 @@ fn a_link_without_room(rt: HostRuntime) -> Result<(), Fail> {
         (1, Do::Link(true), No),
         (1, Do::Intern("short"), No),
     ];
-    check(&rt, rt.alloc(), Limits::greatest(), &rows, &[])
+    check(&rt, rt.alloc(), Limits::greatest(), &rows, &[]);
 }
 
 #[test]
-fn a_holder_outside_of_a_pass(rt: HostRuntime) -> Result<(), Fail> {
+fn a_holder_outside_of_a_pass(rt: HostRuntime) {
     let ticket = ticket_of("interned", 1);
     let rows = [
         (1, Do::Intern("interned"), Taken),
@@ -201,11 +205,11 @@ fn a_holder_outside_of_a_pass(rt: HostRuntime) -> Result<(), Fail> {
         (1, Do::Leave, Left),
         (2, Do::Give(1), Given { left: 1 }),
     ];
-    check(&rt, rt.alloc(), Limits::greatest(), &rows, &[1])
+    check(&rt, rt.alloc(), Limits::greatest(), &rows, &[1]);
 }
 
 #[test]
-fn an_undecided_pass_stays(rt: HostRuntime) -> Result<(), Fail> {
+fn an_undecided_pass_stays(rt: HostRuntime) {
     let ticket = ticket_of("interned", 1);
     let rows = [
         (1, Do::Intern("interned"), Taken),
@@ -218,11 +222,11 @@ fn an_undecided_pass_stays(rt: HostRuntime) -> Result<(), Fail> {
         (1, Do::Add(1), Added { ticket, holders: 2 }),
         (1, Do::Leave, Left),
     ];
-    check(&rt, rt.alloc(), Limits::greatest(), &rows, &[2])
+    check(&rt, rt.alloc(), Limits::greatest(), &rows, &[2]);
 }
 
 #[test]
-fn sweeps_of_the_last_buckets(rt: HostRuntime) -> Result<(), Fail> {
+fn sweeps_of_the_last_buckets(rt: HostRuntime) {
     for (bits, number) in [(0, 1), (12, 4096), (14, 16384)] {
         let rows = [
             (1, Do::Sweep(number - 1), Taken),
@@ -230,15 +234,14 @@ fn sweeps_of_the_last_buckets(rt: HostRuntime) -> Result<(), Fail> {
             (1, Do::Sweep(number), No),
             (1, Do::Give(1), No),
         ];
-        let buckets = Buckets::new(bits).ok_or("bits")?;
-        check_in(&rt, rt.alloc(), Limits::greatest(), buckets, &rows, &[])?;
+        let buckets = Buckets::new(bits).expect(&rt, "bits");
+        check_in(&rt, rt.alloc(), Limits::greatest(), buckets, &rows, &[]);
     }
-    Ok(())
 }
 
 // A party that interns in the only bucket looks at the other text's entry too, and waits for who holds the bucket.
 #[test]
-fn one_bucket_for_all_texts(rt: HostRuntime) -> Result<(), Fail> {
+fn one_bucket_for_all_texts(rt: HostRuntime) {
     let (first, second) = (0x1_0000, 0x2_0000);
     let rows = [
         (1, Do::Intern("interned"), Taken),
@@ -265,13 +268,13 @@ fn one_bucket_for_all_texts(rt: HostRuntime) -> Result<(), Fail> {
         (2, Do::Unlink(1), Kept),
         (2, Do::Leave, Left),
     ];
-    let buckets = Buckets::new(0).ok_or("bits")?;
-    check_in(&rt, rt.alloc(), Limits::greatest(), buckets, &rows, &[1, 1])
+    let buckets = Buckets::new(0).expect(&rt, "bits");
+    check_in(&rt, rt.alloc(), Limits::greatest(), buckets, &rows, &[1, 1]);
 }
 
 #[test]
-fn most_buckets_keep_texts_apart(rt: HostRuntime) -> Result<(), Fail> {
-    let buckets = Buckets::new(14).ok_or("bits")?;
+fn most_buckets_keep_texts_apart(rt: HostRuntime) {
+    let buckets = Buckets::new(14).expect(&rt, "bits");
     let rows = [
         (1, Do::Intern("interned"), Taken),
         (2, Do::Intern("tokenised"), Taken),
@@ -294,11 +297,11 @@ fn most_buckets_keep_texts_apart(rt: HostRuntime) -> Result<(), Fail> {
         (2, Do::Leave, Left),
         (1, Do::Leave, Left),
     ];
-    check_in(&rt, rt.alloc(), Limits::greatest(), buckets, &rows, &[1, 1])
+    check_in(&rt, rt.alloc(), Limits::greatest(), buckets, &rows, &[1, 1]);
 }
 
 #[test]
-fn steps_that_are_not_enabled_answer_no(rt: HostRuntime) -> Result<(), Fail> {
+fn steps_that_are_not_enabled_answer_no(rt: HostRuntime) {
     let ticket = ticket_of("interned", 1);
     let rows = [
         (1, Do::Clone(1), No),
@@ -314,28 +317,33 @@ fn steps_that_are_not_enabled_answer_no(rt: HostRuntime) -> Result<(), Fail> {
         (1, Do::Give(1), Given { left: 0 }),
         (2, Do::Clone(1), No),
     ];
-    check(&rt, rt.alloc(), Limits::greatest(), &rows, &[0])
+    check(&rt, rt.alloc(), Limits::greatest(), &rows, &[0]);
 }
 
 #[test]
-fn twenty_thousand_steps_in_one_run(rt: HostRuntime) -> Result<(), Fail> {
+fn twenty_thousand_steps_in_one_run(rt: HostRuntime) {
     let alloc = rt.alloc();
     let mut script = Vec::new(alloc);
     for step in [Do::Intern("interned"), Do::Link(true), Do::Leave] {
-        script.push((1, step_of(alloc, step)?))?;
+        script
+            .push((1, step_of(alloc, step).expect(&rt, "an answer")))
+            .expect(&rt, "room");
     }
     for _turn in 0..10_000u32 {
-        script.push((2, Step::Clone(1)))?;
-        script.push((1, Step::Give(1)))?;
+        script.push((2, Step::Clone(1))).expect(&rt, "room");
+        script.push((1, Step::Give(1))).expect(&rt, "room");
     }
-    let mut world = World::<EmptyStaticAtomSet>::new(alloc, Limits::greatest())?;
+    let mut world = World::<EmptyStaticAtomSet>::new(alloc, Limits::greatest()).expect(
+        &rt, "a world",
+    );
     let mut given = Vec::new(alloc);
-    world.run(script.as_slice(), &mut given)?;
+    world
+        .run(script.as_slice(), &mut given)
+        .expect(&rt, "replies");
     let is_clone = |reply: &&StepReply| **reply == Cloned { holders: 2 };
     let is_give = |reply: &&StepReply| **reply == Given { left: 1 };
     assert_eq!(rt; given.len(), 20_003);
     assert_eq!(rt; given.iter().filter(is_clone).count(), 10_000);
     assert_eq!(rt; given.iter().filter(is_give).count(), 10_000);
     assert_eq!(rt; world.count(1), Some(1));
-    Ok(())
 }

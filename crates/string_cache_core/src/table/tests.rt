@@ -66,8 +66,8 @@ fn next_ticket(word: u64) -> Option<u64> {
 }
 
 #[test]
-fn short_texts_have_inline_words(rt: HostRuntime) -> Result<(), Fail> {
-    let mut table = Table::<EmptyStaticAtomSet>::new(rt.alloc())?;
+fn short_texts_have_inline_words(rt: HostRuntime) {
+    let mut table = Table::<EmptyStaticAtomSet>::new(rt.alloc()).expect(&rt, "a table");
     for (text, word) in [
         ("", 0x1),
         ("\0", 0x11),
@@ -76,66 +76,70 @@ fn short_texts_have_inline_words(rt: HostRuntime) -> Result<(), Fail> {
         ("foo", 0x6f6f_6631),
         ("abcdefg", 0x6766_6564_6362_6171),
     ] {
-        assert_eq!(rt; intern(&mut table, text)?, word);
+        assert_eq!(rt; intern(&mut table, text).expect(&rt, "an answer"), word);
         assert!(rt; !has_text(&table, word, text));
         assert!(rt; holds(&table, word));
     }
     assert!(rt; keeps(&table, 0, 0));
-    Ok(())
 }
 
 #[test]
-fn one_text_has_one_ticket(rt: HostRuntime) -> Result<(), Fail> {
-    let mut table = Table::<EmptyStaticAtomSet>::new(rt.alloc())?;
-    let word = intern(&mut table, "abcdefgh")?;
+fn one_text_has_one_ticket(rt: HostRuntime) {
+    let mut table = Table::<EmptyStaticAtomSet>::new(rt.alloc()).expect(&rt, "a table");
+    let word = intern(&mut table, "abcdefgh").expect(&rt, "an answer");
     assert!(rt; is_first(word));
-    let other = intern(&mut table, "interned")?;
+    let other = intern(&mut table, "interned").expect(&rt, "an answer");
     assert!(rt; word != other);
-    assert_eq!(rt; intern(&mut table, "interned")?, other);
+    assert_eq!(rt;
+        intern(&mut table, "interned").expect(&rt, "an answer"),
+        other
+    );
     assert!(rt; has_text(&table, word, "abcdefgh"));
     assert!(rt; has_text(&table, other, "interned"));
-    Ok(())
 }
 
 #[test]
-fn static_texts_have_static_words(rt: HostRuntime) -> Result<(), Fail> {
-    let mut table = Table::<One>::new(rt.alloc())?;
-    assert_eq!(rt; intern(&mut table, "sentence")?, 2);
+fn static_texts_have_static_words(rt: HostRuntime) {
+    let mut table = Table::<One>::new(rt.alloc()).expect(&rt, "a table");
+    assert_eq!(rt; intern(&mut table, "sentence").expect(&rt, "an answer"), 2);
     assert!(rt; has_text(&table, 2, "sentence"));
     assert!(rt; holds(&table, 2));
     assert!(rt; !holds(&table, 1 << 32 | 2));
-    assert!(rt; is_first(intern(&mut table, "sentencf")?));
-    Ok(())
+    assert!(rt; is_first(intern(&mut table, "sentencf").expect(&rt, "an answer")));
 }
 
 #[test]
-fn a_word_goes_with_its_last_holder(rt: HostRuntime) -> Result<(), Fail> {
-    let mut table = Table::<EmptyStaticAtomSet>::new(rt.alloc())?;
-    let word = intern(&mut table, "interned")?;
-    assert_eq!(rt; intern(&mut table, "interned")?, word);
+fn a_word_goes_with_its_last_holder(rt: HostRuntime) {
+    let mut table = Table::<EmptyStaticAtomSet>::new(rt.alloc()).expect(&rt, "a table");
+    let word = intern(&mut table, "interned").expect(&rt, "an answer");
+    assert_eq!(rt;
+        intern(&mut table, "interned").expect(&rt, "an answer"),
+        word
+    );
     assert!(rt; keeps(&table, 1, 8));
     give(&rt, &mut table, word);
     give(&rt, &mut table, word);
     assert!(rt; !holds(&table, word));
     assert!(rt; !has_text(&table, word, "interned"));
     assert!(rt; keeps(&table, 0, 0));
-    let next = intern(&mut table, "interned")?;
+    let next = intern(&mut table, "interned").expect(&rt, "an answer");
     assert_eq!(rt; next_ticket(word), Some(next));
-    Ok(())
 }
 
 #[test]
-fn the_last_text_comes_in_the_place_of_one_that_goes(rt: HostRuntime) -> Result<(), Fail> {
-    let mut table = Table::<EmptyStaticAtomSet>::new(rt.alloc())?;
-    let first = intern(&mut table, "the first")?;
-    let second = intern(&mut table, "the second")?;
-    let third = intern(&mut table, "the third")?;
+fn the_last_text_comes_in_the_place_of_one_that_goes(rt: HostRuntime) {
+    let mut table = Table::<EmptyStaticAtomSet>::new(rt.alloc()).expect(&rt, "a table");
+    let first = intern(&mut table, "the first").expect(&rt, "an answer");
+    let second = intern(&mut table, "the second").expect(&rt, "an answer");
+    let third = intern(&mut table, "the third").expect(&rt, "an answer");
     give(&rt, &mut table, first);
     assert!(rt; has_text(&table, second, "the second"));
     assert!(rt; has_text(&table, third, "the third"));
-    assert_eq!(rt; intern(&mut table, "the third")?, third);
+    assert_eq!(rt;
+        intern(&mut table, "the third").expect(&rt, "an answer"),
+        third
+    );
     assert!(rt; keeps(&table, 2, 19));
-    Ok(())
 }
 
 fn intern_call(alloc: Global, text: &str) -> Result<Call, Fault> {
@@ -157,11 +161,11 @@ fn run_one(
 }
 
 #[test]
-fn calls_are_run(rt: HostRuntime) -> Result<(), Fail> {
+fn calls_are_run(rt: HostRuntime) {
     let alloc = rt.alloc();
-    let mut table = Table::<EmptyStaticAtomSet>::new(alloc)?;
-    let word = intern(&mut table, "interned")?;
-    let next = next_ticket(word).ok_or("no next ticket")?;
+    let mut table = Table::<EmptyStaticAtomSet>::new(alloc).expect(&rt, "a table");
+    let word = intern(&mut table, "interned").expect(&rt, "an answer");
+    let next = next_ticket(word).expect(&rt, "a next ticket");
     for (call, reply) in [
         (Call::Clone(word), TableReply::Word(word)),
         (Call::Give(word), TableReply::Given),
@@ -171,98 +175,123 @@ fn calls_are_run(rt: HostRuntime) -> Result<(), Fail> {
         (Call::Clone(3), TableReply::NotHeld),
         (Call::Clone(0x6111), TableReply::Word(0x6111)),
         (Call::Give(0x6111), TableReply::Given),
-        (intern_call(alloc, "foo")?, TableReply::Word(0x6f6f_6631)),
-        (intern_call(alloc, "interned")?, TableReply::Word(next)),
+        (
+            intern_call(alloc, "foo").expect(&rt, "an answer"),
+            TableReply::Word(0x6f6f_6631),
+        ),
+        (
+            intern_call(alloc, "interned").expect(&rt, "an answer"),
+            TableReply::Word(next),
+        ),
     ] {
-        assert_eq!(rt; run_one(alloc, &mut table, call)?, reply);
+        assert_eq!(rt;
+            run_one(alloc, &mut table, call).expect(&rt, "an answer"),
+            reply
+        );
     }
     assert!(rt; keeps(&table, 1, 8));
-    Ok(())
 }
 
 #[test]
-fn a_run_replies_to_each_call_in_order(rt: HostRuntime) -> Result<(), Fail> {
+fn a_run_replies_to_each_call_in_order(rt: HostRuntime) {
     let alloc = rt.alloc();
-    let mut table = Table::<EmptyStaticAtomSet>::new(alloc)?;
-    let mut calls = Vec::new(alloc);
-    calls.push(intern_call(alloc, "interned")?)?;
-    calls.push(Call::Give(0x6111))?;
-    calls.push(Call::Give(0))?;
-    calls.push(intern_call(alloc, "interned")?)?;
-    let replies = run(&mut table, &calls)?;
+    let mut table = Table::<EmptyStaticAtomSet>::new(alloc).expect(&rt, "a table");
+    let calls = vec![in alloc;
+        intern_call(alloc, "interned").expect(&rt, "a text"),
+        Call::Give(0x6111),
+        Call::Give(0),
+        intern_call(alloc, "interned").expect(&rt, "a text"),
+    ]
+    .expect(&rt, "room");
+    let replies = run(&mut table, &calls).expect(&rt, "replies");
     let [first, TableReply::Given, TableReply::NotHeld, last] = replies.as_slice() else {
-        return Err("other replies".into());
+        panic!(rt; "other replies");
     };
     assert_eq!(rt; *first, *last);
     assert!(rt; keeps(&table, 1, 8));
-    Ok(())
 }
 
 #[test]
-fn a_text_has_no_more_holders_than_its_limit(rt: HostRuntime) -> Result<(), Fail> {
-    let limits = Limits::new(2, 1).ok_or("limits")?;
-    let mut table = Table::<EmptyStaticAtomSet>::with_limits(rt.alloc(), limits)?;
-    let word = intern(&mut table, "interned")?;
-    assert_eq!(rt; intern(&mut table, "interned")?, word);
+fn a_text_has_no_more_holders_than_its_limit(rt: HostRuntime) {
+    let limits = Limits::new(2, 1).expect(&rt, "limits");
+    let mut table = Table::<EmptyStaticAtomSet>::with_limits(rt.alloc(), limits).expect(
+        &rt, "a table",
+    );
+    let word = intern(&mut table, "interned").expect(&rt, "an answer");
+    assert_eq!(rt;
+        intern(&mut table, "interned").expect(&rt, "an answer"),
+        word
+    );
     assert_eq!(rt; intern(&mut table, "interned"), Err(Fault::FullCount));
     assert!(rt; keeps(&table, 1, 8));
     assert_eq!(rt; clone_word(&rt, &mut table, word), Err(Fault::FullCount));
     give(&rt, &mut table, word);
-    assert_eq!(rt; clone_word(&rt, &mut table, word)?, word);
-    assert_eq!(rt; clone_word(&rt, &mut table, 0x6111)?, 0x6111);
-    Ok(())
+    assert_eq!(rt;
+        clone_word(&rt, &mut table, word).expect(&rt, "an answer"),
+        word
+    );
+    assert_eq!(rt;
+        clone_word(&rt, &mut table, 0x6111).expect(&rt, "an answer"),
+        0x6111
+    );
 }
 
 /// Interning twice, giving twice and interning again, in two runs.
 #[test]
-fn a_run_leaves_spent_tickets_spent(rt: HostRuntime) -> Result<(), Fail> {
+fn a_run_leaves_spent_tickets_spent(rt: HostRuntime) {
     let alloc = rt.alloc();
-    let mut table = Table::<EmptyStaticAtomSet>::new(alloc)?;
+    let mut table = Table::<EmptyStaticAtomSet>::new(alloc).expect(&rt, "a table");
     let word = 0x1_0840; // the first of bucket 0x210, the low bits of the text's hash 0x556a_6dba_06a4_7210
     let mut calls = Vec::new(alloc);
-    calls.push(intern_call(alloc, "interned")?)?;
-    calls.push(intern_call(alloc, "interned")?)?;
-    calls.push(Call::Give(word))?;
-    calls.push(Call::Give(word))?;
-    let replies = run(&mut table, &calls)?;
+    calls
+        .push(intern_call(alloc, "interned").expect(&rt, "an answer"))
+        .expect(&rt, "room");
+    calls
+        .push(intern_call(alloc, "interned").expect(&rt, "an answer"))
+        .expect(&rt, "room");
+    calls.push(Call::Give(word)).expect(&rt, "room");
+    calls.push(Call::Give(word)).expect(&rt, "room");
+    let replies = run(&mut table, &calls).expect(&rt, "an answer");
     let given = TableReply::Given;
     let interned = TableReply::Word(word);
     assert!(rt; replies.as_slice() == [interned, interned, given, given].as_slice());
     assert!(rt; keeps(&table, 0, 0));
-    let next = run_one(alloc, &mut table, intern_call(alloc, "interned")?)?;
+    let next = run_one(
+        alloc,
+        &mut table,
+        intern_call(alloc, "interned").expect(&rt, "an answer"),
+    )
+    .expect(&rt, "an answer");
     assert_eq!(rt; next, TableReply::Word(word + TICKET_UNIT));
-    Ok(())
 }
 
 #[test]
-fn many_calls_are_one_run(rt: HostRuntime) -> Result<(), Fail> {
+fn many_calls_are_one_run(rt: HostRuntime) {
     let alloc = rt.alloc();
-    let mut table = Table::<EmptyStaticAtomSet>::new(alloc)?;
-    let word = intern(&mut table, "interned")?;
+    let mut table = Table::<EmptyStaticAtomSet>::new(alloc).expect(&rt, "a table");
+    let word = intern(&mut table, "interned").expect(&rt, "an answer");
     let mut calls = Vec::new(alloc);
     for _ in 0..10_000 {
-        calls.push(Call::Clone(word))?;
+        calls.push(Call::Clone(word)).expect(&rt, "room");
     }
-    let replies = run(&mut table, &calls)?;
+    let replies = run(&mut table, &calls).expect(&rt, "an answer");
     assert_eq!(rt; replies.len(), 10_000);
     assert!(rt; replies.iter().all(|reply| *reply == TableReply::Word(word)));
-    Ok(())
 }
 
 #[test]
-fn a_large_text_is_interned(rt: HostRuntime) -> Result<(), Fail> {
+fn a_large_text_is_interned(rt: HostRuntime) {
     let mut text = String::new(rt.alloc());
     for _ in 0..25_000 {
-        text.push_str("interned")?;
+        text.push_str("interned").expect(&rt, "room");
     }
-    let mut table = Table::<EmptyStaticAtomSet>::new(rt.alloc())?;
-    let word = intern(&mut table, &text)?;
+    let mut table = Table::<EmptyStaticAtomSet>::new(rt.alloc()).expect(&rt, "a table");
+    let word = intern(&mut table, &text).expect(&rt, "an answer");
     assert!(rt; is_first(word));
     assert!(rt; has_text(&table, word, &text));
     assert!(rt; keeps(&table, 1, 200_000));
     give(&rt, &mut table, word);
     assert!(rt; keeps(&table, 0, 0));
-    Ok(())
 }
 
 /// The bucket of a text without static tables.
@@ -297,16 +326,23 @@ fn bucket_numbers(alloc: Global) -> Result<Vec<Buckets>, Fail> {
 
 #[test]
 fn a_bucket_gives_no_more_tickets_than_its_limit(rt: HostRuntime) -> Result<(), Fail> {
-    let limits = Limits::new(1, 1).ok_or("limits")?;
+    let limits = Limits::new(1, 1).expect(&rt, "limits");
     for buckets in bucket_numbers(rt.alloc())? {
         let (first, second) = bucket_mates(rt.alloc(), buckets)?;
-        let mut table = Table::<EmptyStaticAtomSet>::with_buckets(rt.alloc(), limits, buckets)?;
-        let word = intern(&mut table, &first)?;
+        let mut table = Table::<EmptyStaticAtomSet>::with_buckets(
+            rt.alloc(),
+            limits,
+            buckets,
+        ).expect(&rt, "a table");
+        let word = intern(&mut table, &first).expect(&rt, "an answer");
         assert!(rt; is_first(word));
         assert_eq!(rt; intern(&mut table, &second), Err(Fault::TicketsSpent));
         give(&rt, &mut table, word);
         assert_eq!(rt; intern(&mut table, &first), Err(Fault::TicketsSpent));
-        assert_eq!(rt; intern(&mut table, "abc")?, 0x6362_6131);
+        assert_eq!(rt;
+            intern(&mut table, "abc").expect(&rt, "an answer"),
+            0x6362_6131
+        );
     }
     Ok(())
 }
@@ -320,25 +356,33 @@ fn a_ticket_has_the_low_bits_of_the_hash(rt: HostRuntime) -> Result<(), Fail> {
             rt.alloc(),
             Limits::greatest(),
             buckets,
-        )?;
-        assert_eq!(rt; intern(&mut table, "interned")?, word);
+        ).expect(&rt, "a table");
+        assert_eq!(rt;
+            intern(&mut table, "interned").expect(&rt, "an answer"),
+            word
+        );
         give(&rt, &mut table, word);
-        let next = intern(&mut table, "interned")?;
+        let next = intern(&mut table, "interned").expect(&rt, "an answer");
         assert_eq!(rt; next_ticket(word), Some(next));
     }
     Ok(())
 }
 
 #[test]
-fn one_bucket_gives_all_tickets(rt: HostRuntime) -> Result<(), Fail> {
-    let buckets = Buckets::new(0).ok_or("bits")?;
+fn one_bucket_gives_all_tickets(rt: HostRuntime) {
+    let buckets = Buckets::new(0).expect(&rt, "bits");
     let mut table = Table::<EmptyStaticAtomSet>::with_buckets(
         rt.alloc(),
         Limits::greatest(),
         buckets,
-    )?;
-    assert_eq!(rt; intern(&mut table, "interned")?, 0x1_0000);
-    assert_eq!(rt; intern(&mut table, "tokenised")?, 0x2_0000);
+    ).expect(&rt, "a table");
+    assert_eq!(rt;
+        intern(&mut table, "interned").expect(&rt, "an answer"),
+        0x1_0000
+    );
+    assert_eq!(rt;
+        intern(&mut table, "tokenised").expect(&rt, "an answer"),
+        0x2_0000
+    );
     assert!(rt; keeps(&table, 2, 17));
-    Ok(())
 }

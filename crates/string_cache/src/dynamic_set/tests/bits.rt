@@ -23,13 +23,13 @@ fn words_have_the_bits_of_their_set(rt: HostRuntime) -> Result<(), Fail> {
     for (buckets, (place, first, second)) in bucket_numbers(rt.alloc())?.into_iter().zip(places) {
         let set = set_of(rt.alloc(), buckets)?;
         assert_eq!(rt; set.buckets.len(), buckets.number());
-        let atom = DefaultAtom::from_str_in(&rt, &set, "interned")?;
+        let atom = DefaultAtom::from_str_in(&rt, &set, "interned").expect(&rt, "an atom");
         assert_eq!(rt; atom.unsafe_data(), first);
         for (at, bucket) in set.buckets.iter().enumerate() {
             assert!(rt; bucket.lock(&rt).len() == usize::from(at == place));
         }
         drop(atom);
-        let next = DefaultAtom::from_str_in(&rt, &set, "interned")?;
+        let next = DefaultAtom::from_str_in(&rt, &set, "interned").expect(&rt, "an atom");
         assert_eq!(rt; next.unsafe_data(), second);
     }
     Ok(())
@@ -37,10 +37,10 @@ fn words_have_the_bits_of_their_set(rt: HostRuntime) -> Result<(), Fail> {
 
 #[test]
 fn one_bucket_gives_all_tickets(rt: HostRuntime) -> Result<(), Fail> {
-    let buckets = Buckets::new(0).ok_or("bits")?;
+    let buckets = Buckets::new(0).expect(&rt, "bits");
     let set = set_of(rt.alloc(), buckets)?;
-    let first = DefaultAtom::from_str_in(&rt, &set, "interned")?;
-    let second = DefaultAtom::from_str_in(&rt, &set, "tokenised")?;
+    let first = DefaultAtom::from_str_in(&rt, &set, "interned").expect(&rt, "an atom");
+    let second = DefaultAtom::from_str_in(&rt, &set, "tokenised").expect(&rt, "an atom");
     assert_eq!(rt; first.unsafe_data(), 0x1_0000);
     assert_eq!(rt; second.unsafe_data(), 0x2_0000);
     assert_eq!(rt; set.linked(&rt), 2);
@@ -67,14 +67,14 @@ fn sweep_takes_the_first_and_the_last_bucket(rt: HostRuntime) -> Result<(), Fail
         let first = text_of_bucket(alloc, buckets, 0)?;
         let last = text_of_bucket(alloc, buckets, buckets.number() - 1)?;
         let atoms = (
-            DefaultAtom::from_str_in(&rt, &set, &first)?,
-            DefaultAtom::from_str_in(&rt, &set, &last)?,
+            DefaultAtom::from_str_in(&rt, &set, &first).expect(&rt, "an atom"),
+            DefaultAtom::from_str_in(&rt, &set, &last).expect(&rt, "an atom"),
         );
         let linked = set.linked(&rt);
         assert!(rt; linked == if buckets.bits() == 0 { 1 } else { 2 });
         let mut held = Vec::new(alloc);
         for bucket in &set.buckets {
-            held.push(bucket.lock(&rt))?;
+            held.push(bucket.lock(&rt)).expect(&rt, "room");
         }
         drop(atoms);
         drop(held);

@@ -35,7 +35,7 @@ fn ticket(serial: u64) -> u64 {
 
 /// Entries go from anywhere among the nodes, and the others stay in order.
 #[test]
-fn entries_go_one_by_one(rt: HostRuntime) -> Result<(), Fail> {
+fn entries_go_one_by_one(rt: HostRuntime) {
     let limits = Limits::greatest();
     // The serials in the order in which their entries go, and those of the three newest entries after each.
     for goes in [
@@ -61,7 +61,7 @@ fn entries_go_one_by_one(rt: HostRuntime) -> Result<(), Fail> {
         let mut bucket = Bucket::new(rt.alloc(), Buckets::usual());
         for _ in 0..9u64 {
             if let Err(Fault::Memory) = link(&mut bucket, "tokenised", &limits) {
-                link(&mut bucket, "tokenised", &limits)?;
+                link(&mut bucket, "tokenised", &limits).expect(&rt, "an answer");
             }
         }
         assert!(rt; bucket.len() == 9);
@@ -75,5 +75,4 @@ fn entries_go_one_by_one(rt: HostRuntime) -> Result<(), Fail> {
         }
         assert!(rt; bucket.len() == 5);
     }
-    Ok(())
 }

@@ -8,16 +8,15 @@ use crate::{Atom, DefaultAtom, Fault};
 use serde_json::Value;
 use std::sync::atomic::{AtomicBool, Ordering};
 use std::sync::{Mutex, Wait};
-use std::test::Fail;
 use std::thread::{self, Threads};
 use std::time::{Clock, Duration};
 
 /// The other buckets' locks are free meanwhile, and the drop returns.
 #[test]
-fn last_drop_under_a_held_lock(rt: HostRuntime) -> Result<(), Fail> {
-    let set: Set<EmptyStaticAtomSet> = Set::new(rt.alloc())?;
-    let atom = Atom::from_str_in(&rt, &set, "interned")?;
-    let held = set.buckets.get(0x210).ok_or("no bucket")?.lock(&rt);
+fn last_drop_under_a_held_lock(rt: HostRuntime) {
+    let set: Set<EmptyStaticAtomSet> = Set::new(rt.alloc()).expect(&rt, "a set");
+    let atom = Atom::from_str_in(&rt, &set, "interned").expect(&rt, "an atom");
+    let held = set.buckets.get(0x210).expect(&rt, "a bucket").lock(&rt);
     for (at, bucket) in set.buckets.iter().enumerate() {
         assert!(rt; bucket.try_lock().is_some() == (at != 0x210));
     }
@@ -26,95 +25,98 @@ fn last_drop_under_a_held_lock(rt: HostRuntime) -> Result<(), Fail> {
     assert!(rt; set.linked(&rt) == 1);
     set.sweep(&rt);
     assert!(rt; set.linked(&rt) == 0);
-    Ok(())
 }
 
 #[test]
-fn text_of_a_dying_entry_gets_a_new_one(rt: HostRuntime) -> Result<(), Fail> {
-    let set: Set<EmptyStaticAtomSet> = Set::new(rt.alloc())?;
-    let atom = Atom::from_str_in(&rt, &set, "interned")?;
-    let held = set.buckets.get(0x210).ok_or("no bucket")?.lock(&rt);
+fn text_of_a_dying_entry_gets_a_new_one(rt: HostRuntime) {
+    let set: Set<EmptyStaticAtomSet> = Set::new(rt.alloc()).expect(&rt, "a set");
+    let atom = Atom::from_str_in(&rt, &set, "interned").expect(&rt, "an atom");
+    let held = set.buckets.get(0x210).expect(&rt, "a bucket").lock(&rt);
     drop(atom);
     drop(held);
-    let next = Atom::from_str_in(&rt, &set, "interned")?;
+    let next = Atom::from_str_in(&rt, &set, "interned").expect(&rt, "an atom");
     assert!(rt; next.unsafe_data() == ticket_word(2, 0x210));
     assert!(rt; set.linked(&rt) == 1);
-    Ok(())
 }
 
 /// Passes for the other text, interning both again, sweeps and drops that aren't the last leave an entry that has a share.
 #[test]
-fn held_texts_stay_linked(rt: HostRuntime) -> Result<(), Fail> {
-    let set: Set<EmptyStaticAtomSet> = Set::new(rt.alloc())?;
-    let forgotten = Atom::from_str_in(&rt, &set, "forgotten")?;
-    let magnitude = Atom::from_str_in(&rt, &set, "magnitude")?;
+fn held_texts_stay_linked(rt: HostRuntime) {
+    let set: Set<EmptyStaticAtomSet> = Set::new(rt.alloc()).expect(&rt, "a set");
+    let forgotten = Atom::from_str_in(&rt, &set, "forgotten").expect(&rt, "an atom");
+    let magnitude = Atom::from_str_in(&rt, &set, "magnitude").expect(&rt, "an atom");
     assert!(rt; forgotten.unsafe_data() == ticket_word(1, 0x72f));
     assert!(rt; magnitude.unsafe_data() == ticket_word(2, 0x72f));
     for _ in 0..2 {
         assert!(rt;
-            Atom::from_str_in(&rt, &set, "forgotten")?.unsafe_data() == forgotten.unsafe_data()
+            Atom::from_str_in(&rt, &set, "forgotten")
+                .expect(&rt, "an atom")
+                .unsafe_data()
+                == forgotten.unsafe_data()
         );
         assert!(rt;
-            Atom::from_str_in(&rt, &set, "magnitude")?.unsafe_data() == magnitude.unsafe_data()
+            Atom::from_str_in(&rt, &set, "magnitude")
+                .expect(&rt, "an atom")
+                .unsafe_data()
+                == magnitude.unsafe_data()
         );
         set.sweep(&rt);
         assert!(rt; set.linked(&rt) == 2);
     }
     drop(forgotten);
     assert!(rt; set.linked(&rt) == 1 && magnitude.as_str() == "magnitude");
-    Ok(())
 }
 
 /// Entries die under held locks, so that their own drops leave them linked.
 #[test]
-fn sweep_reaches_each_bucket(rt: HostRuntime) -> Result<(), Fail> {
-    let set: Set<EmptyStaticAtomSet> = Set::new(rt.alloc())?;
+fn sweep_reaches_each_bucket(rt: HostRuntime) {
+    let owned: Set<EmptyStaticAtomSet> = Set::new(rt.alloc()).expect(&rt, "a set");
+    let set = &owned;
     let mut atoms = Vec::new(rt.alloc());
     for text in ["afterwards", "forgotten", "magnitude", "geometric"] {
-        atoms.push(Atom::from_str_in(&rt, &set, text)?)?;
+        let atom = Atom::from_str_in(&rt, set, text).expect(&rt, "an atom");
+        atoms.push(atom).expect(&rt, "room");
     }
     assert!(rt; set.linked(&rt) == 4);
-    let held = (
-        set.buckets.get(0).ok_or("no bucket")?.lock(&rt),
-        set.buckets.get(0x72f).ok_or("no bucket")?.lock(&rt),
-        set.buckets.get(0xfff).ok_or("no bucket")?.lock(&rt),
-    );
+    let first = set.buckets.get(0).expect(&rt, "a bucket").lock(&rt);
+    let second = set.buckets.get(0x72f).expect(&rt, "a bucket").lock(&rt);
+    let last = set.buckets.get(0xfff).expect(&rt, "a bucket").lock(&rt);
     drop(atoms);
-    drop(held);
+    drop(first);
+    drop(second);
+    drop(last);
     assert!(rt; set.linked(&rt) == 4);
     set.sweep(&rt);
     assert!(rt; set.linked(&rt) == 0);
-    Ok(())
 }
 
 #[test]
-fn drop_of_one_of_two_shares_takes_out_nothing(rt: HostRuntime) -> Result<(), Fail> {
-    let set: Set<EmptyStaticAtomSet> = Set::new(rt.alloc())?;
-    let dying = Atom::from_str_in(&rt, &set, "forgotten")?;
-    let first = Atom::from_str_in(&rt, &set, "magnitude")?;
-    let second = first.clone_atom(&rt)?;
-    let held = set.buckets.get(0x72f).ok_or("no bucket")?.lock(&rt);
+fn drop_of_one_of_two_shares_takes_out_nothing(rt: HostRuntime) {
+    let set: Set<EmptyStaticAtomSet> = Set::new(rt.alloc()).expect(&rt, "a set");
+    let dying = Atom::from_str_in(&rt, &set, "forgotten").expect(&rt, "an atom");
+    let first = Atom::from_str_in(&rt, &set, "magnitude").expect(&rt, "an atom");
+    let second = first.clone_atom(&rt).expect(&rt, "an atom");
+    let held = set.buckets.get(0x72f).expect(&rt, "a bucket").lock(&rt);
     drop(dying);
     drop(held);
     drop(second);
     assert!(rt; set.linked(&rt) == 2);
     drop(first);
     assert!(rt; set.linked(&rt) == 0);
-    Ok(())
 }
 
 /// Entries of other buckets that died under their locks stay linked, and no lock is kept.
 #[test]
-fn last_drop_prunes_its_own_bucket_alone(rt: HostRuntime) -> Result<(), Fail> {
-    let set: Set<EmptyStaticAtomSet> = Set::new(rt.alloc())?;
-    let atom = Atom::from_str_in(&rt, &set, "interned")?;
+fn last_drop_prunes_its_own_bucket_alone(rt: HostRuntime) {
+    let set: Set<EmptyStaticAtomSet> = Set::new(rt.alloc()).expect(&rt, "a set");
+    let atom = Atom::from_str_in(&rt, &set, "interned").expect(&rt, "an atom");
     let others = (
-        Atom::from_str_in(&rt, &set, "afterwards")?,
-        Atom::from_str_in(&rt, &set, "geometric")?,
+        Atom::from_str_in(&rt, &set, "afterwards").expect(&rt, "an atom"),
+        Atom::from_str_in(&rt, &set, "geometric").expect(&rt, "an atom"),
     );
     let held = (
-        set.buckets.get(0).ok_or("no bucket")?.lock(&rt),
-        set.buckets.get(0xfff).ok_or("no bucket")?.lock(&rt),
+        set.buckets.get(0).expect(&rt, "a bucket").lock(&rt),
+        set.buckets.get(0xfff).expect(&rt, "a bucket").lock(&rt),
     );
     drop(others);
     drop(held);
@@ -125,7 +127,6 @@ fn last_drop_prunes_its_own_bucket_alone(rt: HostRuntime) -> Result<(), Fail> {
     for _ in 0..2 {
         assert!(rt; set.linked(&rt) == 2);
     }
-    Ok(())
 }
 
 /// What the call gives, and whether it ended while this thread had the locks. They are let go after so many milliseconds.
@@ -174,12 +175,12 @@ fn work_without_locks<R: Wait>(rt: &R, set: &Set<One>, dynamic: &Atom<One>) -> R
 }
 
 #[test]
-fn calls_that_take_no_lock(rt: HostRuntime) -> Result<(), Fail> {
-    let set: Set<One> = Set::new(rt.alloc())?;
-    let dynamic = Atom::from_str_in(&rt, &set, "interned")?;
+fn calls_that_take_no_lock(rt: HostRuntime) {
+    let set: Set<One> = Set::new(rt.alloc()).expect(&rt, "a set");
+    let dynamic = Atom::from_str_in(&rt, &set, "interned").expect(&rt, "an atom");
     let mut held = Vec::new(rt.alloc());
     for bucket in &set.buckets {
-        held.push(bucket.lock(&rt))?;
+        held.push(bucket.lock(&rt)).expect(&rt, "room");
     }
     let (handle, shared, atom) = (&rt, &set, &dynamic);
     let (is_right, ended) = beside(
@@ -189,8 +190,7 @@ fn calls_that_take_no_lock(rt: HostRuntime) -> Result<(), Fail> {
         || work_without_locks(handle, shared, atom),
     );
     assert!(rt; ended);
-    assert!(rt; is_right?);
-    Ok(())
+    assert!(rt; is_right.expect(&rt, "an answer"));
 }
 
 /// Interns a text twice, and drops both atoms. Whether their words were the first ticket's.
@@ -202,33 +202,31 @@ fn intern_twice<R: Wait>(rt: &R, set: &Set<EmptyStaticAtomSet>) -> Result<bool, 
 }
 
 #[test]
-fn interning_takes_the_lock_of_one_bucket(rt: HostRuntime) -> Result<(), Fail> {
-    let set: Set<EmptyStaticAtomSet> = Set::new(rt.alloc())?;
+fn interning_takes_the_lock_of_one_bucket(rt: HostRuntime) {
+    let set: Set<EmptyStaticAtomSet> = Set::new(rt.alloc()).expect(&rt, "a set");
     let mut held = Vec::new(rt.alloc());
     for (at, bucket) in set.buckets.iter().enumerate() {
         if at != 0x210 {
-            held.push(bucket.lock(&rt))?;
+            held.push(bucket.lock(&rt)).expect(&rt, "room");
         }
     }
     let (handle, shared) = (&rt, &set);
     let (is_first, ended) = beside(&rt, 10_000, held, || intern_twice(handle, shared));
     assert!(rt; ended);
-    assert!(rt; is_first?);
+    assert!(rt; is_first.expect(&rt, "an answer"));
     assert!(rt; set.linked(&rt) == 0);
-    Ok(())
 }
 
 #[test]
-fn linked_waits_for_each_lock(rt: HostRuntime) -> Result<(), Fail> {
-    let set: Set<EmptyStaticAtomSet> = Set::new(rt.alloc())?;
-    let _first = Atom::from_str_in(&rt, &set, "afterwards")?;
-    let _last = Atom::from_str_in(&rt, &set, "geometric")?;
-    let held = set.buckets.get(0xfff).ok_or("no bucket")?.lock(&rt);
+fn linked_waits_for_each_lock(rt: HostRuntime) {
+    let set: Set<EmptyStaticAtomSet> = Set::new(rt.alloc()).expect(&rt, "a set");
+    let _first = Atom::from_str_in(&rt, &set, "afterwards").expect(&rt, "an atom");
+    let _last = Atom::from_str_in(&rt, &set, "geometric").expect(&rt, "an atom");
+    let held = set.buckets.get(0xfff).expect(&rt, "a bucket").lock(&rt);
     let (handle, shared) = (&rt, &set);
     let (sum, ended) = beside(&rt, 1_000, held, || shared.linked(handle));
     assert!(rt; !ended);
     assert!(rt; sum == 2);
-    Ok(())
 }
 
 /// Whether the bucket is without entries within ten seconds.
@@ -244,15 +242,15 @@ fn is_emptied<R: Wait + Clock>(rt: &R, bucket: &Mutex<Bucket<EmptyStaticAtomSet>
 
 /// The first bucket is swept while the last one's lock is held, and the last one once that is let go.
 #[test]
-fn sweep_goes_on_to_the_last_bucket(rt: HostRuntime) -> Result<(), Fail> {
-    let set: Set<EmptyStaticAtomSet> = Set::new(rt.alloc())?;
+fn sweep_goes_on_to_the_last_bucket(rt: HostRuntime) {
+    let set: Set<EmptyStaticAtomSet> = Set::new(rt.alloc()).expect(&rt, "a set");
     let atoms = (
-        Atom::from_str_in(&rt, &set, "afterwards")?,
-        Atom::from_str_in(&rt, &set, "geometric")?,
+        Atom::from_str_in(&rt, &set, "afterwards").expect(&rt, "an atom"),
+        Atom::from_str_in(&rt, &set, "geometric").expect(&rt, "an atom"),
     );
-    let first = set.buckets.get(0).ok_or("no bucket")?;
+    let first = set.buckets.get(0).expect(&rt, "a bucket");
     let of_first = first.lock(&rt);
-    let of_last = set.buckets.get(0xfff).ok_or("no bucket")?.lock(&rt);
+    let of_last = set.buckets.get(0xfff).expect(&rt, "a bucket").lock(&rt);
     drop(atoms);
     drop(of_first);
     let (handle, shared) = (&rt, &set);
@@ -268,5 +266,4 @@ fn sweep_goes_on_to_the_last_bucket(rt: HostRuntime) -> Result<(), Fail> {
     );
     assert!(rt; is_first_swept);
     assert!(rt; set.linked(&rt) == 0);
-    Ok(())
 }

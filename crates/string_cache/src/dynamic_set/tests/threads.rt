@@ -4,7 +4,6 @@ use crate::static_sets::EmptyStaticAtomSet;
 use crate::word::Limits;
 use crate::{Atom, DefaultAtom, Fault};
 use std::sync::Wait;
-use std::test::Fail;
 use std::thread;
 
 /// Interns, clones and drops each of the texts, again and again. Whether each atom had its text.
@@ -21,18 +20,17 @@ fn turn_over<R: Wait>(rt: &R, set: &Set<EmptyStaticAtomSet>) -> Result<bool, Fau
 }
 
 #[test]
-fn threads_at_work(rt: HostRuntime) -> Result<(), Fail> {
-    let set: Set<EmptyStaticAtomSet> = Set::new(rt.alloc())?;
+fn threads_at_work(rt: HostRuntime) {
+    let set: Set<EmptyStaticAtomSet> = Set::new(rt.alloc()).expect(&rt, "a set");
     let (shared, handle) = (&set, &rt);
     let (left, right) = thread::join(
         &rt,
         || turn_over(handle, shared),
         || turn_over(handle, shared),
     );
-    assert!(rt; left? && right?);
+    assert!(rt; left.expect(&rt, "an answer") && right.expect(&rt, "an answer"));
     set.sweep(&rt);
     assert!(rt; set.linked(&rt) == 0);
-    Ok(())
 }
 
 /// Clones and drops the atom, again and again.
@@ -45,23 +43,25 @@ fn clone_and_drop<R: Wait>(rt: &R, atom: &DefaultAtom) -> Result<(), Fault> {
 
 /// No share is lost or left over, and none is refused, though both threads change one count.
 #[test]
-fn one_atom_in_two_threads(rt: HostRuntime) -> Result<(), Fail> {
+fn one_atom_in_two_threads(rt: HostRuntime) {
     let limits = Limits::new(3, 9).expect(&rt, "limits");
-    let set: Set<EmptyStaticAtomSet> = Set::with_limits(rt.alloc(), limits)?;
-    let atom = Atom::from_str_in(&rt, &set, "interned")?;
+    let set: Set<EmptyStaticAtomSet> = Set::with_limits(rt.alloc(), limits).expect(&rt, "a set");
+    let atom = Atom::from_str_in(&rt, &set, "interned").expect(&rt, "an atom");
     let (shared, handle) = (&atom, &rt);
     let (left, right) = thread::join(
         &rt,
         || clone_and_drop(handle, shared),
         || clone_and_drop(handle, shared),
     );
-    left?;
-    right?;
+    left.expect(&rt, "an answer");
+    right.expect(&rt, "an answer");
     assert!(rt; set.linked(&rt) == 1 && atom.as_str() == "interned");
-    let (second, third) = (atom.clone_atom(&rt)?, atom.clone_atom(&rt)?);
+    let (second, third) = (
+        atom.clone_atom(&rt).expect(&rt, "an atom"),
+        atom.clone_atom(&rt).expect(&rt, "an atom"),
+    );
     assert!(rt; matches!(atom.clone_atom(&rt), Err(Fault::FullCount)));
     drop((second, third));
     drop(atom);
     assert!(rt; set.linked(&rt) == 0);
-    Ok(())
 }

@@ -7,7 +7,6 @@ use crate::table::{Call, Table, TableReply};
 use crate::word::{Buckets, Limits};
 use std::alloc::{AllocError, Global};
 use std::process::Abort;
-use std::test::Fail;
 
 const TEXT: &str = "interned";
 
@@ -175,7 +174,7 @@ fn history_of(
     alloc: Global,
     world: &mut World<EmptyStaticAtomSet>,
     steps: &[(u32, Do)],
-) -> Result<History, Fail> {
+) -> Result<History, Fault> {
     let mut history = History::new(alloc);
     for (party, step) in steps {
         let reply = world.step(*party, step_of(alloc, *step)?)?;
@@ -192,26 +191,28 @@ fn held(world: &World<EmptyStaticAtomSet>) -> usize {
 }
 
 /// Makes a merge's steps in a world, and the calls that they are in a table, both with so many buckets.
-fn check_merge(rt: &impl Abort, alloc: Global, buckets: Buckets, merge: u32) -> Result<(), Fail> {
+fn check_merge(rt: &impl Abort, alloc: Global, buckets: Buckets, merge: u32) {
     let limits = Limits::greatest();
-    let steps = steps_of(alloc, merge)?;
+    let steps = steps_of(alloc, merge).expect(rt, "steps");
     assert_eq!(rt; steps.len(), 12, "in merge {merge}");
-    let mut world = World::<EmptyStaticAtomSet>::with_buckets(alloc, limits, buckets)?;
-    let history = history_of(alloc, &mut world, &steps)?;
-    let mut table = Table::<EmptyStaticAtomSet>::with_buckets(alloc, limits, buckets)?;
-    let replies = table.run(&history.calls)?;
+    let mut world = World::<EmptyStaticAtomSet>::with_buckets(alloc, limits, buckets).expect(
+        rt, "a world",
+    );
+    let history = history_of(alloc, &mut world, &steps).expect(rt, "a history");
+    let mut table = Table::<EmptyStaticAtomSet>::with_buckets(alloc, limits, buckets).expect(
+        rt, "a table",
+    );
+    let replies = table.run(&history.calls).expect(rt, "replies");
     assert!(rt; replies == history.replies, "in merge {merge}");
     assert_eq!(rt; table.entries(), held(&world), "in merge {merge}");
-    Ok(())
 }
 
 #[test]
-fn merges_are_histories_of_a_table(rt: HostRuntime) -> Result<(), Fail> {
+fn merges_are_histories_of_a_table(rt: HostRuntime) {
     for bits in [0, 12, 14] {
-        let buckets = Buckets::new(bits).ok_or("bits")?;
+        let buckets = Buckets::new(bits).expect(&rt, "bits");
         for merge in 0..243 {
-            check_merge(&rt, rt.alloc(), buckets, merge)?;
+            check_merge(&rt, rt.alloc(), buckets, merge);
         }
     }
-    Ok(())
 }
