@@ -3,7 +3,7 @@
 
 A file crates/NAME/caught/*.edit has a first line 'test: FUNCTION', which names the test by the end of its path, and then, as
 a must-fail edit, lines 'file: src/..', 'old: TEXT' and 'new: TEXT'. Each edit is applied to a copy of the repository, whose
-tests run without proofs (rt try --test) up to the named one. Before that, each named test has to pass over the crate as it is.
+tests of that name run without proofs (rt try --test). Before that, each named test has to pass over the crate as it is.
 
 Where a type alone forbids the body, the first line is 'error: TEXT': the compiler's error, which has to come.
 
@@ -120,18 +120,16 @@ def end_hint(ran):
         time.sleep(0.1)
 
 
-def outcomes(crate, seconds, test=None):
-    """Runs the crate's tests without proofs, up to the named one: what became of each, by its path, and all that was said."""
-    command = ["rt", "try", "--test", "--seconds", str(seconds)]
+def outcomes(crate, seconds, test=""):
+    """Runs the crate's tests whose paths contain the name, without proofs: what became of each, by its path, and all that was
+    said."""
+    command = ["rt", "try", "--test", "--seconds", str(seconds), "--", test]
     ran = subprocess.Popen(command, cwd=crate, stdin=subprocess.DEVNULL, stdout=subprocess.PIPE, stderr=subprocess.STDOUT)
     end_hint(ran)
     found, said = {}, []
     for line in ran.stdout:
         said.append(line.decode(errors="replace"))
         found.update(TEST.findall(said[-1]))
-        if test and ended(found, test):
-            ran.terminate()
-            break
     ran.stdout.close()
     ran.wait()
     return found, "".join(said)

@@ -74,13 +74,15 @@ def grid(left, call):
         yield f'<text x="{x:.1f}" y="{TOP + HEIGHT + 16}" text-anchor="middle">{short(texts)}</text>'
 
 
-def curve(left, bits, points):
+def curve(left, bits, points, is_lowest):
+    """A curve with its name at its end: well below the lowest one, and above the others."""
     places = [(across(left, texts), down(nanos)) for texts, nanos in sorted(points)]
     path = " ".join(f"{x:.1f},{y:.1f}" for x, y in places)
     yield f'<polyline class="line bits{bits}" points="{path}"/>'
     yield from (f'<circle class="dot bits{bits}" cx="{x:.1f}" cy="{y:.1f}" r="2.5"/>' for x, y in places)
     x, y = places[-1]
-    yield f'<text x="{x + 6:.1f}" y="{y + 4:.1f}">{2**bits:,} buckets</text>'
+    anchor, right, under = ("middle", 0, 54) if is_lowest else ("end", -6, -4)
+    yield f'<text x="{x + right:.1f}" y="{y + under:.1f}" text-anchor="{anchor}">{2**bits:,} buckets</text>'
 
 
 def main():
@@ -94,9 +96,10 @@ def main():
     for number, call in enumerate(CALLS):
         left = LEFT + number * (WIDTH + APART)
         print("\n".join(grid(left, call)))
+        most = max(bits for _, bits in curves)
         for (name, bits), points in sorted(curves.items()):
             if name == call:
-                print("\n".join(curve(left, bits, points)))
+                print("\n".join(curve(left, bits, points, bits == most)))
     print(f'<text x="{LEFT}" y="{TOP + HEIGHT + 36}">live texts, and the time of one call</text>')
     print("</svg>")
 
