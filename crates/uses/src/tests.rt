@@ -80,14 +80,19 @@ fn threads_agree(rt: HostRuntime) -> Result<(), Fail> {
     Ok(())
 }
 
+/// Whether the tag of a name is static, and whether it is a field's.
+fn told_of_tag<R: Wait>(rt: &R, set: &Set<Tags>, name: &str) -> Result<(bool, bool), Fault> {
+    let tag = Atom::<Tags>::from_str_in(rt, set, name)?;
+    Ok((tag.is_static(), is_field(&tag)))
+}
+
 #[test]
 fn tags_are_static(rt: HostRuntime) -> Result<(), Fail> {
     assert!(rt; TAGS.check() && finds_all::<Tags>());
     let set = Set::new(rt.alloc())?;
     for (name, is_static) in [("textarea", true), ("table", false), ("sentence", false)] {
-        let tag = Atom::<Tags>::from_str_in(&rt, &set, name)?;
-        assert_eq!(rt; tag.is_static(), is_static, "of {name}");
-        assert_eq!(rt; is_field(&tag), name == "textarea", "of {name}");
+        let found = told_of_tag(&rt, &set, name)?;
+        assert_eq!(rt; found, (is_static, name == "textarea"), "of {name}");
     }
     Ok(())
 }
