@@ -181,80 +181,82 @@ fn hopeless_search(rt: HostRuntime) -> Result<(), Fail> {
     Ok(())
 }
 
+/// Texts, and whether each is the table text of perfect tables.
+const TABLE_TEXTS: [(&str, bool); 32] = [
+    ("key 0\ndisp 0 0\natom 1122334455667788 sentence\n", true),
+    (
+        "key 0\ndisp 0 0\natom 1122334455667788 sentence\natom 1122334455667788 sentence\n",
+        false,
+    ),
+    ("key 0\ndisp 0 0\natom 1122334455667788 sentence", false),
+    ("key 00\ndisp 0 0\natom 1122334455667788 sentence\n", false),
+    ("", false),
+    ("key +0\ndisp 0 0\natom 1122334455667788 sentence\n", false),
+    ("key 0\ndisp 0 0\natom 112233445566778A sentence\n", false),
+    ("key 0\ndisp 0 0\natom 112233445566778a sentence\n", true),
+    ("key 0\ndisp 0 0\natom 112233445566778 sentence\n", false),
+    ("key 0\ndisp 0 0\natom 11223344556677889 sentence\n", false),
+    ("key 0\ndisp 0 0\natom  1122334455667788 sentence\n", false),
+    ("key 0\ndisp  0 0\natom 1122334455667788 sentence\n", false),
+    ("key 0\ndisp 0 0 \natom 1122334455667788 sentence\n", false),
+    ("key 0\ndisp 0\natom 1122334455667788 sentence\n", false),
+    ("key 0\r\ndisp 0 0\natom 1122334455667788 sentence\n", false),
+    ("disp 0 0\natom 1122334455667788 sentence\n", false),
+    ("key 0\natom 1122334455667788 sentence\n", false),
+    ("key 0\natom 1122334455667788 sentence\ndisp 0 0\n", false),
+    ("key 0\ndisp 0 0\n", false),
+    ("key 0\ndisp 0 0\natom 1122334455667788 sentence\n\n", false),
+    (
+        "key 0\nkey 0\ndisp 0 0\natom 1122334455667788 sentence\n",
+        false,
+    ),
+    (
+        "key 18446744073709551615\ndisp 0 0\natom 1122334455667788 sentence\n",
+        true,
+    ),
+    (
+        "key 18446744073709551616\ndisp 0 0\natom 1122334455667788 sentence\n",
+        false,
+    ),
+    (
+        "key 0\ndisp 4294967295 4294967295\natom ffffffffffffffff sentence\n",
+        true,
+    ),
+    (
+        "key 0\ndisp 0 4294967296\natom 1122334455667788 sentence\n",
+        false,
+    ),
+    (
+        "key 0\ndisp 4294967296 0\natom 1122334455667788 sentence\n",
+        false,
+    ),
+    ("key 0\ndisp 0 0\natom 1122334455667788 \n", true),
+    ("key 0\ndisp 0 0\natom 1122334455667788\n", false),
+    // A text may have spaces and a carriage return.
+    (
+        "key 0\ndisp 0 0\natom 1122334455667788  two words\r\n",
+        true,
+    ),
+    // More displacements than texts need.
+    (
+        "key 0\ndisp 0 0\ndisp 7 7\natom 1122334455667788 sentence\n",
+        true,
+    ),
+    // The low bits of f2 are the places of the two among two.
+    (
+        "key 0\ndisp 0 0\natom 0000000000000001 sentence\natom 0000000000000002 interned\n",
+        true,
+    ),
+    (
+        "key 0\ndisp 0 0\natom 0000000000000001 interned\natom 0000000000000002 sentence\n",
+        false,
+    ),
+];
+
 #[test]
 fn table_texts(rt: HostRuntime) -> Result<(), Fail> {
-    let alloc = rt.alloc();
-    for (text, yes) in [
-        ("key 0\ndisp 0 0\natom 1122334455667788 sentence\n", true),
-        (
-            "key 0\ndisp 0 0\natom 1122334455667788 sentence\natom 1122334455667788 sentence\n",
-            false,
-        ),
-        ("key 0\ndisp 0 0\natom 1122334455667788 sentence", false),
-        ("key 00\ndisp 0 0\natom 1122334455667788 sentence\n", false),
-        ("", false),
-        ("key +0\ndisp 0 0\natom 1122334455667788 sentence\n", false),
-        ("key 0\ndisp 0 0\natom 112233445566778A sentence\n", false),
-        ("key 0\ndisp 0 0\natom 112233445566778a sentence\n", true),
-        ("key 0\ndisp 0 0\natom 112233445566778 sentence\n", false),
-        ("key 0\ndisp 0 0\natom 11223344556677889 sentence\n", false),
-        ("key 0\ndisp 0 0\natom  1122334455667788 sentence\n", false),
-        ("key 0\ndisp  0 0\natom 1122334455667788 sentence\n", false),
-        ("key 0\ndisp 0 0 \natom 1122334455667788 sentence\n", false),
-        ("key 0\ndisp 0\natom 1122334455667788 sentence\n", false),
-        ("key 0\r\ndisp 0 0\natom 1122334455667788 sentence\n", false),
-        ("disp 0 0\natom 1122334455667788 sentence\n", false),
-        ("key 0\natom 1122334455667788 sentence\n", false),
-        ("key 0\natom 1122334455667788 sentence\ndisp 0 0\n", false),
-        ("key 0\ndisp 0 0\n", false),
-        ("key 0\ndisp 0 0\natom 1122334455667788 sentence\n\n", false),
-        (
-            "key 0\nkey 0\ndisp 0 0\natom 1122334455667788 sentence\n",
-            false,
-        ),
-        (
-            "key 18446744073709551615\ndisp 0 0\natom 1122334455667788 sentence\n",
-            true,
-        ),
-        (
-            "key 18446744073709551616\ndisp 0 0\natom 1122334455667788 sentence\n",
-            false,
-        ),
-        (
-            "key 0\ndisp 4294967295 4294967295\natom ffffffffffffffff sentence\n",
-            true,
-        ),
-        (
-            "key 0\ndisp 0 4294967296\natom 1122334455667788 sentence\n",
-            false,
-        ),
-        (
-            "key 0\ndisp 4294967296 0\natom 1122334455667788 sentence\n",
-            false,
-        ),
-        ("key 0\ndisp 0 0\natom 1122334455667788 \n", true),
-        ("key 0\ndisp 0 0\natom 1122334455667788\n", false),
-        // A text may have spaces and a carriage return.
-        (
-            "key 0\ndisp 0 0\natom 1122334455667788  two words\r\n",
-            true,
-        ),
-        // More displacements than texts need.
-        (
-            "key 0\ndisp 0 0\ndisp 7 7\natom 1122334455667788 sentence\n",
-            true,
-        ),
-        // The low bits of f2 are the places of the two among two.
-        (
-            "key 0\ndisp 0 0\natom 0000000000000001 sentence\natom 0000000000000002 interned\n",
-            true,
-        ),
-        (
-            "key 0\ndisp 0 0\natom 0000000000000001 interned\natom 0000000000000002 sentence\n",
-            false,
-        ),
-    ] {
-        assert!(rt; checked(alloc, text)? == yes, "of {text:?}");
+    for (text, yes) in TABLE_TEXTS {
+        assert!(rt; checked(rt.alloc(), text)? == yes, "of {text:?}");
     }
     Ok(())
 }
