@@ -1,7 +1,8 @@
 #!/usr/bin/env bash
 # The gate: every proof from nothing, every edit that the prover has to refuse, every test, each program as two compilers
-# build it (rt ci), then each request for memory refused under the tests that rt ci built, and each wrong body that a test
-# has to catch, which begin where rt ci leaves a processor idle. The last line sums up.
+# build it (rt ci), then each request for memory or a thread refused under the tests that rt ci built, the schedules of small
+# scenes, the static type that a script wrote, the scripts that count over many machines, and each wrong body that a test has to
+# catch, which begin where rt ci leaves a processor idle. The last line sums up.
 set -uo pipefail
 cd "$(dirname "$0")" || exit 1
 
@@ -40,12 +41,21 @@ ci=$!
 run caught tools/caught.py --beside "$ci" > "$said/bodies" &
 bodies=$!
 wait "$ci"
+run schedules tools/schedules/schedules.py --gate --jobs 2 > "$said/scenes" &
+scenes=$!
 run refused tools/refused.py
+run static tools/static_type.py --check
+run many tools/count_many_test.py
 wait "$bodies"
 cat "$said/bodies"
+wait "$scenes"
+cat "$said/scenes"
 
 add ci
 add refused
+add static
+add many
 add caught
+add schedules
 echo "$passed passed, $failed failed"
 [[ $failed -eq 0 ]]

@@ -1,11 +1,12 @@
 #!/usr/bin/env python3
-"""Tries the wrong bodies that no contract sees: each has to fail its test, or not to compile.
+"""Tries the wrong bodies that no contract sees (crates/NAME/caught/*.edit; tools/edits.py has what such a file says).
 
-A file crates/NAME/caught/*.edit has a first line 'test: FUNCTION', which names the test by the end of its path, and then, as
-a must-fail edit, lines 'file: src/..', 'old: TEXT' and 'new: TEXT'. Each edit is applied to a copy of the repository, whose
-tests of that name run without proofs (rt try --test). Before that, each named test has to pass over the crate as it is.
+Each is applied to a copy of the repository, and the tests are run or built there without proofs:
 
-Where a type alone forbids the body, the first line is 'error: TEXT': the compiler's error, which has to come.
+- 'test: FUNCTION' has to fail. Before that, each named test has to pass over the crate as it is.
+- 'refused: FUNCTION', a test of crates/atoms/src/refusals, has to be found WRONG as tools/refused.py judges it, and has to pass where
+  nothing is refused. Before that, each named test has to be found right over the repository as it is.
+- 'error: TEXT': the compiler has to say this, where a type alone forbids the body.
 
 With --beside PID no edit is begun, while that process runs, unless a processor is idle.
 
@@ -13,161 +14,105 @@ usage: tools/caught.py [--jobs N] [--beside PID] [WORD..]     with words: only t
 """
 
 import argparse
-import contextlib
 import os
 import queue
-import re
 import shutil
-import signal
 import subprocess
 import sys
 import tempfile
 import threading
 import time
-from dataclasses import dataclass, field
 from pathlib import Path
+
+from edits import BadEdit, applied, ends_in, read_edit
+from refused import refuser
+from unproved import NotBuilt, build, outcomes
 
 SECONDS = 60  # for one test of a wrong body, which may hang
 BASE_SECONDS = 300  # for one test of the crate as it is, which only other work makes slow
-TEST = re.compile(r"test (\S+) \.\.\. (\w+)")
+SAID = 600  # how much is told of what was said
 
 
-class BadEdit(Exception):
-    """The edit can't be read, or can't be applied."""
+def named(paths, name):
+    """The one path among these that the name ends, or None."""
+    found = [path for path in paths if ends_in(path, name)]
+    return found[0] if len(found) == 1 else None
 
 
-@dataclass
-class Edit:
-    """A wrong body: the test that has to fail or the error that has to come, and what is replaced by what, file by file."""
-
-    path: Path
-    test: str = ""
-    error: str = ""
-    changes: list = field(default_factory=list)
-
-    @property
-    def crate(self):
-        return self.path.parent.parent
-
-    def __str__(self):
-        return f"caught {self.crate.name}/{self.path.name}"
+def judge_test(edit, root):
+    """Whether the edit's test fails, and what to say."""
+    found, said = outcomes(root / "crates" / edit.of, SECONDS, edit.name)
+    test = named(found, edit.name)
+    if not test:
+        return False, f"BAD EDIT: no such test ran; it said: {said.strip()[:SAID]}"
+    if found[test] != "FAILED":
+        return False, f"NOT CAUGHT: {edit.name} ends with {found[test]}"
+    return True, f"{edit.name} fails, as it must"
 
 
-def read_edit(path):
-    edit, file, old = Edit(path), None, None
-    for line in path.read_text(encoding="utf-8").splitlines():
-        word, _, text = line.partition(": ")
-        if word == "test":
-            edit.test = text.strip()
-        elif word == "error":
-            edit.error = text.strip()
-        elif word == "file":
-            file = text.strip()
-        elif word == "old":
-            old = text
-        elif word in ("new", "new:"):
-            if not file or old is None:
-                raise BadEdit("a 'new:' line stands before any 'file:' or 'old:' line")
-            edit.changes.append((file, old, text))
-            old = None
-    if bool(edit.test) == bool(edit.error) or not edit.changes:
-        raise BadEdit("it has no line 'test: FUNCTION' or 'error: TEXT', or both, or no pair 'old:' and 'new:'")
-    return edit
+def judge_error(edit, root):
+    """Whether the edit's error comes, and what to say."""
+    found, said = outcomes(root / "crates" / edit.of, SECONDS)
+    if found or edit.name not in said:
+        return False, f"COMPILED, or failed otherwise; it said: {said.strip()[:SAID]}"
+    return True, f"doesn't compile, as it must not: {edit.name}"
 
 
-def edited(edit, root):
-    """The changed texts, by their files in the copy at root."""
-    texts = {}
-    for name, old, new in edit.changes:
-        file = root / "crates" / edit.crate.name / name
-        if file not in texts:
-            if not name.startswith("src/") or not file.is_file():
-                raise BadEdit(f"there is no file {name}")
-            texts[file] = file.read_text(encoding="utf-8")
-        found = texts[file].count(old)
-        if found != 1:
-            raise BadEdit(f"an 'old:' text stands {found} times in {name}, and not once")
-        texts[file] = texts[file].replace(old, new)
-    return texts
+def refusals_of(crate, root, room):
+    """What refuses to the tests of the crate, built in the room, and the names of those tests."""
+    tried = refuser(build(root / "crates" / crate, Path(room)), room)
+    return tried, tried.tests()
 
 
-def ended(found, test):
-    """The outcomes, among those found, of the tests that the name means: a function's, or the end of a path to it."""
-    return [outcome for path, outcome in found.items() if f"::{path}".endswith(f"::{test}")]
+def judge_refused(edit, root):
+    """Whether the edit's test is wrong as requests are refused, and what to say."""
+    with tempfile.TemporaryDirectory(prefix="refused-") as room:
+        tried, tests = refusals_of(edit.of, root, room)
+        test = named(tests, edit.name)
+        if not test:
+            return False, "BAD EDIT: there is no such test"
+        if not tried.passes(test):
+            return False, f"BAD EDIT: {edit.name} fails where nothing is refused: let 'test:' name it"
+        well, text = tried.judge(test)
+    if well:
+        return False, f"NOT CAUGHT: {edit.name}: {text}"
+    return True, f"{edit.name} is wrong, as it must be: {text}"
 
 
-def started_by(process):
-    """The processes that the process started, each with the words of its command."""
-    for folder in Path("/proc").glob("[0-9]*"):
-        try:
-            parent = (folder / "stat").read_text(encoding="ascii", errors="replace").rpartition(")")[2].split()[1]
-            if int(parent) == process:
-                yield int(folder.name), (folder / "cmdline").read_bytes().split(b"\0")
-        except (OSError, IndexError):
-            continue  # it has ended
-
-
-def end_hint(ran):
-    """Ends the check that rt try starts beside a run for a hint on reserved names: it takes as much time as the run itself, and
-    says nothing of a body. Where none is found within five seconds, nothing is ended."""
-    for _ in range(50):
-        hints = [process for process, words in started_by(ran.pid) if b"--start" in words and b"no function" in words]
-        for process in hints:
-            with contextlib.suppress(ProcessLookupError):
-                os.kill(process, signal.SIGKILL)
-        if hints or ran.poll() is not None:
-            return
-        time.sleep(0.1)
-
-
-def outcomes(crate, seconds, test=""):
-    """Runs the crate's tests whose paths contain the name, without proofs: what became of each, by its path, and all that was
-    said."""
-    command = ["rt", "try", "--test", "--seconds", str(seconds), "--", test]
-    ran = subprocess.Popen(command, cwd=crate, stdin=subprocess.DEVNULL, stdout=subprocess.PIPE, stderr=subprocess.STDOUT)
-    end_hint(ran)
-    found, said = {}, []
-    for line in ran.stdout:
-        said.append(line.decode(errors="replace"))
-        found.update(TEST.findall(said[-1]))
-    ran.stdout.close()
-    ran.wait()
-    return found, "".join(said)
+JUDGES = {"test": judge_test, "refused": judge_refused, "error": judge_error}
 
 
 def judge(edit, root):
-    """Whether the edit's test fails with it, or its error comes, and what to say."""
+    """Whether what the edit wants comes of it, and what to say."""
     try:
-        texts = edited(edit, root)
+        with applied(edit, root):
+            return JUDGES[edit.want](edit, root)
     except BadEdit as why:
         return False, f"BAD EDIT: {why}"
-    kept = {file: file.read_bytes() for file in texts}
-    try:
-        for file, text in texts.items():
-            file.write_text(text, encoding="utf-8")
-        found, said = outcomes(root / "crates" / edit.crate.name, SECONDS, edit.test)
-    finally:
-        for file, text in kept.items():
-            file.write_bytes(text)
-    if edit.error:
-        if not found and edit.error in said:
-            return True, f"doesn't compile, as it must not: {edit.error}"
-        return False, f"COMPILED, or failed otherwise; it said: {said.strip()[:600]}"
-    outcome = ended(found, edit.test)
-    if outcome == ["FAILED"]:
-        return True, f"{edit.test} fails, as it must"
-    if not outcome:
-        return False, "BAD EDIT: no such test ran; it said: " + said.strip()[:600]
-    return False, f"NOT CAUGHT: {edit.test} ends with {outcome[0]}"
+    except (NotBuilt, OSError, subprocess.CalledProcessError) as why:
+        return False, f"BAD EDIT: it can't be built or run: {why}"
 
 
-def judge_crate(crate, tests, root):
-    """Whether all the named tests pass over the crate as it is, and what to say."""
+def judge_tests(crate, names, root):
+    """Whether each of these names means one test that passes over the crate as it is, and what to say."""
     found, said = outcomes(root / "crates" / crate, BASE_SECONDS)
-    bad = sorted(test for test in tests if ended(found, test) != ["ok"])
+    bad = sorted(name for name in names if found.get(named(found, name)) != "ok")
     if bad:
-        return False, f"these names aren't of one test that passes over the crate as it is: {', '.join(bad)}; it said: {said.strip()[:600]}"
-    return True, f"{len(tests)} tests that catch wrong bodies pass over the crate as it is"
+        return False, f"these names aren't of one test that passes over the crate as it is: {', '.join(bad)}; it said: {said.strip()[:SAID]}"
+    return True, f"{len(names)} tests that catch wrong bodies pass over the crate as it is"
+
+
+def judge_refusals(crate, names, root):
+    """Whether each of these names means one test that is right, as requests are refused, over the crate as it is, and what to say."""
+    try:
+        with tempfile.TemporaryDirectory(prefix="refused-") as room:
+            tried, tests = refusals_of(crate, root, room)
+            bad = sorted(name for name in names if not named(tests, name) or not tried.judge(named(tests, name))[0])
+    except (NotBuilt, OSError, subprocess.CalledProcessError) as why:
+        return False, f"the tests can't be built or run: {why}"
+    if bad:
+        return False, f"these names aren't of one test that is right over the crate as it is: {', '.join(bad)}"
+    return True, f"{len(names)} tests that catch wrong bodies as requests are refused are right over the crate as it is"
 
 
 def processor_times():
@@ -177,7 +122,7 @@ def processor_times():
 
 
 def idle_processors(seconds=2):
-    """How many processors had nothing to do, on the average of so many seconds."""
+    """How many processors had nothing to do, on the average of this many seconds."""
     before = processor_times()
     time.sleep(seconds)
     spent = [after - earlier for earlier, after in zip(before, processor_times())]
@@ -207,7 +152,7 @@ def works_in(tasks, turns, results, top):
     """Takes tasks until none is left, in a copy of the repository of this worker's own."""
     with tempfile.TemporaryDirectory(prefix="caught-") as room:
         root = Path(room) / "copy"
-        shutil.copytree(top, root, ignore=shutil.ignore_patterns("out", ".git"))
+        shutil.copytree(top, root, ignore=shutil.ignore_patterns("out", ".git", "__pycache__"))
         while True:
             turns.wait()
             try:
@@ -219,6 +164,34 @@ def works_in(tasks, turns, results, top):
             results.append(passed)
 
 
+def read_edits(top, words):
+    """The edits whose paths contain one of the words, all where there are none, and how many can't be read."""
+    edits, unread = [], 0
+    for path in sorted(top.glob("crates/*/caught/*.edit")):
+        if words and not any(word in str(path) for word in words):
+            continue
+        try:
+            edits.append(read_edit(path))
+        except BadEdit as why:
+            print(f"caught {path.parent.parent.name}/{path.name}: BAD EDIT: {why}")
+            unread += 1
+    return edits, unread
+
+
+def tasks_of(edits):
+    """What is to be done, each with its label: the tests that the edits name, over the crates as they are, and then the edits."""
+    tests, refusals = {}, {}
+    for edit in edits:
+        if edit.want != "error":
+            kind = tests if edit.want == "test" else refusals
+            kind.setdefault(edit.of, set()).add(edit.name)
+    for judge_base, kind in ((judge_tests, tests), (judge_refusals, refusals)):
+        for crate, names in sorted(kind.items()):
+            yield f"caught {crate}", lambda root, judge_base=judge_base, crate=crate, names=names: judge_base(crate, names, root)
+    for edit in edits:
+        yield f"caught {edit}", lambda root, edit=edit: judge(edit, root)
+
+
 def main():
     parser = argparse.ArgumentParser(description=__doc__, formatter_class=argparse.RawDescriptionHelpFormatter)
     parser.add_argument("--jobs", type=int, default=os.cpu_count() or 1)
@@ -226,25 +199,11 @@ def main():
     parser.add_argument("words", nargs="*")
     given = parser.parse_args()
     top = Path(__file__).resolve().parent.parent
-    tasks, results, tests = queue.Queue(), [], {}
-    edits = []
-    for path in sorted(top.glob("crates/*/caught/*.edit")):
-        if given.words and not any(word in str(path) for word in given.words):
-            continue
-        try:
-            edit = read_edit(path)
-        except BadEdit as why:
-            print(f"caught {path.parent.parent.name}/{path.name}: BAD EDIT: {why}")
-            results.append(False)
-            continue
-        edits.append(edit)
-        if edit.test:
-            tests.setdefault(edit.crate.name, set()).add(edit.test)
-    for crate, named in sorted(tests.items()):
-        tasks.put((f"caught {crate}", lambda root, crate=crate, named=named: judge_crate(crate, named, root)))
-    for edit in edits:
-        tasks.put((str(edit), lambda root, edit=edit: judge(edit, root)))
-    expected = len(results) + tasks.qsize()
+    edits, unread = read_edits(top, given.words)
+    tasks, results = queue.Queue(), []
+    for task in tasks_of(edits):
+        tasks.put(task)
+    expected = unread + tasks.qsize()
     turns = Turns(given.beside)
     workers = [threading.Thread(target=works_in, args=(tasks, turns, results, top)) for _ in range(max(1, given.jobs))]
     for worker in workers:

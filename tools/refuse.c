@@ -1,8 +1,9 @@
 /*
- * Preloaded by tools/refused.py over a built test: counts the requests for memory between the two lines "== .." that the test writes
- * on its standard output, and refuses those from number REFUSE_FIRST to REFUSE_LAST. At the end it writes four numbers to the file
- * descriptor REFUSE_REPORT: the requests, how many were refused, how many blocks more the program had after the call than before
- * it, and how many it still had when it ended. Blocks that the C library asks for itself, as for a thread, count as requests alone.
+ * Preloaded by tools/refused.py over a built test: counts the requests between the two lines "== .." that the test writes on its
+ * standard output, those for memory or, where REFUSE_WHAT is `starts`, the starts of threads, and refuses those from number
+ * REFUSE_FIRST to REFUSE_LAST. At the end it writes four numbers to the file descriptor REFUSE_REPORT: the requests, how many were
+ * refused, how many blocks more the program had after the call than before it, and how many it still had when it ended. Blocks that
+ * the C library asks for itself, as for a thread, count as requests for memory alone.
  *
  * It includes nothing, so that the kit's compiler is enough. For x86-64 Linux with glibc.
  */
@@ -10,7 +11,9 @@ typedef unsigned long size_t;
 typedef long ssize_t;
 
 #define NULL ((void *)0)
+#define EAGAIN 11
 #define ENOMEM 12
+#define RTLD_NEXT ((void *)-1l)
 #define STANDARD_OUTPUT 1
 #define SYS_WRITE 1
 #define SYS_EXIT_GROUP 231
@@ -33,16 +36,24 @@ extern void __libc_free(void *);
 extern int *__errno_location(void);
 extern unsigned long getauxval(unsigned long);
 extern char *getenv(const char *);
+extern void *dlsym(void *, const char *);
 extern long atol(const char *);
 extern int dprintf(int, const char *, ...);
 extern int memcmp(const void *, const void *, size_t);
 extern size_t strlen(const char *);
 extern long syscall(long, ...);
 
+/* What is asked for: memory, or the start of a thread. */
+enum kind { MEMORY, START };
+
+typedef int starter(unsigned long *, const void *, void *(*)(void *), void *);
+
 static _Atomic int calling;
 static _Atomic long requests, refused, blocks;
 static long blocks_before, blocks_after;
 static long refuse_first, refuse_last;
+static enum kind refuse_what;
+static starter *start_thread;
 static unsigned long program_start, program_end;
 
 static long number(const char *name) {
@@ -69,8 +80,14 @@ static void find_program(void) {
     }
 }
 
+static int is(const char *text, const char *word) {
+    return text && strlen(text) == strlen(word) && memcmp(text, word, strlen(word)) == 0;
+}
+
 __attribute__((constructor)) static void begin(void) {
     find_program();
+    start_thread = (starter *)dlsym(RTLD_NEXT, "pthread_create");
+    refuse_what = is(getenv("REFUSE_WHAT"), "starts") ? START : MEMORY;
     refuse_first = number("REFUSE_FIRST");
     refuse_last = number("REFUSE_LAST");
 }
@@ -83,13 +100,20 @@ __attribute__((noreturn)) void _exit(int status) {
         syscall(SYS_EXIT_GROUP, status);
 }
 
-static int refuses(void) {
-    if (!calling)
+/* Counts a request, and tells whether it is refused. */
+static int refuses(enum kind what) {
+    if (!calling || what != refuse_what)
         return 0;
     long at = ++requests;
     if (at < refuse_first || at > refuse_last)
         return 0;
     refused++;
+    return 1;
+}
+
+static int refuses_memory(void) {
+    if (!refuses(MEMORY))
+        return 0;
     *__errno_location() = ENOMEM;
     return 1;
 }
@@ -108,30 +132,30 @@ static void *noted(void *caller, void *block) {
 }
 
 void *malloc(size_t size) {
-    return refuses() ? NULL : noted(__builtin_return_address(0), __libc_malloc(size));
+    return refuses_memory() ? NULL : noted(__builtin_return_address(0), __libc_malloc(size));
 }
 
 void *calloc(size_t count, size_t size) {
-    return refuses() ? NULL : noted(__builtin_return_address(0), __libc_calloc(count, size));
+    return refuses_memory() ? NULL : noted(__builtin_return_address(0), __libc_calloc(count, size));
 }
 
 void *realloc(void *old, size_t size) {
-    if (refuses())
+    if (refuses_memory())
         return NULL;
     void *block = __libc_realloc(old, size);
     return old ? block : noted(__builtin_return_address(0), block);
 }
 
 void *aligned_alloc(size_t align, size_t size) {
-    return refuses() ? NULL : noted(__builtin_return_address(0), __libc_memalign(align, size));
+    return refuses_memory() ? NULL : noted(__builtin_return_address(0), __libc_memalign(align, size));
 }
 
 void *memalign(size_t align, size_t size) {
-    return refuses() ? NULL : noted(__builtin_return_address(0), __libc_memalign(align, size));
+    return refuses_memory() ? NULL : noted(__builtin_return_address(0), __libc_memalign(align, size));
 }
 
 int posix_memalign(void **block, size_t align, size_t size) {
-    void *got = refuses() ? NULL : noted(__builtin_return_address(0), __libc_memalign(align, size));
+    void *got = refuses_memory() ? NULL : noted(__builtin_return_address(0), __libc_memalign(align, size));
     if (!got)
         return ENOMEM;
     *block = got;
@@ -142,6 +166,10 @@ void free(void *block) {
     if (block)
         note(__builtin_return_address(0), -1);
     __libc_free(block);
+}
+
+int pthread_create(unsigned long *thread, const void *how, void *(*run)(void *), void *with) {
+    return refuses(START) ? EAGAIN : start_thread(thread, how, run, with);
 }
 
 static int begins(const char *text, size_t length, const char *word) {

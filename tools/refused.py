@@ -1,12 +1,14 @@
 #!/usr/bin/env python3
-"""Refuses each request for memory of the calls that the tests in crates/atoms/src/refusals watch, one after another.
+"""Refuses memory, and starts of threads, to the calls that the tests in crates/atoms/src/refusals watch, one request after another.
 
 Each such test makes one call between two lines of its output. It is run once for each request for memory of that call, with that one
 refused, until a run meets none left (tools/refuse.c, preloaded, counts and refuses): the call has to say that memory was refused, has
 to keep none where it says no more, and the test then sees that the call made again gives what it gives the first time. A test of
-`unasked` is run once with every request refused, and may meet none. However a test ends, the program has given back all that it got.
+`starts` is run once for each thread that the call starts, with that start refused, in the same way. A test of `unasked` is run once with
+every request for memory refused, and may meet none. However a test ends, the program has given back all that it got.
 
-The tests are those that `rt ci`, or `rt test` in crates/atoms, proved and built last.
+The tests are those that `rt ci`, or `rt test` in crates/atoms, proved and built last. (tools/caught.py judges wrong bodies by the same
+tests, built without proofs.)
 
 usage: tools/refused.py [--jobs N] [WORD..]     with words: only the tests whose names contain one of them
 """
@@ -20,11 +22,14 @@ from concurrent.futures import ThreadPoolExecutor
 from dataclasses import dataclass
 from pathlib import Path
 
+from unproved import compiler, kit
+
 TOP = Path(__file__).resolve().parent.parent
 TESTS = TOP / "crates" / "atoms" / "out" / "atoms_tests"
 SECONDS = 60  # for one run
 MOST = 100_000  # requests of one call
 EVERY = sys.maxsize
+NAMES = {"memory": "requests for memory", "starts": "starts of threads"}  # what can be refused
 # How many requests a call may do without, by its test's name: in each worker that has words (the text has 20), each of two lists that
 # are collected asks ahead for the room that it may need, and goes on without it. Threads ask in another order in each run, so that a
 # number may meet such a request twice: with more than one worker there may be twice as many.
@@ -42,14 +47,6 @@ FEW = {
 }
 
 
-def compiler():
-    """The words that compile and link a library with the kit's own compiler."""
-    doc = subprocess.run(["rt", "doc"], stdout=subprocess.PIPE, check=True).stdout.decode().strip()
-    kit = Path(doc).parent / "toolchain"
-    linked = ["-shared", "-nostdlib", f"--ld-path={kit}/bin/ld.lld", f"{kit}/lib/libc.so.6"]
-    return [f"{kit}/bin/clang", "-O1", "-fPIC", "-fno-builtin", "-Wall", *linked]
-
-
 @dataclass
 class Run:
     """What became of a test, with some requests refused."""
@@ -62,10 +59,14 @@ class Run:
     left: int  # blocks that it still had when it ended
     said: str
 
+    def passed(self):
+        """Whether the test itself saw nothing wrong."""
+        return self.status == 0 and "test result: ok" in self.said
+
     def wrong(self):
         """What is wrong with it, or None."""
-        if self.status != 0 or "test result: ok" not in self.said:
-            return f"the test fails: {self.said.strip()[-400:]}"
+        if not self.passed():
+            return f"the test fails: {' '.join(self.said.split())[-400:]}"
         wanted = ("refused", "refused midway", "given") if self.refused else ("given",)
         if self.ended not in wanted:
             return f"the call ended as '{self.ended}'"
@@ -76,59 +77,82 @@ class Run:
         return None
 
 
-def run(library, test, first, last):
-    """One run of a test, with the requests from the first to the last of these numbers refused."""
-    report, told = os.pipe()
-    limits = {"REFUSE_FIRST": str(first), "REFUSE_LAST": str(last), "REFUSE_REPORT": str(told)}
-    how = {"stdin": subprocess.DEVNULL, "stdout": subprocess.PIPE, "stderr": subprocess.STDOUT, "pass_fds": [told]}
-    try:
-        ran = subprocess.run([TESTS, test], env={"LD_PRELOAD": library, **limits}, timeout=SECONDS, **how)
-        status, said = ran.returncode, ran.stdout.decode(errors="replace")
-    except subprocess.TimeoutExpired:
-        status, said = -1, f"it hasn't ended after {SECONDS} seconds"
-    os.close(told)
-    with os.fdopen(report) as it:
-        numbers = [int(word) for word in it.read().split()] or [0, 0, 0, 0]
-    lines = [line[3:] for line in said.splitlines() if line.startswith("== ")]
-    ended = lines[1] if len(lines) == 2 and lines[0] == "call" else f"no call, but {lines}"
-    return Run(status, ended, *numbers, said)
+@dataclass
+class Refuser:
+    """A program of tests, and the library that refuses to it."""
 
+    library: str
+    program: Path
 
-def one_after_another(library, test):
-    """Refuses each request in turn. Whether all is well, and what to say."""
-    spare = sum(count for name, count in SPARED.items() if test.startswith(name))
-    for at in range(1, MOST):
-        ran = run(library, test, at, at)
+    def tests(self):
+        """The names of the tests of refusals."""
+        listed = subprocess.run([self.program, "--list"], stdout=subprocess.PIPE, check=True).stdout.decode().splitlines()
+        return [name for name, _, _ in (line.partition(": ") for line in listed) if name.startswith("refusals::")]
+
+    def run(self, test, what, first, last):
+        """One run of a test, with what is asked for, memory or starts, refused from the first to the last of these numbers."""
+        report, told = os.pipe()
+        limits = {"REFUSE_WHAT": what, "REFUSE_FIRST": str(first), "REFUSE_LAST": str(last), "REFUSE_REPORT": str(told)}
+        how = {"stdin": subprocess.DEVNULL, "stdout": subprocess.PIPE, "stderr": subprocess.STDOUT, "pass_fds": [told]}
+        try:
+            ran = subprocess.run([self.program, test], env={"LD_PRELOAD": self.library, **limits}, timeout=SECONDS, **how)
+            status, said = ran.returncode, ran.stdout.decode(errors="replace")
+        except subprocess.TimeoutExpired:
+            status, said = -1, f"it hasn't ended after {SECONDS} seconds"
+        os.close(told)
+        with os.fdopen(report) as it:
+            numbers = [int(word) for word in it.read().split()] or [0, 0, 0, 0]
+        lines = [line[3:] for line in said.splitlines() if line.startswith("== ")]
+        ended = lines[1] if len(lines) == 2 and lines[0] == "call" else f"no call, but {lines}"
+        return Run(status, ended, *numbers, said)
+
+    def passes(self, test):
+        """Whether the test passes where nothing is refused."""
+        return self.run(test, "memory", 0, 0).passed()
+
+    def one_after_another(self, test, what):
+        """Refuses each request in turn. Whether all is well, and what to say."""
+        spare = sum(count for name, count in SPARED.items() if test.startswith(name))
+        for at in range(1, MOST):
+            ran = self.run(test, what, at, at)
+            wrong = ran.wrong()
+            if ran.refused and ran.ended == "given":
+                spare -= 1
+                if spare < 0:
+                    wrong = wrong or "the call doesn't say that it was refused"
+            if wrong:
+                return False, f"with number {at} of the {NAMES[what]} refused: {wrong}"
+            if ran.requests > FEW.get(test, MOST):
+                return False, f"{ran.requests} {NAMES[what]}, where {FEW[test]} are enough"
+            if not ran.refused:
+                return True, f"{ran.requests} {NAMES[what]}, each refused in turn"
+        return False, f"there is no end of {NAMES[what]} after {MOST}"
+
+    def all_at_once(self, test):
+        """Refuses every request for memory. Whether there was none and all is well, and what to say."""
+        ran = self.run(test, "memory", 1, EVERY)
         wrong = ran.wrong()
-        if ran.refused and ran.ended == "given":
-            spare -= 1
-            if spare < 0:
-                wrong = "the call doesn't say that memory was refused"
-        if wrong:
-            return False, f"with request {at} refused: {wrong}"
-        if ran.requests > FEW.get(test, MOST):
-            return False, f"{ran.requests} requests, where {FEW[test]} are enough"
-        if not ran.refused:
-            return True, f"{ran.requests} requests, each refused in turn"
-    return False, f"there is no end of requests after {MOST}"
+        if ran.requests:
+            wrong = f"{ran.requests} requests for memory, where none was to come"
+        return not wrong, wrong or "no request for memory"
+
+    def judge(self, test):
+        """Whether all is well with the test, and what to say."""
+        try:
+            if "::unasked::" in test:
+                return self.all_at_once(test)
+            return self.one_after_another(test, "starts" if "::starts::" in test else "memory")
+        except (OSError, ValueError, TypeError) as why:
+            return False, f"it can't be run: {why}"
 
 
-def all_at_once(library, test):
-    """Refuses every request. Whether there was none and all is well, and what to say."""
-    ran = run(library, test, 1, EVERY)
-    wrong = ran.wrong()
-    if ran.requests:
-        wrong = f"{ran.requests} requests, where none was to come"
-    return not wrong, wrong or "no request"
-
-
-def judge(library, test):
-    try:
-        well, text = (all_at_once if "::unasked::" in test else one_after_another)(library, test)
-    except (OSError, ValueError, TypeError) as why:
-        well, text = False, f"it can't be run: {why}"
-    print(f"refused {test.removeprefix('refusals::')}: {'' if well else 'WRONG: '}{text}", flush=True)
-    return well
+def refuser(program, room):
+    """What refuses to this program of tests. The library is made in the room, a folder."""
+    own = kit()
+    library = f"{room}/refuse.so"
+    words = [*compiler(own), "-shared", "-O1", "-fPIC", "-fno-builtin", "-Wall", "-Werror", "-o", library, TOP / "tools" / "refuse.c"]
+    subprocess.run([*words, own / "toolchain" / "lib" / "libc.so.6"], check=True)
+    return Refuser(library, program)
 
 
 def main():
@@ -138,15 +162,19 @@ def main():
     given = parser.parse_args()
     results = []
     try:
-        listed = subprocess.run([TESTS, "--list"], stdout=subprocess.PIPE, check=True).stdout.decode().splitlines()
-        tests = [name for name, _, _ in (line.partition(": ") for line in listed) if name.startswith("refusals::")]
-        if given.words:
-            tests = [test for test in tests if any(word in test for word in given.words)]
         with tempfile.TemporaryDirectory(prefix="refused-") as room:
-            library = f"{room}/refuse.so"
-            subprocess.run([*compiler(), "-o", library, TOP / "tools" / "refuse.c"], check=True)
+            tried = refuser(TESTS, room)
+            tests = tried.tests()
+            if given.words:
+                tests = [test for test in tests if any(word in test for word in given.words)]
+
+            def judge(test):
+                well, text = tried.judge(test)
+                print(f"refused {test.removeprefix('refusals::')}: {'' if well else 'WRONG: '}{text}", flush=True)
+                return well
+
             with ThreadPoolExecutor(max(1, given.jobs)) as workers:
-                results = list(workers.map(lambda test: judge(library, test), tests))
+                results = list(workers.map(judge, tests))
     except (OSError, subprocess.CalledProcessError) as why:
         print(f"refused: {why}; the tests are built by rt ci, or by rt test in crates/atoms")
     if not results:

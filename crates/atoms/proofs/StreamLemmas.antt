@@ -71,6 +71,16 @@ consumed_all None b bs h e = tt
 consumed_all (Some xs) None bs h e = absurd h
 consumed_all (Some xs) (Some ys) bs h e = h ∙ ap (λ v. bs ++ v) e ∙ append-nil bs
 
+-- what holds of the text that was read to the end holds of the bytes that were left
+pub told_of_all : (P : List ℕ → Type 0) (a b : Option (List ℕ)) (bytes text : List ℕ) → Consumes a b bytes → IsAtEnd b → text ≡ bytes → P text → IfSome a P
+told_of_all P None b bytes text read end same told = tt
+told_of_all P (Some all) b bytes text read end same told = subst P (same ∙ sym (consumed_all (Some all) b bytes read end)) told
+
+-- what holds of the text that the bytes spell holds of the bytes
+pub told_of_given : (P : List ℕ → Type 0) (a : Option (List ℕ)) (given text : List ℕ) → IfSome a (λ bytes. bytes ≡ given) → text ≡ given → P text → IfSome a P
+told_of_given P None given text is same told = tt
+told_of_given P (Some bytes) given text is same told = subst P (same ∙ sym is) told
+
 -- at any known bytes
 pub if_some_any : (a : Option (List ℕ)) {P : List ℕ → Type 0} → ((xs : List ℕ) → P xs) → IfSome a P
 if_some_any None f = tt

@@ -14,97 +14,79 @@ IsMemory FullCount = ⊥
 IsMemory TicketsSpent = ⊥
 IsMemory NotText = ⊥
 
+-- each kind of fault, with what has to hold of one that comes: ⊥ where none does
+pub record Faults : Type 1 where
+  pub reads : Type 0
+  pub writes : Type 0
+  pub texts : Type 0
+  pub scripts : Type 0
+  pub workers : Type 0
+  pub interns : Fault → Type 0
+  pub tables : GenFault → Type 0
+
+-- the fault is one of these
+abbrev pub IsOf : Faults → AppFault → Type 0
+IsOf faults Read = faults.reads
+IsOf faults Write = faults.writes
+IsOf faults Text = faults.texts
+IsOf faults (Script line) = faults.scripts
+IsOf faults Worker = faults.workers
+IsOf faults (Intern fault) = faults.interns fault
+IsOf faults (Gen fault) = faults.tables fault
+
+-- want of memory alone
+abbrev pub memory : Faults
+memory = record { reads = ⊥; writes = ⊥; texts = ⊥; scripts = ⊥; workers = ⊥; interns = IsMemory; tables = λ fault. ⊥ }
+
+-- of the streams and the text too, as each command has them
+abbrev pub streams : Faults
+streams = record memory { reads = Unit {0}; writes = Unit {0}; texts = Unit {0} }
+
 -- while the input is read
 abbrev pub IsReadingFault : AppFault → Type 0
-IsReadingFault Read = Unit {0}
-IsReadingFault Write = ⊥
-IsReadingFault Text = ⊥
-IsReadingFault (Script line) = ⊥
-IsReadingFault Worker = ⊥
-IsReadingFault (Intern fault) = IsMemory fault
-IsReadingFault (Gen fault) = ⊥
+IsReadingFault fault = IsOf (record memory { reads = Unit {0} }) fault
+
+-- while the input is read as a text
+abbrev pub IsTextFault : AppFault → Type 0
+IsTextFault fault = IsOf (record memory { reads = Unit {0}; texts = Unit {0} }) fault
 
 -- while words are interned and their lines written
 abbrev pub IsWritingFault : AppFault → Type 0
-IsWritingFault Read = ⊥
-IsWritingFault Write = Unit {0}
-IsWritingFault Text = ⊥
-IsWritingFault (Script line) = ⊥
-IsWritingFault Worker = ⊥
-IsWritingFault (Intern fault) = IsInternFault fault
-IsWritingFault (Gen fault) = ⊥
-
--- from the words of a text at all
-abbrev pub IsWordsFault : AppFault → Type 0
-IsWordsFault Read = Unit {0}
-IsWordsFault Write = Unit {0}
-IsWordsFault Text = Unit {0}
-IsWordsFault (Script line) = ⊥
-IsWordsFault Worker = ⊥
-IsWordsFault (Intern fault) = IsInternFault fault
-IsWordsFault (Gen fault) = ⊥
+IsWritingFault fault = IsOf (record memory { writes = Unit {0}; interns = IsInternFault }) fault
 
 -- before anything is written
 abbrev pub IsUnwrittenFault : AppFault → Type 0
-IsUnwrittenFault Read = Unit {0}
-IsUnwrittenFault Write = ⊥
-IsUnwrittenFault Text = Unit {0}
-IsUnwrittenFault (Script line) = Unit {0}
-IsUnwrittenFault Worker = ⊥
-IsUnwrittenFault (Intern fault) = ⊥
-IsUnwrittenFault (Gen fault) = ⊥
+IsUnwrittenFault fault = IsOf (record memory { reads = Unit {0}; texts = Unit {0}; scripts = Unit {0}; interns = λ fault. ⊥ }) fault
+
+-- from counting words
+abbrev pub IsCountFault : AppFault → Type 0
+IsCountFault fault = IsOf (record memory { workers = Unit {0}; interns = IsInternFault }) fault
+
+-- once all is read and before anything is written: want of memory, or a fault of the tables of which P holds
+abbrev pub IsMakingFault : (GenFault → Type 0) → AppFault → Type 0
+IsMakingFault P fault = IsOf (record memory { tables = P }) fault
+
+-- from the words of a text at all
+abbrev pub IsWordsFault : AppFault → Type 0
+IsWordsFault fault = IsOf (record streams { interns = IsInternFault }) fault
+
+-- from counting the words of what is read
+abbrev pub IsTellCountsFault : AppFault → Type 0
+IsTellCountsFault fault = IsOf (record streams { interns = IsInternFault; workers = Unit {0} }) fault
+
+-- from a script at all
+abbrev pub IsReplayFault : AppFault → Type 0
+IsReplayFault fault = IsOf (record streams { scripts = Unit {0} }) fault
+
+-- from making tables
+abbrev pub IsGenerateFault : AppFault → Type 0
+IsGenerateFault fault = IsOf (record streams { tables = λ fault. Unit {0} }) fault
+
+-- from checking a table text
+abbrev pub IsCheckFault : AppFault → Type 0
+IsCheckFault fault = IsOf streams fault
 
 -- what a script is refused for, as a fault of the program
 abbrev pub of_script : ScriptFault → AppFault
 of_script (script.NotAStep line) = Script line
 of_script script.Memory = Intern Memory
-
--- from a script at all
-abbrev pub IsReplayFault : AppFault → Type 0
-IsReplayFault Read = Unit {0}
-IsReplayFault Write = Unit {0}
-IsReplayFault Text = Unit {0}
-IsReplayFault (Script line) = Unit {0}
-IsReplayFault Worker = ⊥
-IsReplayFault (Intern fault) = IsMemory fault
-IsReplayFault (Gen fault) = ⊥
-
--- from counting words
-abbrev pub IsCountFault : AppFault → Type 0
-IsCountFault Read = ⊥
-IsCountFault Write = ⊥
-IsCountFault Text = ⊥
-IsCountFault (Script line) = ⊥
-IsCountFault Worker = Unit {0}
-IsCountFault (Intern fault) = IsInternFault fault
-IsCountFault (Gen fault) = ⊥
-
--- once all is read and before anything is written: want of memory, or a fault of the tables of which P holds
-abbrev pub IsMakingFault : (GenFault → Type 0) → AppFault → Type 0
-IsMakingFault P Read = ⊥
-IsMakingFault P Write = ⊥
-IsMakingFault P Text = ⊥
-IsMakingFault P (Script line) = ⊥
-IsMakingFault P Worker = ⊥
-IsMakingFault P (Intern fault) = IsMemory fault
-IsMakingFault P (Gen fault) = P fault
-
--- from making tables
-abbrev pub IsGenerateFault : AppFault → Type 0
-IsGenerateFault Read = Unit {0}
-IsGenerateFault Write = Unit {0}
-IsGenerateFault Text = Unit {0}
-IsGenerateFault (Script line) = ⊥
-IsGenerateFault Worker = ⊥
-IsGenerateFault (Intern fault) = IsMemory fault
-IsGenerateFault (Gen fault) = Unit {0}
-
--- from checking a table text
-abbrev pub IsCheckFault : AppFault → Type 0
-IsCheckFault Read = Unit {0}
-IsCheckFault Write = Unit {0}
-IsCheckFault Text = Unit {0}
-IsCheckFault (Script line) = ⊥
-IsCheckFault Worker = ⊥
-IsCheckFault (Intern fault) = IsMemory fault
-IsCheckFault (Gen fault) = ⊥

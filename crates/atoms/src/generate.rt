@@ -14,10 +14,9 @@ ghost use Rattle.atoms.specs.TableCommands.{IsTableOutput, IsAnswer, WritesTable
 mod tests;
 
 use crate::faults::AppFault;
-use crate::streams::{Sink, Source, read_all, write_whole};
+use crate::streams::{Sink, Source, read_text, write_whole};
 use replay_script::next_line;
 use std::alloc::{AllocError, Global};
-use std::str;
 use table_generator::check::check_tables;
 use table_generator::generate::generate;
 
@@ -73,11 +72,8 @@ pub fn write_tables<S: Source, K: Sink>(
     ensures read { (result ≡ Err AppFault.Read) ↔ (S.has_failed reader.new ≡ true) }
     ensures write { (result ≡ Err AppFault.Write) ↔ (K.has_failed writer.new ≡ true) }
 {
-    let bytes = read_all(alloc, reader)?;
-    let Ok(text) = str::from_utf8(&bytes) else {
-        return Err(AppFault::Text);
-    };
-    let output = output_of(alloc, key, bound, text)?;
+    let text = read_text(alloc, reader)?;
+    let output = output_of(alloc, key, bound, &text)?;
     write_whole(writer, output.as_bytes())
 }
 
@@ -118,10 +114,7 @@ pub fn write_answer<S: Source, K: Sink>(
     ensures read { (result ≡ Err AppFault.Read) ↔ (S.has_failed reader.new ≡ true) }
     ensures write { (result ≡ Err AppFault.Write) ↔ (K.has_failed writer.new ≡ true) }
 {
-    let bytes = read_all(alloc, reader)?;
-    let Ok(text) = str::from_utf8(&bytes) else {
-        return Err(AppFault::Text);
-    };
-    let answer = answer_of(alloc, text)?;
+    let text = read_text(alloc, reader)?;
+    let answer = answer_of(alloc, &text)?;
     write_whole(writer, answer.as_bytes())
 }

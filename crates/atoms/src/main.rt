@@ -13,8 +13,6 @@ mod program;
 #[cfg(test)]
 mod refusals;
 mod replay;
-#[cfg(test)]
-mod samples;
 mod streams;
 #[cfg(test)]
 mod tests;

@@ -69,7 +69,8 @@ const MOST_WORKERS: u64 = 64;
 
 /// The number of workers that a text spells. `None` where it spells none from 1 to 64.
 fn workers_of(text: &str) -> Option<u32>
-    ensures { MatchOption result ((n : ℕ) → ¬ (IsWorkers text.now n)) (λ n. IsWorkers text.now n) }
+    ensures { MatchOption result ((n : ℕ) → ¬ (IsWorkers text.now n))
+        (λ n. IsWorkers text.now n × ((m : ℕ) → IsWorkers text.now m → m ≡ n)) }
 {
     let Some(n) = number_of(text) else {
         return None;
@@ -113,7 +114,7 @@ fn alone(word: &str) -> Option<Command>
 
 /// The command that a word with a number asks for.
 fn counting(word: &str, number: &str) -> Option<Command>
-    ensures count { word.now ≡ codes "count" → (n : ℕ) → IsWorkers number.now n → (m : ℕ) × (result ≡ Some (Command.Count m)) }
+    ensures count { word.now ≡ codes "count" → (n : ℕ) → IsWorkers number.now n → result ≡ Some (Command.Count n) }
     ensures workers { (n : ℕ) → result ≡ Some (Command.Count n) → (1 ≤ n) × (n ≤ 64) }
     ensures other { (word.now ≡ codes "count" → (n : ℕ) → ¬ (IsWorkers number.now n)) → result ≡ None }
 {
@@ -144,12 +145,12 @@ fn making(word: &str, key: &str, bound: &str) -> Option<Command>
 /// `None` where the arguments aren't those of a command.
 fn command_of(args: &[String]) -> Option<Command>
     ensures words { AreWords args.now → result ≡ Some Command.Words }
-    ensures count { AreCount args.now → (n : ℕ) × (result ≡ Some (Command.Count n)) }
+    ensures count { (n : ℕ) → AreCount args.now n → result ≡ Some (Command.Count n) }
     ensures workers { (n : ℕ) → result ≡ Some (Command.Count n) → (1 ≤ n) × (n ≤ 64) }
     ensures replay { AreReplay args.now → result ≡ Some Command.Replay }
     ensures generate { (key bound : ℕ) → AreGenerate args.now key bound → result ≡ Some (Command.Generate key bound) }
     ensures check { AreCheck args.now → result ≡ Some Command.Check }
-    ensures other { ¬ (AreWords args.now) → ¬ (AreCount args.now) → ¬ (AreReplay args.now)
+    ensures other { ¬ (AreWords args.now) → ((n : ℕ) → ¬ (AreCount args.now n)) → ¬ (AreReplay args.now)
         → ((key bound : ℕ) → ¬ (AreGenerate args.now key bound)) → ¬ (AreCheck args.now) → result ≡ None }
 {
     match args {
@@ -215,11 +216,11 @@ pub fn program<R: Threads + Wait + Sync, S: Source, K: Sink, F: Sink>(
     ensures beginning { AreWords args.now → result ≡ 1 → IfSome (S.remaining input.old) (λ bytes.
         AppendsBeginning (K.contents output.old) (K.contents output.new) (word_lines bytes)) }
     ensures status { AreWords args.now → result ≤ 1 }
-    ensures count { AreCount args.now → result ≡ 0 → IfSome (S.remaining input.old) (λ bytes.
+    ensures count { (n : ℕ) → AreCount args.now n → result ≡ 0 → IfSome (S.remaining input.old) (λ bytes.
         Appends (K.contents output.old) (K.contents output.new) (count_lines bytes)) }
-    ensures count_beginning { AreCount args.now → result ≡ 1 → IfSome (S.remaining input.old) (λ bytes.
+    ensures count_beginning { (n : ℕ) → AreCount args.now n → result ≡ 1 → IfSome (S.remaining input.old) (λ bytes.
         AppendsBeginning (K.contents output.old) (K.contents output.new) (count_lines bytes)) }
-    ensures count_status { AreCount args.now → result ≤ 1 }
+    ensures count_status { (n : ℕ) → AreCount args.now n → result ≤ 1 }
     ensures replay { AreReplay args.now → result ≡ 0 → IfSome (S.remaining input.old) (λ bytes.
         (lines : List ℕ) × IsReplay empty_tables bytes lines
         × Appends (K.contents output.old) (K.contents output.new) lines) }
@@ -236,7 +237,7 @@ pub fn program<R: Threads + Wait + Sync, S: Source, K: Sink, F: Sink>(
     ensures check_beginning { AreCheck args.now → result ≡ 1 → IfSome (S.remaining input.old) (λ bytes.
         BeginsAnswer bytes (K.contents output.old) (K.contents output.new)) }
     ensures check_status { AreCheck args.now → result ≤ 1 }
-    ensures other { ¬ (AreWords args.now) → ¬ (AreCount args.now) → ¬ (AreReplay args.now)
+    ensures other { ¬ (AreWords args.now) → ((n : ℕ) → ¬ (AreCount args.now n)) → ¬ (AreReplay args.now)
         → ((key bound : ℕ) → ¬ (AreGenerate args.now key bound)) → ¬ (AreCheck args.now)
         → (result ≡ 2) × (input.new ≡ input.old) × (output.new ≡ output.old) }
 {

@@ -1,31 +1,46 @@
-// Calls that are refused memory. `tools/refused.py` runs each of these tests once for each request for memory that comes between
-// the two lines printed round its call, and has that request refused. With memory at hand they pass as any test does.
+// Calls that are refused memory, or a thread. `tools/refused.py` runs each of these tests once for each request for memory that comes
+// between the two lines printed round its call, or in `starts` for each start of a thread, and has that request refused. With all at
+// hand they pass as any test does.
 #![tactic(auto)]
 
+mod generated;
 mod programs;
 mod sets;
+mod starts;
 mod tables;
 mod unasked;
 
 use crate::faults::AppFault;
 use std::io::Print;
 use string_cache::Fault;
+use table_generator::tables::GenFault;
 
-/// A fault that may come from want of memory.
+/// A fault that may come from a refused request.
 pub trait Refusal: Drop {
-    fn is_of_memory(&self) -> bool;
+    fn is_of_refusal(&self) -> bool;
 }
 
 impl Refusal for Fault {
-    fn is_of_memory(&self) -> bool {
+    fn is_of_refusal(&self) -> bool {
         *self == Fault::Memory
     }
 }
 
-/// A worker that couldn't be started counts as well.
+impl Refusal for GenFault {
+    fn is_of_refusal(&self) -> bool {
+        *self == GenFault::Memory
+    }
+}
+
+/// A thread that can't be started may want memory as well.
 impl Refusal for AppFault {
-    fn is_of_memory(&self) -> bool {
-        matches!(self, AppFault::Intern(Fault::Memory) | AppFault::Worker)
+    fn is_of_refusal(&self) -> bool {
+        match self {
+            AppFault::Intern(fault) => fault.is_of_refusal(),
+            AppFault::Gen(fault) => fault.is_of_refusal(),
+            AppFault::Worker => true,
+            _ => false,
+        }
     }
 }
 
@@ -34,17 +49,17 @@ impl Refusal for AppFault {
 pub enum End {
     /// With its answer.
     Given,
-    /// It was refused memory, and keeps none.
+    /// A request was refused, and it keeps no memory.
     Refused,
-    /// It was refused memory, and keeps what it did till then.
+    /// A request was refused, and it keeps what it did till then.
     RefusedMidway,
 }
 
 impl End {
-    /// The end of a call that keeps nothing where it is refused memory.
+    /// The end of a call that keeps nothing where a request is refused.
     pub fn of<T, E: Refusal>(answer: &Result<T, E>) -> End {
         match answer {
-            Err(fault) if fault.is_of_memory() => End::Refused,
+            Err(fault) if fault.is_of_refusal() => End::Refused,
             _ => End::Given,
         }
     }
@@ -64,7 +79,7 @@ pub fn finish<R: Print>(rt: &R, how: End) {
     };
 }
 
-/// What a call gives or, where it is refused memory, what it gives once it is made again.
+/// What a call gives or, where a request is refused, what it gives once it is made again.
 pub fn at_last<T, E: Refusal, R: Print, F: Fn() -> Result<T, E>>(rt: &R, call: F) -> Result<T, E>
     requires { F.IsAlwaysCallable call }
 {
@@ -72,7 +87,7 @@ pub fn at_last<T, E: Refusal, R: Print, F: Fn() -> Result<T, E>>(rt: &R, call: F
     let answer = call();
     finish(rt, End::of(&answer));
     match answer {
-        Err(fault) if fault.is_of_memory() => call(),
+        Err(fault) if fault.is_of_refusal() => call(),
         made => made,
     }
 }

@@ -14,11 +14,10 @@ ghost use Rattle.atoms.specs.Replay.{BeginsReplay};
 pub mod tests;
 
 use crate::faults::AppFault;
-use crate::streams::{Sink, Source, read_all, write_whole};
+use crate::streams::{Sink, Source, read_text, write_whole};
 pub use replay_script::one_output;
 use replay_script::replay_text;
 use std::alloc::Global;
-use std::str;
 
 /// Runs the script that the reader gives, over a table that nothing was interned in: a line for each step's reply, and
 /// then one for each entry that is held.
@@ -41,7 +40,7 @@ pub fn replay<S: Source, K: Sink>(
         (output : List ℕ) × IsReplay empty_tables bytes output
         × Appends (K.contents writer.old) (K.contents writer.new) output)) }
 
-    // After a fault at most a beginning of it, and after any other than Write nothing.
+    // After a fault at most a beginning of it, and nothing where the input is no script, or the fault isn't Write.
     ensures beginning { OnErr result (IfSome (S.remaining reader.old) (λ bytes.
         BeginsReplay empty_tables bytes (K.contents writer.old) (K.contents writer.new))) }
     ensures unwritten { IfErr result (λ fault. fault ≢ AppFault.Write → Keeps (K.contents writer.old) (K.contents writer.new)) }
@@ -58,10 +57,7 @@ pub fn replay<S: Source, K: Sink>(
     ensures ran { result ≡ Err AppFault.Write
         → IfSome (S.remaining reader.old) (λ bytes. (output : List ℕ) × IsReplay empty_tables bytes output) }
 {
-    let bytes = read_all(alloc, reader)?;
-    let Ok(text) = str::from_utf8(&bytes) else {
-        return Err(AppFault::Text);
-    };
-    let output = replay_text(alloc, text)?;
+    let text = read_text(alloc, reader)?;
+    let output = replay_text(alloc, &text)?;
     write_whole(writer, output.as_bytes())
 }

@@ -1,10 +1,11 @@
 // Readers and writers that remember that they failed or ended.
 #![tactic(auto)]
 
-ghost use Rattle.std.specs.Prelude.{◌≡◌, ◌↔◌, ◌||◌, ℕ, List, Bool, Option, is_err, length, false, true, IfOk, IfErr, OnOk, OnErr};
+ghost use Rattle.std.specs.Prelude.{◌≡◌, ◌↔◌, ◌||◌, ℕ, List, Bool, Option, is_err, length, false, true, string_bytes, IfOk, IfErr, IfSome, OnOk, OnErr};
+ghost use Rattle.std.specs.Str.{IsUtf8};
 ghost use Rattle.std.specs.Io.{ReadsAtMost, WritesAtMost};
 ghost use Rattle.std.specs.Io.KnownBytes.{ReadConsumes, WriteAppends, Appends, Consumes, IsAtEnd};
-ghost use Rattle.atoms.specs.Faults.{IsReadingFault};
+ghost use Rattle.atoms.specs.Faults.{IsReadingFault, IsTextFault};
 ghost use Rattle.atoms.specs.Streams.{took_none, write_refused, AppendsBeginning};
 
 use crate::faults::AppFault;
@@ -163,6 +164,25 @@ pub fn read_all<S: Source>(alloc: Global, reader: &mut S) -> Result<Vec<u8>, App
             return Ok(all);
         }
         all.extend_from_slice(&piece[..n])?;
+    }
+}
+
+/// All that the reader has left, as a text. `Text` where it isn't UTF-8, and otherwise the faults of `read_all`.
+pub fn read_text<S: Source>(alloc: Global, reader: &mut S) -> Result<String, AppFault>
+    requires { S.has_failed reader.old ≡ false }
+    ensures ended { OnOk result (S.has_ended reader.new ≡ true × IsAtEnd (S.remaining reader.new)) }
+    ensures bytes { IfOk result (λ text. IfSome (S.remaining reader.old) (λ bytes. bytes ≡ string_bytes text)) }
+    ensures utf8 { OnOk result (IfSome (S.remaining reader.old) IsUtf8) }
+    ensures fault { IfErr result IsTextFault }
+    ensures reading { IfErr result (λ fault. S.has_ended reader.new ≡ false → IsReadingFault fault) }
+    ensures text { result ≡ Err AppFault.Text → S.has_ended reader.new ≡ true
+        × IfSome (S.remaining reader.old) (λ bytes. ¬ (IsUtf8 bytes)) }
+    ensures failed { (result ≡ Err AppFault.Read) ↔ (S.has_failed reader.new ≡ true) }
+{
+    let bytes = read_all(alloc, reader)?;
+    match String::from_utf8(bytes) {
+        Ok(text) => Ok(text),
+        Err(_) => Err(AppFault::Text),
     }
 }
 

@@ -2,14 +2,15 @@
 #![tactic(auto)]
 
 mod limits;
+mod long;
 mod odd;
 
-use crate::samples::One;
 use std::sync::Wait;
 use string_cache::dynamic_set::Set;
 use string_cache::static_sets::StaticAtomSet;
 use string_cache::trivial_impls::PrecomputedHash;
 use string_cache::{Atom, EmptyStaticAtomSet, Fault};
+use string_cache_core::samples::One;
 
 /// The static type of a row.
 #[derive(Clone, Copy)]

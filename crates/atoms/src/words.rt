@@ -8,15 +8,14 @@ ghost use Rattle.string_cache.specs.Faults.{IsInternFault};
 ghost use Rattle.atoms.specs.Counts.{count_of, CountsOneMore};
 ghost use Rattle.atoms.specs.Streams.{AppendsBeginning};
 ghost use Rattle.atoms.specs.Words.{seen_line, word_lines};
-ghost use Rattle.atoms.specs.Faults.{IsWritingFault};
-ghost use Rattle.atoms.specs.Told.{TellsWords};
+ghost use Rattle.atoms.specs.Faults.{IsWordsFault, IsWritingFault};
+ghost use Rattle.atoms.specs.Told.{TellsLines};
 
 use crate::buckets::buckets_for;
 use crate::faults::AppFault;
-use crate::streams::{PIECE, Sink, Source, read_all, write_whole};
+use crate::streams::{PIECE, Sink, Source, read_text, write_whole};
 use std::alloc::{AllocError, Global};
 use std::collections::HashMap;
-use std::str;
 use std::sync::Wait;
 use string_cache::dynamic_set::Set;
 use string_cache::table::Table;
@@ -127,14 +126,11 @@ fn tell<I: Interner, S: Source, K: Sink>(
 ) -> Result<(), AppFault>
     requires reader { S.has_failed reader.old ≡ false }
     requires writer { K.has_failed writer.old ≡ false }
-    ensures { TellsWords S.remaining S.has_ended S.has_failed K.contents K.has_failed
-        reader.old reader.new writer.old writer.new result }
+    ensures { TellsLines S.remaining S.has_ended S.has_failed K.contents K.has_failed
+        word_lines IsWordsFault reader.old reader.new writer.old writer.new result }
 {
-    let bytes = read_all(alloc, reader)?;
-    let Ok(text) = str::from_utf8(&bytes) else {
-        return Err(AppFault::Text);
-    };
-    write_words(alloc, interner, text, writer)
+    let text = read_text(alloc, reader)?;
+    write_words(alloc, interner, &text, writer)
 }
 
 /// For each word that the reader gives, a line that tells how often it came before. The words are interned in the set,
@@ -150,8 +146,8 @@ pub fn words<R: Wait, Static: StaticAtomSet, S: Source, K: Sink>(
 ) -> Result<(), AppFault>
     requires reader { S.has_failed reader.old ≡ false }
     requires writer { K.has_failed writer.old ≡ false }
-    ensures { TellsWords S.remaining S.has_ended S.has_failed K.contents K.has_failed
-        reader.old reader.new writer.old writer.new result }
+    ensures { TellsLines S.remaining S.has_ended S.has_failed K.contents K.has_failed
+        word_lines IsWordsFault reader.old reader.new writer.old writer.new result }
 {
     let alloc = set.allocator();
     tell(alloc, &mut Holder::new(rt, set), reader, writer)
@@ -166,17 +162,13 @@ pub fn words_in_new_set<R: Wait, S: Source, K: Sink>(
 ) -> Result<(), AppFault>
     requires reader { S.has_failed reader.old ≡ false }
     requires writer { K.has_failed writer.old ≡ false }
-    ensures utf8 { OnOk result (IfSome (S.remaining reader.old) IsUtf8) }
-    ensures lines { OnOk result (IfSome (S.remaining reader.old) (λ bytes.
-        Appends (K.contents writer.old) (K.contents writer.new) (word_lines bytes))) }
-    ensures beginning { OnErr result (IfSome (S.remaining reader.old) (λ bytes.
-        AppendsBeginning (K.contents writer.old) (K.contents writer.new) (word_lines bytes))) }
+    ensures { TellsLines S.remaining S.has_ended S.has_failed K.contents K.has_failed
+        word_lines IsWordsFault reader.old reader.new writer.old writer.new result }
 {
-    let given = read_all(alloc, reader)?;
-    let text = str::from_utf8(&given).ok().ok_or(AppFault::Text)?;
+    let text = read_text(alloc, reader)?;
     let buckets = buckets_for(text.len());
     let set = Set::<EmptyStaticAtomSet>::with_buckets(alloc, Limits::greatest(), buckets)?;
-    write_words(alloc, &mut Holder::new(rt, &set), text, writer)
+    write_words(alloc, &mut Holder::new(rt, &set), &text, writer)
 }
 
 /// The same lines and faults as those of `words`. The words are interned in a table of this call's own, which ends with it,
@@ -188,8 +180,8 @@ pub fn words_alone<S: Source, K: Sink>(
 ) -> Result<(), AppFault>
     requires reader { S.has_failed reader.old ≡ false }
     requires writer { K.has_failed writer.old ≡ false }
-    ensures { TellsWords S.remaining S.has_ended S.has_failed K.contents K.has_failed
-        reader.old reader.new writer.old writer.new result }
+    ensures { TellsLines S.remaining S.has_ended S.has_failed K.contents K.has_failed
+        word_lines IsWordsFault reader.old reader.new writer.old writer.new result }
 {
     let mut table = Table::<EmptyStaticAtomSet>::new(alloc)?;
     tell(alloc, &mut table, reader, writer)

@@ -1,4 +1,7 @@
 //! References to a cell, each with what it may do there, and the steps on its count. Nothing else reads or writes the count.
+//!
+//! A step is one atomic operation: a load, a compare-and-exchange upwards, or a subtraction. All are sequentially consistent, and the
+//! proofs are of that ordering alone: they say nothing of a weaker one.
 ghost use Rattle.std.specs.Prelude.{◌≡◌, ◌≢◌, ℕ, ◌+◌, ◌^◌, ◌<◌};
 ghost use Rattle.counted_cell.specs.Counting.{CellName, cell_name_coded, Right, right_coded, CanRead, no_right, owner_right, share_right, sole_right, ref_owns, ref_shares, reading_owns};
 
@@ -8,8 +11,9 @@ use std::marker::{Brand, Model, PhantomData};
 use std::sync::atomic::Ordering::SeqCst;
 use std::sync::atomic::raw;
 
-/// A pointer to a cell, with the right that its holder has there. It can't be dropped, so no right is forgotten: a share's is
-/// spent by `decrement` alone, the owner's by `close`, what `close` gained by `reclaim`, and none at all by `done`.
+/// A pointer to a cell, with the right that its holder has there. It has no drop, so no right ends unseen: a share's is spent by
+/// `decrement` alone, the owner's by `close`, what `close` gained by `reclaim`, and none at all by `done`. What can be forgotten is
+/// a struct with a drop of its own that holds one: its right is then never spent.
 pub struct CellRef<T> {
     pub(crate) ptr: *const Header<T>,
     pub ghost value: { T },

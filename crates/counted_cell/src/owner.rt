@@ -79,6 +79,7 @@ impl<A: Allocator> Owner<A> {
     ) -> Result<(Owner<A>, Share), AllocError>
         requires { (1 ≤ label.limit) × (label.limit < 2 ^ 63) }
         ensures owner { IfOk result (λ made. (made.0.label ≡ label) × (made.0.note ≡ note) × (made.0.text ≡ text.now)) }
+        ensures limit { IfOk result (λ made. made.0.name.limit ≡ label.limit) }
         ensures share { IfOk result (λ made. made.1 ≡ made.0) }
     {
         let len = text.len();

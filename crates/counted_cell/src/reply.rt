@@ -9,7 +9,7 @@ use crate::evidence::{AtLimit, NoShares};
 use crate::share::Share;
 use std::sync::Wait;
 
-/// What an addition answers. It can't be forgotten, since it may hold a share.
+/// What an addition answers. It has no drop, since it may hold a share.
 pub enum Reply {
     /// The count is one more, for this share.
     Added(Share),

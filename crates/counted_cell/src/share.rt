@@ -9,8 +9,9 @@ use crate::reply::Reply;
 use std::marker::Model;
 use std::sync::Wait;
 
-/// One of the shares that the count counts. It can't be forgotten in safe code: `give` alone spends it.
-/// In a clause it is its cell.
+/// One of the shares that the count counts. It has no drop, so that it can be neither dropped nor forgotten by itself: `give`
+/// alone spends it. A struct of a caller's that holds one, with a drop of its own, can be forgotten, and the share with it: then the
+/// count never comes to 0 and the cell's block is never freed, which is a leak and no more. In a clause it is its cell.
 pub struct Share {
     cell: CellRef<Content>,
 }

@@ -163,9 +163,9 @@ fn one_of_two_is_the_last(rt: HostRuntime) {
     assert!(rt; frees(owner));
 }
 
-/// How many bytes of the heap are taken once a cell has ended at its owner's `finish`, or at its drop.
-fn left_by_an_end(heap: &LocalHeap, by_drop: bool) -> Result<usize, AllocError> {
-    let (owner, share) = make(heap, 1, "interned")?;
+/// How many bytes of the heap are taken once a cell of the text has ended at its owner's `finish`, or at its drop.
+fn left_by_an_end(heap: &LocalHeap, text: &str, by_drop: bool) -> Result<usize, AllocError> {
+    let (owner, share) = make(heap, 1, text)?;
     drop(share);
     if by_drop {
         drop(owner);
@@ -175,12 +175,18 @@ fn left_by_an_end(heap: &LocalHeap, by_drop: bool) -> Result<usize, AllocError> 
     Ok(heap.used())
 }
 
-/// A cell is one block, which is given back at the end of the owner where no share is left, and never where one is.
+/// A cell is one block, which is given back at the end of the owner where no share is left, and never where one is. One of the
+/// texts has 300,000 bytes.
 #[test]
 fn the_end_frees_what_is_not_held(rt: HostRuntime) {
-    let heap = LocalHeap::new(rt.alloc(), 4096).expect(&rt, "an answer");
-    assert!(rt; left_by_an_end(&heap, false).expect(&rt, "an answer") == 0);
-    assert!(rt; left_by_an_end(&heap, true).expect(&rt, "an answer") == 0);
+    let heap = LocalHeap::new(rt.alloc(), 400_000).expect(&rt, "an answer");
+    let long = "a".repeat(rt.alloc(), 300_000).expect(&rt, "an answer");
+    for text in ["", "interned", long.as_str()] {
+        for by_drop in [false, true] {
+            let left = left_by_an_end(&heap, text, by_drop).expect(&rt, "an answer");
+            assert!(rt; left == 0, "of {} bytes", text.len());
+        }
+    }
     let (owner, share) = make(&heap, 1, "left behind").expect(&rt, "an answer");
     let block = heap.used();
     assert!(rt; block == 64);

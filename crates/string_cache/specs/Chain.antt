@@ -5,12 +5,14 @@ use Rattle.string_cache_core.specs.Layout.{most_bits, ticket_unit}
 use Rattle.string_cache_core.specs.Tables.{Tables, entry_hash}
 use Rattle.string_cache_core.specs.Word.{ticket_of, IsTicket}
 
--- an entry: its ticket, its text, the hash of the text, and the bits of the number of buckets that its bucket is one of
+-- an entry: its ticket, its text, the hash of the text, the bits of the number of buckets that its bucket is one of, and the
+-- limit of its holders: how many shares of it there may be at a time
 pub record Linked : Type 0 where
   pub ticket : ℕ
   pub text : List ℕ
   pub hash : ℕ
   pub bits : ℕ
+  pub limit : ℕ
 
 -- a bucket: the bits of the number of buckets that it is one of, its entries, newest first, and the serial that it gave last,
 -- at first 0

@@ -7,9 +7,9 @@ use Rattle.string_cache.specs.Chain.{Linked}
 use Rattle.string_cache.specs.declared.dynamic_set.counts.CountReply.{CountReply}
 use Rattle.string_cache.specs.declared.dynamic_set.counts.CountReply.TheVariants as count
 
--- what a cell is to a bucket, whose bits the cell's note is
+-- what a cell is to a bucket, whose bits the cell's note is; the limit is that of the cell's count
 abbrev pub linked_of : Cell → Linked
-linked_of c = record { ticket = c.label.ticket; text = c.text; hash = c.label.hash; bits = c.note }
+linked_of c = record { ticket = c.label.ticket; text = c.text; hash = c.label.hash; bits = c.note; limit = c.name.limit }
 
 -- The reply about a count is what the cell answered: a share is that share, dying is dying, and full is full.
 abbrev pub IsTold : Reply → CountReply Linked → Type 0

@@ -18,7 +18,7 @@ use Rattle.string_cache_core.specs.Kept.{IsSoundMap}
 use Rattle.string_cache_core.specs.Table.{as_word, InternsBy, Interns, Clones, Gives, IsTextOf, IsFixedWord, IsHeld, IsHeldBy, AreHeld, HasWordBy, HasWord, KeepsWord, IsGivenTicket, IsNewTicket}
 use Rattle.string_cache_core.specs.Tables.{Tables, form_of_text, fixed_word, entry_hash, place_in, text_at}
 use Rattle.string_cache_core.specs.Word.{inline_word, static_word, ticket_of}
-use Rattle.string_cache_core.proofs.HeldWords.{static-text}
+use Rattle.string_cache_core.proofs.HeldWords.{static-text, not-fixed-if-ticket}
 use Rattle.string_cache_core.proofs.KeptPairs.{the_same, none_some}
 use Rattle.string_cache_core.proofs.Replies.{some_left}
 use Rattle.string_cache_core.proofs.WordsApart.{has, inline_by}
@@ -128,25 +128,33 @@ grows-other m new text w own holders ticket had is apart other n h = elim (writt
   | inr stays ↦ (n, stays ∙ h, omega arith)
 ]
 
-module _ (t : Tables) (m new : InternMap) (word : ℕ) (grows : Grows m new word) where
-  grows-held : IsHeld t m word → IsHeld t new word
-  grows-held (inl fixed) = inl fixed
-  grows-held (inr k) = let g = grows k.text k.holders k.held in inr (record { text = k.text; holders = g.0; held = g.1 })
+-- who has the ticket in m has it in new
+abbrev pub HasStill : InternMap → InternMap → ℕ → Type 0
+HasStill m new ticket = (text : List ℕ) (holders : ℕ) → m.held text ≡ held_by ticket holders → (now : ℕ) × (new.held text ≡ held_by ticket now)
 
-  grows-text : (text : List ℕ) → IsTextOf t m word text → IsTextOf t new word text
-  grows-text text (inl s) = inl s
-  grows-text text (inr h) = let g = grows text h.0 h.1 in inr (g.0, g.1)
+module _ (t : Tables) (m new : InternMap) (word : ℕ) (still : HasStill m new word) where
+  still-held : IsHeld t m word → IsHeld t new word
+  still-held (inl fixed) = inl fixed
+  still-held (inr k) = let s = still k.text k.holders k.held in inr (record { text = k.text; holders = s.0; held = s.1 })
 
-  grows-owned : (text : List ℕ) (fixed : Option ℕ) → HasWordBy m text fixed word → HasWordBy new text fixed word
-  grows-owned text (Some own) h = h
-  grows-owned text None h = let g = grows text h.0 h.1 in (g.0, g.1)
+  still-text : (text : List ℕ) → IsTextOf t m word text → IsTextOf t new word text
+  still-text text (inl s) = inl s
+  still-text text (inr h) = inr (still text h.0 h.1)
 
-  pub grows-keeps : KeepsWord t m new word
-  grows-keeps = record {
-    held = grows-held;
-    text = grows-text;
-    owned = λ text. grows-owned text (fixed_word (form_of_text t text));
+  still-owned : (text : List ℕ) (fixed : Option ℕ) → HasWordBy m text fixed word → HasWordBy new text fixed word
+  still-owned text (Some own) h = h
+  still-owned text None h = still text h.0 h.1
+
+  still-keeps : KeepsWord t m new word
+  still-keeps = record {
+    held = still-held;
+    text = still-text;
+    owned = λ text. still-owned text (fixed_word (form_of_text t text));
   }
+
+module _ (t : Tables) (m new : InternMap) (word : ℕ) (grows : Grows m new word) where
+  pub grows-keeps : KeepsWord t m new word
+  grows-keeps = still-keeps t m new word (λ text holders h. (let g = grows text holders h in (g.0, g.1)))
 
   pub grows-by : (n : ℕ) → IsHeldBy t m word n → IsHeldBy t new word n
   grows-by n (inl none) = inl none
@@ -398,6 +406,35 @@ module _ (t : Tables) (limits : Bounds) (m new : InternMap) (word : ℕ) where
   pub gives-grow : Gives t limits m word new → (other : ℕ) → other ≢ word → Grows m new other
   gives-grow (inl x) other apart = grows-same m new other x.1
   gives-grow (inr x) other apart = grows-other m new x.1.0.text _ word x.1.0.holders other x.1.0.held (written m new x.1.0.text _ x.1.1.1) apart
+
+  -- a word that is still held once it was given was a ticket with more holders than one, or is one that a form fixes
+  given-still : Gives t limits m word new → IsSoundMap t m → IsHeld t new word → KeepsWord t m new word
+  given-still (inl x) sound held = grows-keeps t m new word (grows-same m new word x.1)
+  given-still (inr x) sound (inl fixed) =
+      let k = x.1.0 in
+      let g = sound.given k.text (record { ticket = word; holders = k.holders }) k.held in
+      absurd (not-fixed-if-ticket t word g.serial (entry_hash t k.text % m.buckets) (sym g.is) fixed)
+  given-still (inr x) sound (inr j) =
+      let k = x.1.0 in
+      let had : Holding = record { ticket = word; holders = k.holders } in
+      let own : j.text ≡ k.text = elim (written-cases m new k.text (unless_given_up (one_less had)) (written m new k.text _ x.1.1.1) j.text) [
+        | inl same ↦ sym same
+        | inr stays ↦ sound.apart j.text k.text (record { ticket = word; holders = j.holders }) had (sym stays ∙ j.held) k.held refl
+      ] in
+      still-keeps t m new word (λ text holders h. (
+        j.holders,
+        ap new.held (sound.apart text k.text (record { ticket = word; holders = holders }) had h k.held refl ∙ sym own) ∙ j.held,
+      ))
+
+  -- any other word keeps what it has, and so does this one where it is still held
+  pub gives-keeps : Gives t limits m word new → IsSoundMap t m → (other : ℕ) → (other ≢ word) ⊎ IsHeld t new other → KeepsWord t m new other
+  gives-keeps h sound other (inl apart) = grows-keeps t m new other (gives-grow h other apart)
+  gives-keeps h sound other (inr held) = elim (cases_Bool (other == word)) [
+    | inl same ↦
+        let is = eqb-true other word same in
+        subst (KeepsWord t m new) (sym is) (given-still h sound (subst (IsHeld t new) is held))
+    | inr apart ↦ grows-keeps t m new other (gives-grow h other (λ e. true≢false (sym (eq-eqb other word e) ∙ apart)))
+  ]
 
   -- one holder less has it
   gives-less : Gives t limits m word new → IsSoundMap t m → (n : ℕ) → IsHeldBy t m word (1 + n) → IsHeldBy t new word n

@@ -3,8 +3,8 @@
 
 mod faults;
 pub mod phf;
-#[cfg(test)]
-mod samples;
+#[doc(hidden)]
+pub mod samples;
 pub mod static_sets;
 pub mod steps;
 pub mod table;

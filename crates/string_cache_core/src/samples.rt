@@ -1,4 +1,4 @@
-// Static types for tests.
+// Static types for the tests of this crate and of those above it, and for nothing else.
 #![tactic(auto)]
 
 use crate::static_sets::{PhfStrSet, StaticAtomSet};

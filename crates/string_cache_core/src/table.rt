@@ -1,7 +1,7 @@
 //! The table of texts for one thread.
 #![tactic(auto)]
 
-ghost use Rattle.std.specs.Prelude.{IsTrue, ◌≡◌, ◌≢◌, ℕ, ◌∷◌, ◌++◌, ◌+◌, ◌-◌, ◌^◌, ◌%◌, ◌<◌, ◌≤◌, OnOk, OnErr, IfOk, IfErr, IfSome, IsSome, MatchOption, Option, None, Some, slice_get, length, List, ◌↔◌};
+ghost use Rattle.std.specs.Prelude.{IsTrue, ◌≡◌, ◌≢◌, ℕ, ◌∷◌, ◌++◌, ◌+◌, ◌-◌, ◌^◌, ◌%◌, ◌<◌, ◌≤◌, ◌⊎◌, OnOk, OnErr, IfOk, IfErr, IfSome, IsSome, MatchOption, Option, None, Some, slice_get, length, List, ◌↔◌};
 ghost use Rattle.string_cache_core.specs.Bounds.{Bounds};
 ghost use Rattle.string_cache_core.specs.Faults.{IsInternFault};
 ghost use Rattle.string_cache_core.specs.declared.faults.Fault.TheVariants.{FullCount, Memory};
@@ -155,12 +155,17 @@ impl<S: StaticAtomSet> Table<S> {
         ensures held { IfOk result (λ clone. IsHeld S.tables (map_of self.new) clone) }
         ensures listed { (words : List ℕ) → AreHeld S.tables (map_of self.old) words → IfOk result (λ clone. AreHeld S.tables (map_of self.new) (clone ∷ words)) }
         ensures keeps { (other : ℕ) → KeepsWord S.tables (map_of self.old) (map_of self.new) other }
+        ensures apart { HasOneTextEach S.tables (map_of self.new) }
         ensures fault { IfErr result (λ fault. fault ≡ FullCount) }
         ensures err { OnErr result (self.new ≡ self.old) }
     {
-        self.is_sound();
+        self.is_sound(); // before and after, as `listed` and `apart` say
         match self.place_of(word) {
-            Some(at) => self.add_holder(at),
+            Some(at) => {
+                let outcome = self.add_holder(at);
+                self.is_sound();
+                outcome
+            }
             None => Ok(word),
         }
     }
@@ -172,11 +177,13 @@ impl<S: StaticAtomSet> Table<S> {
         ensures limits { self.new.limits ≡ self.old.limits }
         ensures gives { Gives S.tables self.old.limits (map_of self.old) word (map_of self.new) }
         ensures listed { (before after : List ℕ) → AreHeld S.tables (map_of self.old) (before ++ word ∷ after) → AreHeld S.tables (map_of self.new) (before ++ after) }
-        ensures keeps { (other : ℕ) → other ≢ word → KeepsWord S.tables (map_of self.old) (map_of self.new) other }
+        ensures keeps { (other : ℕ) → (other ≢ word) ⊎ IsHeld S.tables (map_of self.new) other → KeepsWord S.tables (map_of self.old) (map_of self.new) other }
+        ensures apart { HasOneTextEach S.tables (map_of self.new) }
     {
-        self.is_sound();
+        self.is_sound(); // before and after, as `keeps` and `apart` say
         if let Some(at) = self.place_of(word) {
             self.give_at(at);
+            self.is_sound();
         }
     }
 

@@ -4,6 +4,7 @@ use Rattle.std.specs.Prelude.{◌≡◌, ◌≢◌, ℕ, ◌+◌, ◌*◌, ◌%�
 use Rattle.std.specs.List.{All, Any, AllPairs}
 use Rattle.string_cache_core.specs.declared.phf.Hashes.{Hashes}
 use Rattle.string_cache_core.specs.Phf.{place_of}
+use Rattle.table_generator.specs.declared.search.Tried.{Tried}
 
 -- under these displacements the texts have different places among `len`
 abbrev pub AreApart : List (ℕ × ℕ) → ℕ → List Hashes → Type 0
@@ -33,6 +34,14 @@ IsPlaceOf len pair place members = Any (λ h. place_by len pair h ≡ place) mem
 pub record Fits (taken : List Bool) (members : List Hashes) (pair : ℕ × ℕ) : Type 0 where
   pub free : (i : ℕ) (d : Hashes) → i < length members → is_taken taken (place_by (length taken) pair (slice_index_or members i d)) ≡ false
   pub differ : AllPairs (λ x y. place_by (length taken) pair x ≢ place_by (length taken) pair y) members
+
+-- the pair is one of those to be tried, and fits
+abbrev pub FitsAmong : List Bool → List Hashes → Tried → ℕ × ℕ → Type 0
+FitsAmong taken members tried pair = (pair.0 < tried.first) × (pair.1 < tried.second) × Fits taken members pair
+
+-- none of the pairs to be tried fits
+abbrev pub NoneFits : List Bool → List Hashes → Tried → Type 0
+NoneFits taken members tried = (d1 d2 : ℕ) → d1 < tried.first → d2 < tried.second → Fits taken members (d1, d2) → ⊥
 
 -- the texts' places are taken, and what was taken still is
 pub record Marks (members : List Hashes) (pair : ℕ × ℕ) (old new : List Bool) : Type 0 where

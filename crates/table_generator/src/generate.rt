@@ -107,7 +107,8 @@ fn tables_in(
 ///
 /// The search takes milliseconds for a thousand texts, and has an end. What it tries for one pair, where that is hopeless, is at
 /// most 65,536 or `bound` displacements, whichever is less, times the number of texts; that number's square where it is a power of
-/// two; and `bound` times `bound` for three or five texts. Looking for equal texts compares each text with all before it, which is
+/// two; and three times `bound` times `bound` for three or five texts. Of these small ones are tried first: where some below a small
+/// bound place the texts, a greater bound takes no longer. Looking for equal texts compares each text with all before it, which is
 /// quick for thousands and slow for hundreds of thousands.
 pub fn generate(alloc: Global, list: &[&str], key: u64, bound: u32) -> Result<Tables, GenFault>
     ensures { TellsTables (texts_of list.now) key bound result }

@@ -1,9 +1,9 @@
 // The search for one pair of displacements: it has to give its texts places that are free, each another one.
 #![tactic(auto)]
 
-ghost use Rattle.std.specs.Prelude.{◌≡◌, ◌<◌, ◌≤◌, ◌^◌, ◌↔◌, ℕ, IsTrue, MatchOption, length};
+ghost use Rattle.std.specs.Prelude.{◌≡◌, ◌<◌, ◌≤◌, ◌^◌, ◌↔◌, IsTrue, MatchOption, length};
 ghost use Rattle.std.specs.Bool.{OnTrue, OnFalse};
-ghost use Rattle.table_generator.specs.Places.{place_by, Fits, Marks, IsPlaceOf};
+ghost use Rattle.table_generator.specs.Places.{place_by, Fits, FitsAmong, IsPlaceOf, Marks, NoneFits};
 
 use string_cache_core::phf::Hashes;
 
@@ -56,13 +56,12 @@ fn fits(members: &[Hashes], pair: (u32, u32), taken: &[bool]) -> bool
     true
 }
 
-/// The first pair of those to be tried that gives the texts different places, none of which is taken. It takes no memory.
-pub fn find_pair(members: &[Hashes], tried: Tried, taken: &[bool]) -> Option<(u32, u32)>
+/// The first pair of those to be tried, in the order of their first displacements, that gives the texts different places, none of
+/// which is taken.
+fn find_within(members: &[Hashes], tried: Tried, taken: &[bool]) -> Option<(u32, u32)>
     requires listed { 1 ≤ length taken.now }
     requires few { length taken.now < 2 ^ 32 }
-    ensures { MatchOption result
-        ((d1 d2 : ℕ) → d1 < tried.first → d2 < tried.second → Fits taken.now members.now (d1, d2) → ⊥)
-        (λ pair. (pair.0 < tried.first) × (pair.1 < tried.second) × Fits taken.now members.now pair) }
+    ensures { MatchOption result (NoneFits taken.now members.now tried) (FitsAmong taken.now members.now tried) }
 {
     for d1 in 0..tried.first {
         for d2 in 0..tried.second {
@@ -72,6 +71,30 @@ pub fn find_pair(members: &[Hashes], tried: Tried, taken: &[bool]) -> Option<(u3
         }
     }
     None
+}
+
+/// A pair of those to be tried that gives the texts different places, none of which is taken; `None` only where none does. It
+/// takes no memory.
+///
+/// Where more second displacements are tried than there are places, the search begins with as many of both, and tries twice as
+/// many each time: a pair of small ones is found in a time that depends on them, however great the numbers of `tried` are.
+pub fn find_pair(members: &[Hashes], tried: Tried, taken: &[bool]) -> Option<(u32, u32)>
+    requires listed { 1 ≤ length taken.now }
+    requires few { length taken.now < 2 ^ 32 }
+    ensures { MatchOption result (NoneFits taken.now members.now tried) (FitsAmong taken.now members.now tried) }
+{
+    let mut within = taken.len() as u32;
+    while within < tried.second {
+        let near = Tried {
+            first: tried.first.min(within),
+            second: within,
+        };
+        if let Some(pair) = find_within(members, near, taken) {
+            return Some(pair);
+        }
+        within = within.saturating_mul(2);
+    }
+    find_within(members, tried, taken)
 }
 
 /// Takes the places of the texts.

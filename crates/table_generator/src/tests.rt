@@ -4,11 +4,12 @@
 use crate::check::check_tables;
 use crate::generate::generate;
 use crate::numbers::{number_after, number_of, short_number_of};
+use crate::search::{Tried, find_pair};
 use crate::tables::{GenFault, Tables};
 use std::alloc::Global;
 use std::test::Fail;
 use string_cache_core::Fault;
-use string_cache_core::phf::hash;
+use string_cache_core::phf::{Hashes, hash};
 use string_cache_core::static_sets::check_parts;
 
 /// As `generate`. Where memory was refused, the call is made once more.
@@ -160,6 +161,49 @@ fn sixty_one_texts(rt: HostRuntime) -> Result<(), Fail> {
     assert!(rt; check_parts(tables.key, &tables.disps, &atoms, &tables.hashes));
     assert!(rt; checked(alloc, &format!(in alloc; "{tables}")?)?);
     Ok(())
+}
+
+/// Of these three texts the first two have the places 0 and 1 with no displacement, and the third 0, as 4294966296 is 3 * 1431655432.
+/// A first displacement of 2 adds 2 to the third alone; a second one of 1000 takes it round to 0, and with it the others to 1 and 2.
+/// The smaller is found.
+#[test]
+fn small_displacements_come_first(rt: HostRuntime) {
+    let members = [
+        Hashes { g: 0, f1: 0, f2: 0 },
+        Hashes { g: 0, f1: 0, f2: 1 },
+        Hashes {
+            g: 0,
+            f1: 1,
+            f2: 4_294_966_296,
+        },
+    ];
+    let tried = Tried {
+        first: 10_000,
+        second: 10_000,
+    };
+    let found = find_pair(&members, tried, &[false, false, false]);
+    assert!(rt; found == Some((2, 0)));
+}
+
+/// Three and five texts that small displacements place are placed at once at the greatest bound. With a first displacement of 0
+/// they aren't placed.
+#[test]
+fn greatest_bound(rt: HostRuntime) {
+    let alloc = rt.alloc();
+    let names = [
+        "sentence",
+        "interned",
+        "tokenised",
+        "repeated",
+        "figcaption",
+    ];
+    for count in [3, 5] {
+        let tables = tables_of(alloc, &names[..count], 0, u32::MAX).expect(&rt, "tables");
+        let printed = format!(in alloc; "{tables}").expect(&rt, "memory");
+        assert!(rt; checked(alloc, &printed).expect(&rt, "memory"));
+        assert!(rt; tables.disps[0].0 > 0 && tables.disps[0].0 < 1000);
+        assert!(rt; tables.disps[0].1 < 1000);
+    }
 }
 
 /// Two texts whose places differ by an even number whatever the displacements: a search without bound ends.

@@ -2,8 +2,12 @@
 //! the library alone, and a test that runs it.
 #![tactic(auto)]
 
-ghost use Rattle.std.specs.Prelude.{◌≡◌, ◌≢◌, codes, IfOk, IsTrue};
+ghost use Rattle.std.specs.Prelude.{◌≡◌, ◌≢◌, ◌↔◌, codes, IfOk, IsTrue, None, Some};
+ghost use Rattle.std.specs.Cmp.Lexicographic.{slice_cmp};
+ghost use Rattle.std.specs.Ordering.{nat_cmp};
+ghost use Rattle.std.specs.Str.{str_to_ascii_uppercase};
 
+mod dishes;
 mod headers;
 mod json;
 mod prices;
@@ -13,11 +17,13 @@ mod tags;
 #[cfg(test)]
 mod tests;
 
+pub use dishes::{DISHES_TABLES, Dishes};
 pub use headers::header_name;
 pub use json::{load, save, through_json};
 pub use prices::{price_of, set_price};
 pub use sharing::{agree, agree_in_scope};
 use std::alloc::Global;
+use std::cmp::Ordering;
 use std::collections::HashMap;
 use std::sync::Wait;
 use string_cache::dynamic_set::Set;
@@ -25,26 +31,45 @@ use string_cache::{DefaultAtom, Fault};
 pub use symbols::{WordText, reads_back, same_word, text_of};
 pub use tags::{TAGS, Tag, Tags, finds_all, is_field};
 
-/// Whether atoms compare, sort, change case and are found in a map as their texts are: they do.
-pub fn atoms_at_work<R: Wait>(rt: &R, alloc: Global) -> Result<bool, Fault>
-    ensures { IfOk result (λ all. IsTrue all) }
+/// How one name stands to another.
+#[derive(Clone, Copy, PartialEq, Eq, Debug)]
+pub struct Compared {
+    /// They are one text.
+    pub is_same: bool,
+    /// Which of them comes first.
+    pub order: Ordering,
+    /// The second is the first in capitals.
+    pub is_in_capitals: bool,
+    /// What a map that has a price for the first has for the second.
+    pub price: Option<u32>,
+}
+
+/// Compares two names by their atoms, and looks for the second in a map that has a price for the first.
+pub fn compare_names<R: Wait>(
+    rt: &R,
+    alloc: Global,
+    first: &str,
+    second: &str,
+    price: u32,
+) -> Result<Compared, Fault>
+    ensures same { IfOk result (λ found. IsTrue found.is_same ↔ (first.now ≡ second.now)) }
+    ensures order { IfOk result (λ found. found.order ≡ slice_cmp nat_cmp first.now second.now) }
+    ensures capitals { IfOk result (λ found. IsTrue found.is_in_capitals ↔ (str_to_ascii_uppercase first.now ≡ second.now)) }
+    ensures price { IfOk result (λ found. first.now ≡ second.now → found.price ≡ Some price) }
+    ensures no_price { IfOk result (λ found. first.now ≢ second.now → found.price ≡ None) }
 {
     let set = Set::new(alloc)?;
-    let pear = DefaultAtom::from_str_in(rt, &set, "pear tree")?;
-    let plum = DefaultAtom::from_str_in(rt, &set, "plum")?;
-
-    let is_same = pear == DefaultAtom::from_str_in(rt, &set, "pear tree")?;
-    let is_sorted = pear < plum;
-
-    let upper = pear.to_ascii_uppercase_in(rt, &set)?;
-    let is_cased = upper.eq_str("PEAR TREE") && upper.eq_ignore_ascii_case(&pear);
-
+    let first = DefaultAtom::from_str_in(rt, &set, first)?;
+    let second = DefaultAtom::from_str_in(rt, &set, second)?;
+    let capitals = first.to_ascii_uppercase_in(rt, &set)?;
     let mut prices = HashMap::new(alloc);
-    prices.insert(pear.clone_atom(rt)?, 40)?;
-    prices.insert(plum, 15)?;
-    let is_found = prices.get(&pear) == Some(&40);
-
-    Ok(is_same && is_sorted && is_cased && is_found)
+    prices.insert(first.clone_atom(rt)?, price)?;
+    Ok(Compared {
+        is_same: first == second,
+        order: first.cmp(&second),
+        is_in_capitals: capitals == second,
+        price: prices.get(&second).copied(),
+    })
 }
 
 /// What a text stands for, matched by `as_str`.

@@ -1,7 +1,7 @@
 // The names of a program, for one thread.
-ghost use Rattle.std.specs.Prelude.{◌≡◌, ◌↔◌, IfOk, IfSome, IsSome, IsTrue};
+ghost use Rattle.std.specs.Prelude.{◌≡◌, ◌↔◌, ℕ, List, IfOk, IfSome, IsSome, IsTrue, string_bytes};
 ghost use Rattle.string_cache_core.specs.Kept.{map_of};
-ghost use Rattle.string_cache_core.specs.Table.{HasWord, IsHeld};
+ghost use Rattle.string_cache_core.specs.Table.{AreHeld, HasWord, IsHeld};
 ghost use Rattle.uses.specs.Symbols.{text_in};
 
 use std::alloc::Global;
@@ -49,18 +49,20 @@ pub fn text_of<Static: StaticAtomSet>(table: &Table<Static>, word: u64) -> Optio
     }
 }
 
-/// Interns a name, reads it back and gives it up again.
+/// Interns a name, reads its text back, and gives the word up again. What was held before still is.
 pub fn reads_back<Static: StaticAtomSet>(
+    alloc: Global,
     table: &mut Table<Static>,
     name: &str,
-) -> Result<bool, Fault>
-    ensures { IfOk result (λ same. IsTrue same) }
+) -> Result<String, Fault>
+    ensures text { IfOk result (λ text. string_bytes text ≡ name.now) }
+    ensures held { (words : List ℕ) → AreHeld Static.tables (map_of table.old) words → AreHeld Static.tables (map_of table.new) words }
 {
     let word = table.intern(name)?;
-    let is_same = match text_of(table, word) {
-        Some(text) => text.as_str() == name,
-        None => false,
+    let copy = match text_of(table, word) {
+        Some(text) => String::from_str(alloc, text.as_str()),
+        None => unreachable!(), // the word is held
     };
     table.give(word);
-    Ok(is_same)
+    Ok(copy?)
 }

@@ -1,6 +1,7 @@
 // A static type of one's own.
-ghost use Rattle.std.specs.Prelude.{◌≡◌, ◌⊎◌, ◌↔◌, codes, IsTrue};
-ghost use Rattle.string_cache_core.specs.Tables.{IsPerfectTable};
+ghost use Rattle.std.specs.Prelude.{◌≡◌, ◌<◌, ◌⊎◌, ◌↔◌, codes, length, IsTrue};
+ghost use Rattle.std.specs.List.{All, Contains};
+ghost use Rattle.string_cache_core.specs.Tables.{IsPerfectTable, form_of_text, is_static_form};
 ghost use Rattle.uses.specs.Tags.{tag_tables};
 
 use string_cache::{Atom, PhfStrSet, StaticAtomSet};
@@ -47,13 +48,14 @@ impl StaticAtomSet for Tags {
 /// A tag.
 pub type Tag<'s> = Atom<'s, Tags>;
 
-/// Whether each text of more than 7 bytes in the tables of a static type is found without a set. They are where the
-/// tables' `check` says yes.
-pub fn finds_all<Static: StaticAtomSet>() -> bool
-    ensures { IsPerfectTable Static.tables → IsTrue result }
+/// Whether each of the names is found without a set. Those of more than 7 bytes in tables that pass `check` are.
+pub fn finds_all<Static: StaticAtomSet>(names: &[&str]) -> bool
+    ensures found { IsTrue result ↔ All (λ name. IsTrue (is_static_form (form_of_text Static.tables name.now))) names.now }
+    ensures listed { IsPerfectTable Static.tables → All (λ name. Contains Static.tables.atoms name.now × (7 < length name.now)) names.now → IsTrue result }
 {
-    let names = Static::get().atoms;
-    names.iter().all(|name| name.len() <= 7 || Atom::<Static>::try_static(name).is_some())
+    names
+        .iter()
+        .all(|name| Atom::<Static>::try_static(name).is_some())
 }
 
 /// Whether the tag is one of a form's fields.

@@ -6,9 +6,21 @@ use string_cache::word::{Form, form_of};
 use string_cache::{Atom, EmptyStaticAtomSet};
 
 #[test]
-fn readme_atoms(rt: HostRuntime) -> Result<(), Fail> {
-    assert!(rt; atoms_at_work(&rt, rt.alloc())?);
-    Ok(())
+fn names_compare(rt: HostRuntime) {
+    for (first, second, is_same, order, is_in_capitals) in [
+        ("pear tree", "pear tree", true, Ordering::Equal, false),
+        ("pear tree", "plum", false, Ordering::Less, false),
+        ("pear tree", "PEAR TREE", false, Ordering::Greater, true),
+    ] {
+        let found = compare_names(&rt, rt.alloc(), first, second, 40).expect(&rt, "atoms");
+        let wanted = Compared {
+            is_same,
+            order,
+            is_in_capitals,
+            price: if is_same { Some(40) } else { None },
+        };
+        assert_eq!(rt; found, wanted, "of {first:?} and {second:?}");
+    }
 }
 
 #[test]
@@ -88,13 +100,29 @@ fn told_of_tag<R: Wait>(rt: &R, set: &Set<Tags>, name: &str) -> Result<(bool, bo
 
 #[test]
 fn tags_are_static(rt: HostRuntime) -> Result<(), Fail> {
-    assert!(rt; TAGS.check() && finds_all::<Tags>());
+    assert!(rt; TAGS.check());
+    assert!(rt; finds_all::<Tags>(&["figcaption", "textarea", "template"]));
+    assert!(rt; !finds_all::<Tags>(&["figcaption", "sentence"]));
     let set = Set::new(rt.alloc())?;
     for (name, is_static) in [("textarea", true), ("table", false), ("sentence", false)] {
         let found = told_of_tag(&rt, &set, name)?;
         assert_eq!(rt; found, (is_static, name == "textarea"), "of {name}");
     }
     Ok(())
+}
+
+/// A type that `tools/static_type.py` wrote, over names of several scripts.
+#[test]
+fn dishes_are_static(rt: HostRuntime) {
+    let names = [
+        "caf\u{e9} au lait",
+        "\u{5e9}\u{5e7}\u{5e9}\u{5d5}\u{5e7}\u{5d4}",
+        "soup \"du jour\" \\ bread",
+        "minestrone",
+    ];
+    assert!(rt; DISHES_TABLES.check());
+    assert!(rt; finds_all::<Dishes>(&names));
+    assert!(rt; !finds_all::<Dishes>(&["cafe au lait"]));
 }
 
 #[test]
@@ -113,7 +141,8 @@ fn names_have_one_word_each(rt: HostRuntime) -> Result<(), Fail> {
 fn words_of_all_forms_have_texts(rt: HostRuntime) -> Result<(), Fail> {
     let mut table = Table::<Tags>::new(rt.alloc())?;
     for name in ["", "table", "textarea", "sentence"] {
-        assert!(rt; reads_back(&mut table, name)?, "of {name:?}");
+        let text = reads_back(rt.alloc(), &mut table, name)?;
+        assert_eq!(rt; text.as_str(), name);
     }
     assert_eq!(rt; table.entries(), 0);
     assert!(rt; text_of(&table, 3).is_none());

@@ -1,6 +1,8 @@
 // What the program prints and answers, by its arguments and its input.
 #![tactic(auto)]
 
+mod texts;
+
 use crate::faults::AppFault;
 use crate::memory::{Page, Streams};
 use crate::program::{arguments, program, refuse, run};
@@ -12,6 +14,7 @@ use std::rt::Env;
 use std::sync::Wait;
 use std::thread::Threads;
 use string_cache::Fault;
+use table_generator::tables::GenFault;
 
 const USAGE: &[u8] = b"usage: atoms words | count N | replay | generate KEY BOUND | check\n";
 
@@ -119,7 +122,7 @@ pub const EXAMPLE_COUNTS: &[u8] = b"1 a
 1 will
 ";
 
-const NO_WORKER: &[u8] = b"atoms: worker not started\n";
+pub const NO_WORKER: &[u8] = b"atoms: worker not started\n";
 
 #[test]
 fn program_of_counts(rt: HostRuntime) {
@@ -231,6 +234,7 @@ fn printed_faults(rt: HostRuntime) {
             AppFault::Intern(Fault::NotText),
             b"atoms: not a text\n".as_slice(),
         ),
+        (AppFault::Gen(GenFault::Memory), NO_MEMORY),
     ] {
         let mut faults = Page::wide();
         assert_eq!(rt; refuse(&mut faults, fault), 1);

@@ -94,16 +94,17 @@ fn script_without_room_is_replayed(rt: HostRuntime) -> Result<(), Fail> {
     worked_script_is_replayed(&rt, rt.alloc(), WORKED[2])
 }
 
-/// The counts of the example by so many workers. After a refusal nothing stays linked.
-fn example_is_counted<R: Threads + Wait + Sync + Print + Abort>(
+/// Counts the example by this many workers, and answers the fault that came. After it nothing stays linked, and the call made again
+/// gives the counts.
+pub fn example_is_counted<R: Threads + Wait + Sync + Print + Abort>(
     rt: &R,
     alloc: Global,
     n: u32,
-) -> Result<(), Fail>
+) -> Option<AppFault>
     requires low { 1 ≤ n }
     requires high { n ≤ 64 }
 {
-    let set = Set::<EmptyStaticAtomSet>::new(alloc)?;
+    let set = Set::<EmptyStaticAtomSet>::new(alloc).expect(rt, "a set");
     let text = str::from_utf8(EXAMPLE).expect(rt, "a text");
     begin(rt);
     let answer = count(rt, &set, text, n, &Open);
@@ -113,49 +114,85 @@ fn example_is_counted<R: Threads + Wait + Sync + Print + Abort>(
         Ok(counts) => are(counts, &EXAMPLE_COUNTS),
         Err(_) => matches!(ended, End::Refused),
     };
-    drop(answer);
+    let fault = answer.err();
     assert!(rt; is_right && set.linked(rt) == 0);
-    let again = count(rt, &set, text, n, &Open)?;
+    let again = count(rt, &set, text, n, &Open).expect(rt, "counts");
     assert!(rt; are(&again, &EXAMPLE_COUNTS));
     drop(again);
     assert!(rt; set.linked(rt) == 0);
-    Ok(())
+    fault
 }
 
 #[test]
-fn counts_by_one(rt: HostRuntime) -> Result<(), Fail> {
-    example_is_counted(&rt, rt.alloc(), 1)
+fn counts_by_one(rt: HostRuntime) {
+    let _ = example_is_counted(&rt, rt.alloc(), 1);
 }
 
 #[test]
-fn counts_by_two(rt: HostRuntime) -> Result<(), Fail> {
-    example_is_counted(&rt, rt.alloc(), 2)
+fn counts_by_two(rt: HostRuntime) {
+    let _ = example_is_counted(&rt, rt.alloc(), 2);
 }
 
 #[test]
-fn counts_by_three(rt: HostRuntime) -> Result<(), Fail> {
-    example_is_counted(&rt, rt.alloc(), 3)
+fn counts_by_three(rt: HostRuntime) {
+    let _ = example_is_counted(&rt, rt.alloc(), 3);
 }
 
 #[test]
-fn counts_by_sixty_four(rt: HostRuntime) -> Result<(), Fail> {
-    example_is_counted(&rt, rt.alloc(), 64)
+fn counts_by_sixty_four(rt: HostRuntime) {
+    let _ = example_is_counted(&rt, rt.alloc(), 64);
 }
 
-/// The whole program, whose fault is a line.
-#[test]
-fn program_runs(rt: HostRuntime) {
-    let args = words_of_line(rt.alloc(), "words").expect(&rt, "an answer");
-    begin(&rt);
-    let answer = answer_of(&rt, rt.alloc(), &args, &Streams::ample(EXAMPLE));
+/// The whole program over a line of arguments, an input and the output that it has. Where it is refused, this line tells the fault.
+pub fn line_is_run<R: Threads + Wait + Sync + Print + Abort>(
+    rt: &R,
+    alloc: Global,
+    line: &str,
+    (input, output): (&[u8], &[u8]),
+    refusal: &[u8],
+) {
+    let args = words_of_line(alloc, line).expect(rt, "an answer");
+    begin(rt);
+    let answer = answer_of(rt, alloc, &args, &Streams::ample(input));
     let is_refused = answer.status == 1;
-    finish(&rt, if is_refused { End::Refused } else { End::Given });
+    finish(rt, if is_refused { End::Refused } else { End::Given });
     if is_refused {
-        assert!(rt; answer.faults.written() == NO_MEMORY);
-        assert!(rt; EXAMPLE_LINES.starts_with(answer.output.written()));
+        assert!(rt; answer.faults.written() == refusal);
+        assert!(rt; output.starts_with(answer.output.written()));
     } else {
-        assert!(rt; answer.output.written() == EXAMPLE_LINES);
+        assert!(rt; answer.faults.written().is_empty());
+        assert!(rt; answer.output.written() == output);
     }
+}
+
+#[test]
+fn program_lists_words(rt: HostRuntime) {
+    line_is_run(
+        &rt,
+        rt.alloc(),
+        "words",
+        (EXAMPLE, EXAMPLE_LINES),
+        NO_MEMORY,
+    );
+}
+
+/// The hash is that of OpenSSL's SipHash.
+const TABLE_TEXT: &[u8] = b"key 0\ndisp 0 0\natom ed02e6f16c03c165 sentence\n";
+
+#[test]
+fn program_makes_tables(rt: HostRuntime) {
+    line_is_run(
+        &rt,
+        rt.alloc(),
+        "generate 0 1",
+        (b"sentence\n", TABLE_TEXT),
+        NO_MEMORY,
+    );
+}
+
+#[test]
+fn program_checks_tables(rt: HostRuntime) {
+    line_is_run(&rt, rt.alloc(), "check", (TABLE_TEXT, b"yes\n"), NO_MEMORY);
 }
 
 #[test]

@@ -1,11 +1,11 @@
 // Calls that ask for no memory: `tools/refused.py` refuses every request between the two lines, and wants that there is none.
 use super::{End, begin, finish};
-use crate::samples::One;
 use std::cmp::Ordering;
 use string_cache::dynamic_set::Set;
 use string_cache::table::Table;
 use string_cache::word::Limits;
 use string_cache::{Atom, DefaultAtom, EmptyStaticAtomSet, Fault};
+use string_cache_core::samples::One;
 
 #[test]
 fn short_text_is_interned(rt: HostRuntime) {

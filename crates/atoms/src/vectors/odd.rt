@@ -1,9 +1,11 @@
 // Words that are odd, or of nothing, and tables that are odd.
-use crate::samples::{One, Short, Twice};
 use string_cache::dynamic_set::Set;
 use string_cache::static_sets::{PhfStrSet, StaticAtomSet};
+use string_cache::steps::World;
+use string_cache::table::Table;
 use string_cache::word::{Form, InlineText, Limits, form_of, ticket_word};
-use string_cache::{Atom, DefaultAtom};
+use string_cache::{Atom, DefaultAtom, EmptyStaticAtomSet};
+use string_cache_core::samples::{One, Short, Twice};
 
 /// Tags that no form has, a length above 7, bytes behind the text, bytes that aren't UTF-8, low bits beside a static tag, and a
 /// ticket without a serial.
@@ -123,4 +125,16 @@ fn short_text_in_tables(rt: HostRuntime) {
     assert!(rt; atom.unsafe_data() == 0x7472_6f68_7351);
     assert!(rt; Atom::<Short>::try_static("short").is_none());
     assert!(rt; Atom::<Short>::pack_static(0).is_none());
+}
+
+#[test]
+fn empty_lists(rt: HostRuntime) {
+    let mut table = Table::<EmptyStaticAtomSet>::new(rt.alloc()).expect(&rt, "a table");
+    assert!(rt; table.run(&[]).expect(&rt, "an answer").is_empty());
+    let mut world = World::<EmptyStaticAtomSet>::new(rt.alloc(), Limits::greatest()).expect(
+        &rt, "a world",
+    );
+    let mut replies = Vec::new(rt.alloc());
+    world.run(&[], &mut replies).expect(&rt, "an answer");
+    assert!(rt; replies.is_empty());
 }

@@ -4,7 +4,7 @@ use crate::Pack;
 use std::sync::atomic::{AtomicU64, Ordering};
 use std::test::Fail;
 
-/// A pack of so many marks, of which the last has the digit 1.
+/// A pack of this many marks, of which the last has the digit 1.
 fn pack_of<'a>(ended: &'a AtomicU64, count: u64) -> Pack<Mark<'a>> {
     let mut pack = Pack::new(Mark { ended, digit: 1 });
     for digit in 2..=count {

@@ -204,19 +204,19 @@ fn keys_of_maps(rt: HostRuntime) {
     }
 }
 
-/// A text of 200,000 bytes, interned, put into another case, and there and back as JSON.
+/// A text of 300,000 bytes, not all of them ASCII, interned, put into another case, and there and back as JSON.
 #[test]
 fn long_text(rt: HostRuntime) {
     let alloc = rt.alloc();
     let set: Set<EmptyStaticAtomSet> = Set::new(alloc).expect(&rt, "a set");
-    let text = "a".repeat(alloc, 200_000).expect(&rt, "an answer");
+    let text = "aé".repeat(alloc, 100_000).expect(&rt, "an answer");
     let atom = Atom::from_str_in(&rt, &set, text.as_str()).expect(&rt, "an atom");
     let again = Atom::from_json_in(&rt, &set, &atom.to_json(alloc).expect(&rt, "an answer")).expect(
         &rt, "an atom",
     );
     let upper = atom.to_ascii_uppercase_in(&rt, &set).expect(&rt, "an atom");
     let owned = Atom::from_string_in(&rt, &set, text).expect(&rt, "an atom");
-    assert!(rt; atom.as_bytes().len() == 200_000 && upper.as_bytes().len() == 200_000);
+    assert!(rt; atom.as_bytes().len() == 300_000 && upper.as_bytes().len() == 300_000);
     assert!(rt;
         again.unsafe_data() == atom.unsafe_data() && owned.unsafe_data() == atom.unsafe_data()
     );

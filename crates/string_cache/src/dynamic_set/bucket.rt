@@ -21,7 +21,7 @@ use string_cache_core::word::{Buckets, Limits, ticket_word};
 
 /// What one lock of a set holds: entries, newest first, and the serial that it gave last.
 ///
-/// It is one of so many buckets. Each entry names them, its hash is that of its text, its ticket is that of its serial in
+/// It is one of some number of buckets. Each entry names that number, its hash is that of its text, its ticket is that of its serial in
 /// the bucket of the hash, and no serial is given twice. Which lock a bucket stands under isn't known here.
 #[derive(Drop)]
 pub struct Bucket<Static: StaticAtomSet> {
@@ -44,7 +44,7 @@ impl<Static: StaticAtomSet> Model for Bucket<Static> {
 }
 
 impl<Static: StaticAtomSet> Bucket<Static> {
-    /// A bucket without entries, which has given no serial: one of so many.
+    /// A bucket without entries, which has given no serial: one of this many.
     pub fn new(alloc: Global, buckets: Buckets) -> Self
         ensures { result ≡ record { bits = buckets; entries = []; last = 0 } }
     {
@@ -98,13 +98,13 @@ impl<Static: StaticAtomSet> Bucket<Static> {
     }
 
     /// Links one new entry as the first, with the next serial, and gives its only share. `hash` is that of the text,
-    /// as for `pass`. The entry keeps the limit of holders.
+    /// as for `pass`. The entry has the limit of holders that is handed in.
     ///
     /// `TicketsSpent` comes exactly where the last serial isn't below the limit, and otherwise `Memory` alone. A refusal
     /// leaves the bucket as it was.
     pub fn link(&mut self, text: &str, hash: u64, limits: &Limits) -> Result<Share, Fault>
         requires { hash ≡ entry_hash Static.tables text.now }
-        ensures link { IsLink limits.now.serials text.now hash self.old result self.new }
+        ensures link { IsLink limits.now text.now hash self.old result self.new }
         ensures right { IfOk result (λ s. IsRightOf Static.tables self.old.bits s) }
     {
         let greatest = limits.serials();
@@ -146,7 +146,7 @@ impl<Static: StaticAtomSet> Bucket<Static> {
         counts: &mut C,
     ) -> Result<Share, Fault>
         requires { hash ≡ entry_hash Static.tables text.now }
-        ensures intern { IsIntern C.adds C.dies limits.now.serials text.now hash counts.old self.old result counts.new self.new }
+        ensures intern { IsIntern C.adds C.dies limits.now text.now hash counts.old self.old result counts.new self.new }
         ensures share { GivesShares C.adds → IfOk result (λ s. (s.text ≡ text.now) × IsRightOf Static.tables self.old.bits s) }
     {
         let _ = &self.entries; // so that the proof sees what the bucket keeps

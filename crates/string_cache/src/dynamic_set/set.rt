@@ -1,7 +1,7 @@
 // The set: buckets behind locks.
 ghost use Rattle.std.specs.Prelude.{◌≡◌, ◌-◌, IfOk, IfErr};
 ghost use Rattle.string_cache_core.specs.Faults.{IsInternFault};
-ghost use Rattle.string_cache_core.specs.Layout.{holder_bound, serial_bound};
+ghost use Rattle.string_cache_core.specs.Layout.{holder_bound, serial_bound, usual_bits};
 ghost use Rattle.string_cache_core.specs.Tables.{entry_hash};
 ghost use Rattle.string_cache.specs.Chain.{IsRight};
 
@@ -16,7 +16,8 @@ use string_cache_core::Fault;
 use string_cache_core::static_sets::StaticAtomSet;
 use string_cache_core::word::{Buckets, Limits};
 
-/// The dynamic texts of a static type, in buckets by their hashes. Threads share it.
+/// The dynamic texts of a static type, in buckets by their hashes. Threads share it. In a clause it is its limits and the bits of
+/// the number of its buckets.
 #[derive(Drop)]
 pub struct Set<Static: StaticAtomSet> {
     pub(super) buckets: Vec<Mutex<Bucket<Static>>>,
@@ -31,7 +32,7 @@ impl<Static: StaticAtomSet> Model for Set<Static> {
 
     ghost Value = { SetValue };
 
-    ghost view = { λ s. record { limits = s.limits } };
+    ghost view = { λ s. record { limits = s.limits; bits = s.count } };
 
     ghost invariant = { λ s. vec_len s.buckets ≡ 2 ^ s.count };
 }
@@ -40,6 +41,7 @@ impl<Static: StaticAtomSet> Set<Static> {
     /// A set without texts, with the greatest limits and the usual number of buckets. It is refused for `Memory` alone.
     pub fn new(alloc: Global) -> Result<Self, Fault>
         ensures limits { IfOk result (λ set. set.limits ≡ record { holders = holder_bound - 1; serials = serial_bound - 1 }) }
+        ensures bits { IfOk result (λ set. set.bits ≡ usual_bits) }
         ensures refused { IfErr result (λ fault. fault ≡ Fault.Memory) }
     {
         Self::with_limits(alloc, Limits::greatest())
@@ -48,14 +50,16 @@ impl<Static: StaticAtomSet> Set<Static> {
     /// A set without texts, with these limits and the usual number of buckets. It is refused for `Memory` alone.
     pub fn with_limits(alloc: Global, limits: Limits) -> Result<Self, Fault>
         ensures limits { IfOk result (λ set. set.limits ≡ limits) }
+        ensures bits { IfOk result (λ set. set.bits ≡ usual_bits) }
         ensures refused { IfErr result (λ fault. fault ≡ Fault.Memory) }
     {
         Self::with_buckets(alloc, limits, Buckets::usual())
     }
 
-    /// A set without texts, with these limits and so many buckets. It is refused for `Memory` alone.
+    /// A set without texts, with these limits and this many buckets. It is refused for `Memory` alone.
     pub fn with_buckets(alloc: Global, limits: Limits, count: Buckets) -> Result<Self, Fault>
         ensures limits { IfOk result (λ set. set.limits ≡ limits) }
+        ensures bits { IfOk result (λ set. set.bits ≡ count) }
         ensures refused { IfErr result (λ fault. fault ≡ Fault.Memory) }
     {
         let mut buckets = Vec::with_capacity(alloc, count.number())?;

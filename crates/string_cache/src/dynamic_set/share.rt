@@ -12,7 +12,8 @@ use std::sync::Wait;
 use string_cache_core::word::Buckets;
 
 /// An entry of a bucket: the one owner of a counted cell, which has the text, its hash, the ticket and the count of the entry's
-/// shares in one block. The count goes up only from one or more: an entry without shares is dying, and gets none any more.
+/// shares in one block. The count goes up only from one or more, and below the entry's limit of holders: an entry without shares
+/// is dying, and gets none any more.
 ///
 /// Its end frees the block where the count reads 0, and leaves it for ever otherwise. The hash stands here as well, so that a
 /// look-up that passes the entry by doesn't follow the pointer.
@@ -35,7 +36,7 @@ impl Model for Entry {
 }
 
 impl Entry {
-    /// An entry of this text in one of so many buckets, and its first share. It makes a copy of the text. There may be as many
+    /// An entry of this text in one of this many buckets, and its first share. It makes a copy of the text. There may be as many
     /// shares as `holders`.
     pub(super) fn new(
         alloc: Global,
@@ -46,8 +47,8 @@ impl Entry {
         holders: u64,
     ) -> Result<(Entry, Share), AllocError>
         requires { (1 ≤ holders) × (holders < holder_bound) }
-        ensures entry { IfOk result (λ made. made.0 ≡ record { ticket = ticket; text = text.now; hash = hash; bits = buckets }) }
-        ensures share { IfOk result (λ made. made.1 ≡ record { ticket = ticket; text = text.now; hash = hash; bits = buckets }) }
+        ensures entry { IfOk result (λ made. made.0 ≡ record { ticket = ticket; text = text.now; hash = hash; bits = buckets; limit = holders }) }
+        ensures share { IfOk result (λ made. made.1 ≡ record { ticket = ticket; text = text.now; hash = hash; bits = buckets; limit = holders }) }
     {
         let label = Label {
             hash,
@@ -73,7 +74,11 @@ impl Entry {
         self.hash == hash && self.owner.text() == text
     }
 
-    /// One share more, unless the entry is dying or has as many as it may have.
+    /// One share more, unless the entry is dying or has as many as it may have: what its cell answers.
+    ///
+    /// `Added` gives a share of this entry. `Dying` comes only where the count was read as 0, so that no share is left and none will
+    /// ever be, and `Full` only where it was read as the entry's limit; both change nothing. The clause speaks of the share alone,
+    /// as these two replies have nothing that shows what was read. The cell's own answer has, and is told as it is.
     pub fn add<R: Wait>(&self, rt: &R) -> CountReply<Share>
         ensures { IfAdded result (λ share. share ≡ self.now) }
     {
@@ -134,7 +139,7 @@ impl Share {
         self.share.text()
     }
 
-    /// The share of the entry's cell, which can't be dropped: it is given back.
+    /// The share of the entry's cell, which has no drop: it is given back.
     pub(super) fn into_counted(self) -> counted_cell::Share
         ensures { linked_of result ≡ self }
     {

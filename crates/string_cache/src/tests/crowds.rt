@@ -11,7 +11,7 @@ use std::sync::Wait;
 use std::test::Fail;
 use std::thread::{self, Threads};
 
-/// So many texts: `w0000000`, `w0000001` and so on.
+/// This many texts: `w0000000`, `w0000001` and so on.
 fn numbers(alloc: Global, count: usize) -> Result<Vec<String>, AllocError> {
     let mut texts = Vec::new(alloc);
     for n in 0..count {
@@ -24,7 +24,7 @@ fn bucket_of_text(buckets: Buckets, text: &str) -> u16 {
     buckets.bucket_of(hash_of::<EmptyStaticAtomSet>(text))
 }
 
-/// The bucket that is the first to have so many of the texts.
+/// The bucket that is the first to have this many of the texts.
 fn crowded_bucket(
     alloc: Global,
     buckets: Buckets,
@@ -41,10 +41,10 @@ fn crowded_bucket(
             }
         }
     }
-    Err("no bucket has so many")?
+    Err("no bucket has as many")?
 }
 
-/// So many of the texts, all of one bucket.
+/// This many of the texts, all of one bucket.
 fn bucket_mates(
     alloc: Global,
     buckets: Buckets,
@@ -157,7 +157,7 @@ fn turn_over<R: Wait>(
     Ok(is_same)
 }
 
-/// Workers at eleven texts of one bucket, in a set of so many buckets. As ten texts for each bucket would be fewer, some
+/// Workers at eleven texts of one bucket, in a set of 2 to the power of `bits` buckets. As ten texts for each bucket would be fewer, some
 /// bucket has eleven.
 fn check_workers<R: Threads + Wait + Sync>(rt: &R, alloc: Global, bits: u8) -> Result<bool, Fail> {
     let buckets = Buckets::new(bits).ok_or("bits")?;

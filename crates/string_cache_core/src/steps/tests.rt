@@ -1,5 +1,6 @@
 // The steps on small scripts. Expected replies are those of the table of steps, worked out by hand.
 mod merges;
+mod parties;
 
 use super::{Step, StepReply, World};
 use crate::faults::Fault;
@@ -225,11 +226,30 @@ fn an_undecided_pass_stays(rt: HostRuntime) {
     check(&rt, rt.alloc(), Limits::greatest(), &rows, &[2]);
 }
 
+// Each number of bits, with its number of buckets.
+const BUCKETS: [(u8, u32); 15] = [
+    (0, 1),
+    (1, 2),
+    (2, 4),
+    (3, 8),
+    (4, 16),
+    (5, 32),
+    (6, 64),
+    (7, 128),
+    (8, 256),
+    (9, 512),
+    (10, 1024),
+    (11, 2048),
+    (12, 4096),
+    (13, 8192),
+    (14, 16384),
+];
+
 #[test]
 fn sweeps_of_the_last_buckets(rt: HostRuntime) {
-    for (bits, number) in [(0, 1), (12, 4096), (14, 16384)] {
+    for (bits, number) in BUCKETS {
         let rows = [
-            (1, Do::Sweep(number - 1), Taken),
+            (1, Do::Sweep(number.saturating_sub(1)), Taken),
             (1, Do::Leave, Left),
             (1, Do::Sweep(number), No),
             (1, Do::Give(1), No),

@@ -266,32 +266,48 @@ fn a_run_leaves_spent_tickets_spent(rt: HostRuntime) {
 }
 
 #[test]
-fn many_calls_are_one_run(rt: HostRuntime) {
+fn a_run_has_no_calls_or_many(rt: HostRuntime) {
     let alloc = rt.alloc();
     let mut table = Table::<EmptyStaticAtomSet>::new(alloc).expect(&rt, "a table");
+    let none = run(&mut table, &[]).expect(&rt, "an answer");
+    assert!(rt; none.is_empty());
     let word = intern(&mut table, "interned").expect(&rt, "an answer");
     let mut calls = Vec::new(alloc);
-    for _ in 0..10_000 {
+    for _ in 0..20_000 {
         calls.push(Call::Clone(word)).expect(&rt, "room");
     }
     let replies = run(&mut table, &calls).expect(&rt, "an answer");
-    assert_eq!(rt; replies.len(), 10_000);
+    assert_eq!(rt; replies.len(), 20_000);
     assert!(rt; replies.iter().all(|reply| *reply == TableReply::Word(word)));
 }
 
+/// Characters of one to four bytes, ten together, doubled eighteen times.
 #[test]
 fn a_large_text_is_interned(rt: HostRuntime) {
-    let mut text = String::new(rt.alloc());
-    for _ in 0..25_000 {
-        text.push_str("interned").expect(&rt, "room");
+    let mut text = String::from_str(rt.alloc(), "né€𝄞").expect(&rt, "room");
+    for _ in 0..18 {
+        let half = text.clone().expect(&rt, "room");
+        text.push_str(&half).expect(&rt, "room");
     }
     let mut table = Table::<EmptyStaticAtomSet>::new(rt.alloc()).expect(&rt, "a table");
     let word = intern(&mut table, &text).expect(&rt, "an answer");
     assert!(rt; is_first(word));
     assert!(rt; has_text(&table, word, &text));
-    assert!(rt; keeps(&table, 1, 200_000));
+    assert!(rt; keeps(&table, 1, 2_621_440));
     give(&rt, &mut table, word);
     assert!(rt; keeps(&table, 0, 0));
+}
+
+#[test]
+fn a_text_that_comes_and_goes_has_the_next_ticket(rt: HostRuntime) {
+    let mut table = Table::<EmptyStaticAtomSet>::new(rt.alloc()).expect(&rt, "a table");
+    let mut next = 0x1_0840; // the first of bucket 0x210
+    for _ in 0..2_000 {
+        let word = intern(&mut table, "interned").expect(&rt, "an answer");
+        assert_eq!(rt; word, next);
+        give(&rt, &mut table, word);
+        next = next_ticket(word).expect(&rt, "a next ticket");
+    }
 }
 
 /// The bucket of a text without static tables.
@@ -315,10 +331,10 @@ fn bucket_mates(alloc: Global, buckets: Buckets) -> Result<(String, String), Fai
     Err("no bucket has two")?
 }
 
-/// The numbers of buckets that tests take.
+/// Every number of buckets, the least first.
 fn bucket_numbers(alloc: Global) -> Result<Vec<Buckets>, Fail> {
     let mut numbers = Vec::new(alloc);
-    for bits in [0, 12, 14] {
+    for bits in 0..=14 {
         numbers.push(Buckets::new(bits).ok_or("bits")?)?;
     }
     Ok(numbers)
@@ -347,11 +363,18 @@ fn a_bucket_gives_no_more_tickets_than_its_limit(rt: HostRuntime) -> Result<(), 
     Ok(())
 }
 
-/// The low bits of the hash of "interned", 0x556a_6dba_06a4_7210, are its bucket.
+/// The first word of "interned" for each number of bits: its hash is 0x556a_6dba_06a4_7210, whose low bits are its bucket.
+const WORDS: [u64; 15] = [
+    0x1_0000, 0x1_0000, 0x1_0000, 0x1_0000, 0x1_0000, // no bit of the low four is set
+    0x1_0040, 0x1_0040, 0x1_0040, 0x1_0040, 0x1_0040, // bucket 0x10
+    0x1_0840, 0x1_0840, 0x1_0840, // bucket 0x210
+    0x1_4840, // bucket 0x1210
+    0x1_c840, // bucket 0x3210
+];
+
 #[test]
 fn a_ticket_has_the_low_bits_of_the_hash(rt: HostRuntime) -> Result<(), Fail> {
-    let words = [0x1_0000, 0x1_0840, 0x1_c840];
-    for (buckets, word) in bucket_numbers(rt.alloc())?.into_iter().zip(words) {
+    for (buckets, word) in bucket_numbers(rt.alloc())?.into_iter().zip(WORDS) {
         let mut table = Table::<EmptyStaticAtomSet>::with_buckets(
             rt.alloc(),
             Limits::greatest(),

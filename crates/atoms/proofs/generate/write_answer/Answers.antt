@@ -1,4 +1,4 @@
-use Rattle.std.proofs.Common.{rules}
+use Rattle.std.proofs.Common.{rules, string_bytes}
 use Rattle.atoms.proofs.StreamLemmas.{on_err_map, on_ok_map}
 use Rattle.atoms.proofs.TableCommandLemmas.{answer_begun, answer_written}
 use Rattle.atoms.proofs.generate.write_answer.Goals as goal
@@ -6,11 +6,11 @@ use Rattle.atoms.proofs.generate.write_answer.Goals as goal
 pub returns-clause-answer : goal.returns-clause-answer
 returns-clause-answer g c =
     on_ok_map _
-    (answer_written _ _ _ _ c.in_ok-bytes.bytes.items c.in-Ok.text.now c.in_ok-answer.answer.now c.in_ok-bytes.ensures.bytes c.in_ok-bytes.ensures.end (search rules) c.in_ok-answer.ensures.ok)
+    (answer_written _ _ _ (string_bytes c.in_ok-text.text) c.deref.result.now c.in_ok-answer.answer.now c.in_ok-text.ensures.bytes (search rules) c.in_ok-answer.ensures.ok)
     (rw c.as_bytes.ensures.value at c.write_whole.ensures.ok)
 
 pub returns-clause-beginning : goal.returns-clause-beginning
 returns-clause-beginning g c =
     on_err_map _
-    (answer_begun _ _ _ _ c.in_ok-bytes.bytes.items c.in-Ok.text.now c.in_ok-answer.answer.now c.in_ok-bytes.ensures.bytes c.in_ok-bytes.ensures.end (search rules) c.in_ok-answer.ensures.ok)
+    (answer_begun _ _ _ (string_bytes c.in_ok-text.text) c.deref.result.now c.in_ok-answer.answer.now c.in_ok-text.ensures.bytes (search rules) c.in_ok-answer.ensures.ok)
     (rw c.as_bytes.ensures.value at c.write_whole.ensures.err)

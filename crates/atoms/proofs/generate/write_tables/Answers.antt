@@ -6,5 +6,5 @@ use Rattle.atoms.proofs.generate.write_tables.Goals as goal
 pub returns-clause-beginning : goal.returns-clause-beginning
 returns-clause-beginning g c =
     on_err_map _
-    (tables_begun c.args.key c.args.bound _ _ _ _ c.in_ok-bytes.bytes.items c.in-Ok.text.now (string_bytes c.in_ok-output.output) c.in_ok-bytes.ensures.bytes c.in_ok-bytes.ensures.end (search rules) c.in_ok-output.ensures.ok)
+    (tables_begun c.args.key c.args.bound _ _ _ (string_bytes c.in_ok-text.text) c.deref.result.now (string_bytes c.in_ok-output.output) c.in_ok-text.ensures.bytes (search rules) c.in_ok-output.ensures.ok)
     (rw c.as_bytes.ensures.value at c.write_whole.ensures.err)

@@ -1,36 +1,50 @@
-// Sets of one bucket, of the usual number and of the most. The low bits of the hash of "interned" are 0x7210, and a word is its serial
-// times 0x10000 and its bucket times 4.
+// Sets of each number of buckets. The low bits of the hash of "interned" are 0x7210, and a word is its serial times 0x10000 and its
+// bucket times 4.
 use crate::DefaultAtom;
 use crate::dynamic_set::Set;
 use crate::samples::{bucket_numbers, hash_of};
 use crate::static_sets::EmptyStaticAtomSet;
 use crate::word::{Buckets, Limits};
-use std::alloc::Global;
+use std::alloc::{AllocError, Global};
+use std::sync::Wait;
 use std::test::Fail;
 
 fn set_of(alloc: Global, buckets: Buckets) -> Result<Set<EmptyStaticAtomSet>, Fail> {
     Ok(Set::with_buckets(alloc, Limits::greatest(), buckets)?)
 }
 
-/// Each word's bucket is the one of so many that its text lies in.
+/// A set of each number of bits is made, and each word's bucket is the one of its set's that its text lies in.
 #[test]
 fn words_have_the_bits_of_their_set(rt: HostRuntime) -> Result<(), Fail> {
-    let places = [
-        (0, 0x1_0000, 0x2_0000),
-        (0x210, 0x1_0840, 0x2_0840),
-        (0x3210, 0x1_c840, 0x2_c840),
-    ];
-    for (buckets, (place, first, second)) in bucket_numbers(rt.alloc())?.into_iter().zip(places) {
+    // The bits, how many buckets these are, the text's bucket, and the first word.
+    for (bits, number, place, first) in [
+        (0, 1, 0, 0x1_0000),
+        (1, 2, 0, 0x1_0000),
+        (2, 4, 0, 0x1_0000),
+        (3, 8, 0, 0x1_0000),
+        (4, 16, 0, 0x1_0000),
+        (5, 32, 0x10, 0x1_0040),
+        (6, 64, 0x10, 0x1_0040),
+        (7, 128, 0x10, 0x1_0040),
+        (8, 256, 0x10, 0x1_0040),
+        (9, 512, 0x10, 0x1_0040),
+        (10, 1024, 0x210, 0x1_0840),
+        (11, 2048, 0x210, 0x1_0840),
+        (12, 4096, 0x210, 0x1_0840),
+        (13, 8192, 0x1210, 0x1_4840),
+        (14, 16384, 0x3210, 0x1_c840),
+    ] {
+        let buckets = Buckets::new(bits).expect(&rt, "bits");
         let set = set_of(rt.alloc(), buckets)?;
-        assert_eq!(rt; set.buckets.len(), buckets.number());
+        assert_eq!(rt; set.buckets.len(), number, "of {bits} bits");
         let atom = DefaultAtom::from_str_in(&rt, &set, "interned").expect(&rt, "an atom");
-        assert_eq!(rt; atom.unsafe_data(), first);
+        assert_eq!(rt; atom.unsafe_data(), first, "of {bits} bits");
         for (at, bucket) in set.buckets.iter().enumerate() {
             assert!(rt; bucket.lock(&rt).len() == usize::from(at == place));
         }
         drop(atom);
         let next = DefaultAtom::from_str_in(&rt, &set, "interned").expect(&rt, "an atom");
-        assert_eq!(rt; next.unsafe_data(), second);
+        assert_eq!(rt; next.unsafe_data().wrapping_sub(first), 0x1_0000);
     }
     Ok(())
 }
@@ -58,7 +72,22 @@ fn text_of_bucket(alloc: Global, buckets: Buckets, place: usize) -> Result<Strin
     Err("no text has the bucket")?
 }
 
-/// The entries of both texts die under their locks, so that their own drops leave them linked.
+/// Drops the atoms while all locks of their set are held, so that their entries die and stay linked.
+fn drop_under_locks<R: Wait, A: Drop>(
+    rt: &R,
+    alloc: Global,
+    set: &Set<EmptyStaticAtomSet>,
+    atoms: A,
+) -> Result<(), AllocError> {
+    let mut held = Vec::with_capacity(alloc, set.buckets.len())?;
+    for bucket in &set.buckets {
+        held.push(bucket.lock(rt))?;
+    }
+    drop(atoms);
+    drop(held);
+    Ok(())
+}
+
 #[test]
 fn sweep_takes_the_first_and_the_last_bucket(rt: HostRuntime) -> Result<(), Fail> {
     let alloc = rt.alloc();
@@ -72,15 +101,31 @@ fn sweep_takes_the_first_and_the_last_bucket(rt: HostRuntime) -> Result<(), Fail
         );
         let linked = set.linked(&rt);
         assert!(rt; linked == if buckets.bits() == 0 { 1 } else { 2 });
-        let mut held = Vec::new(alloc);
-        for bucket in &set.buckets {
-            held.push(bucket.lock(&rt)).expect(&rt, "room");
-        }
-        drop(atoms);
-        drop(held);
+        drop_under_locks(&rt, alloc, &set, atoms).expect(&rt, "room");
         assert!(rt; set.linked(&rt) == linked);
         set.sweep(&rt);
         assert!(rt; set.linked(&rt) == 0);
     }
+    Ok(())
+}
+
+/// One entry in each of 16 buckets, held and then dying: all are counted, and a sweep takes them all.
+#[test]
+fn sweep_takes_each_of_sixteen_buckets(rt: HostRuntime) -> Result<(), Fail> {
+    let alloc = rt.alloc();
+    let buckets = Buckets::new(4).expect(&rt, "bits");
+    let owned = set_of(alloc, buckets)?;
+    let set = &owned;
+    let mut atoms = Vec::new(alloc);
+    for place in 0..16 {
+        let text = text_of_bucket(alloc, buckets, place)?;
+        let atom = DefaultAtom::from_str_in(&rt, set, &text).expect(&rt, "an atom");
+        atoms.push(atom).expect(&rt, "room");
+    }
+    assert_eq!(rt; set.linked(&rt), 16);
+    drop_under_locks(&rt, alloc, set, atoms).expect(&rt, "room");
+    assert_eq!(rt; set.linked(&rt), 16);
+    set.sweep(&rt);
+    assert_eq!(rt; set.linked(&rt), 0);
     Ok(())
 }

@@ -1,8 +1,9 @@
-// Links for which there is no memory.
+// Links for which there is no memory, and a great number of them in one bucket.
 use super::{Fake, link, tickets};
-use crate::Fault;
-use crate::dynamic_set::Bucket;
+use crate::dynamic_set::{Bucket, Set};
+use crate::static_sets::EmptyStaticAtomSet;
 use crate::word::{Buckets, Limits, ticket_word};
+use crate::{DefaultAtom, Fault};
 use std::test::Fail;
 
 /// Passes also where any one request for memory is refused, as under `rt try --test --fail-alloc N`: a refused link leaves the
@@ -75,4 +76,39 @@ fn entries_go_one_by_one(rt: HostRuntime) {
         }
         assert!(rt; bucket.len() == 5);
     }
+}
+
+/// Each of 5,000 texts is linked in the one bucket of a set, and the oldest and the newest are found there. 5,000 is 0x1388.
+#[test]
+fn five_thousand_entries_of_one_bucket(rt: HostRuntime) -> Result<(), Fail> {
+    let alloc = rt.alloc();
+    let limits = Limits::greatest();
+    let buckets = Buckets::new(0).expect(&rt, "bits");
+    let owned: Set<EmptyStaticAtomSet> = Set::with_buckets(alloc, limits, buckets).expect(
+        &rt, "a set",
+    );
+    let set = &owned;
+    let only = set.buckets.get(0).expect(&rt, "a bucket");
+    let mut shares = Vec::new(alloc);
+    for n in 0..5_000u32 {
+        let text = format!(in alloc; "w{n:07}")?;
+        let share = link(&mut only.lock(&rt), &text, &limits).expect(&rt, "a share");
+        shares.push(share).expect(&rt, "room");
+    }
+    assert_eq!(rt; set.linked(&rt), 5_000);
+    let mut atoms = Vec::new(alloc);
+    for (text, word) in [
+        ("w0000000", 0x1_0000),
+        ("w0004999", 0x1388_0000),
+        ("interned", 0x1389_0000),
+    ] {
+        let atom = DefaultAtom::from_str_in(&rt, set, text).expect(&rt, "an atom");
+        assert_eq!(rt; atom.unsafe_data(), word);
+        atoms.push(atom).expect(&rt, "room");
+    }
+    assert_eq!(rt; set.linked(&rt), 5_001);
+    drop(shares);
+    set.sweep(&rt);
+    assert_eq!(rt; set.linked(&rt), 3);
+    Ok(())
 }

@@ -129,7 +129,7 @@ fn last_drop_prunes_its_own_bucket_alone(rt: HostRuntime) {
     }
 }
 
-/// What the call gives, and whether it ended while this thread had the locks. They are let go after so many milliseconds.
+/// What the call gives, and whether it ended while this thread had the locks. They are let go after `most` milliseconds at the latest.
 fn beside<R: Threads + Clock, L: Drop, T: Send, F: FnOnce() -> T + Send>(
     rt: &R,
     most: u32,

@@ -4,6 +4,7 @@ use crate::static_sets::EmptyStaticAtomSet;
 use crate::word::Limits;
 use crate::{Atom, DefaultAtom, Fault};
 use std::sync::Wait;
+use std::sync::atomic::{AtomicU64, Ordering};
 use std::thread;
 
 /// Interns, clones and drops each of the texts, again and again. Whether each atom had its text.
@@ -64,4 +65,53 @@ fn one_atom_in_two_threads(rt: HostRuntime) {
     drop((second, third));
     drop(atom);
     assert!(rt; set.linked(&rt) == 0);
+}
+
+/// Waits until two threads have come here as often as this.
+fn meet<R: Wait>(rt: &R, gate: &AtomicU64, times: u64) {
+    let _ = gate.fetch_add(1, Ordering::SeqCst);
+    for _ in rt.forever() {
+        if gate.load(Ordering::SeqCst) >= times.saturating_mul(2) {
+            return;
+        }
+        thread::yield_now();
+    }
+}
+
+/// Interns a text at the same time as another thread does, which nobody holds before, in each of 2,000 rounds. In how many both had
+/// one word.
+fn intern_beside<R: Wait>(
+    rt: &R,
+    set: &Set<EmptyStaticAtomSet>,
+    gate: &AtomicU64,
+    mine: &AtomicU64,
+    other: &AtomicU64,
+) -> Result<u64, Fault> {
+    let mut same = 0u64;
+    for round in 0..2_000u64 {
+        meet(rt, gate, 3 * round + 1);
+        let atom = DefaultAtom::from_str_in(rt, set, "interned")?;
+        let word = atom.unsafe_data();
+        mine.store(word, Ordering::SeqCst);
+        meet(rt, gate, 3 * round + 2);
+        same = same.saturating_add(u64::from(other.load(Ordering::SeqCst) == word));
+        meet(rt, gate, 3 * round + 3);
+    }
+    Ok(same)
+}
+
+/// Of two threads that find a text absent one links it, and the other finds that entry.
+#[test]
+fn two_threads_at_one_new_text(rt: HostRuntime) {
+    let set: Set<EmptyStaticAtomSet> = Set::new(rt.alloc()).expect(&rt, "a set");
+    let (gate, one, two) = (AtomicU64::new(0), AtomicU64::new(0), AtomicU64::new(0));
+    let (shared, handle, at) = (&set, &rt, &gate);
+    let (first, second) = (&one, &two);
+    let (left, right) = thread::join(
+        &rt,
+        || intern_beside(handle, shared, at, first, second),
+        || intern_beside(handle, shared, at, second, first),
+    );
+    assert!(rt; left.expect(&rt, "an answer") == 2_000);
+    assert!(rt; right.expect(&rt, "an answer") == 2_000);
 }

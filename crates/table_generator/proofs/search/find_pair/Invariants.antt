@@ -1,9 +1,8 @@
-use Rattle.std.proofs.Common.{ℕ, ◌<◌}
-use Rattle.table_generator.specs.Places.{Fits}
+use Rattle.std.proofs.Common.{◌-◌, ◌≤◌}
 use Rattle.table_generator.proofs.search.find_pair.Given as goal
 
-abbrev pub invariant-loop-d1 : goal.invariant-loop-d1
-invariant-loop-d1 l = (e1 e2 : ℕ) → e1 < l.d1 → e2 < l.tried.second → Fits l.taken l.members (e1, e2) → ⊥
+abbrev pub invariant-loop-within : goal.invariant-loop-within
+invariant-loop-within l = 1 ≤ l.within
 
-abbrev pub invariant-loop-d2 : goal.invariant-loop-d2
-invariant-loop-d2 l = (e2 : ℕ) → e2 < l.d2 → Fits l.taken l.members (l.d1, e2) → ⊥
+abbrev pub decreases-loop-within : goal.decreases-loop-within
+decreases-loop-within l = l.tried.second - l.within

@@ -1,0 +1,74 @@
+// Texts of hundreds of kilobytes, and of two megabytes beyond ASCII. OpenSSL's SipHash tells their hashes.
+use std::alloc::{AllocError, Global};
+use string_cache::dynamic_set::Set;
+use string_cache::table::Table;
+use string_cache::{Atom, EmptyStaticAtomSet};
+
+/// A text of 2,097,160 bytes: letters of one, two, three and four bytes.
+fn long_text(alloc: Global) -> Result<String, AllocError> {
+    "aé漢🎉".repeat(alloc, 209_716)
+}
+
+/// The long text in upper case.
+fn upper_text(alloc: Global) -> Result<String, AllocError> {
+    "Aé漢🎉".repeat(alloc, 209_716)
+}
+
+const LONG_TICKET: u64 = 0x1_1134;
+
+const UPPER_TICKET: u64 = 0x1_0aec;
+
+#[test]
+fn quarter_of_a_megabyte(rt: HostRuntime) {
+    let set: Set<EmptyStaticAtomSet> = Set::new(rt.alloc()).expect(&rt, "a set");
+    let text = "a".repeat(rt.alloc(), 262_144).expect(&rt, "a text");
+    let atom = Atom::from_str_in(&rt, &set, &text).expect(&rt, "an atom");
+    assert!(rt; atom.unsafe_data() == 0x1_23ac && atom.eq_str(&text));
+    assert!(rt; atom.get_hash() == 0x4e63_c3f9_5272_f8eb);
+}
+
+#[test]
+fn long_text_is_an_atom(rt: HostRuntime) {
+    let text = long_text(rt.alloc()).expect(&rt, "a text");
+    let set: Set<EmptyStaticAtomSet> = Set::new(rt.alloc()).expect(&rt, "a set");
+    let other: Set<EmptyStaticAtomSet> = Set::new(rt.alloc()).expect(&rt, "a set");
+    let atom = Atom::from_str_in(&rt, &set, &text).expect(&rt, "an atom");
+    assert!(rt; atom.unsafe_data() == LONG_TICKET && atom.as_str() == text.as_str());
+    assert!(rt; atom.get_hash() == 0xcb0c_ec29_045a_244d);
+    assert!(rt; atom == Atom::from_string_in(&rt, &other, text).expect(&rt, "an atom"));
+    let printed = format!(in rt.alloc(); "{atom}").expect(&rt, "a text");
+    assert!(rt; atom.eq_str(&printed));
+}
+
+#[test]
+fn long_text_changes_case(rt: HostRuntime) {
+    let text = long_text(rt.alloc()).expect(&rt, "a text");
+    let set: Set<EmptyStaticAtomSet> = Set::new(rt.alloc()).expect(&rt, "a set");
+    let atom = Atom::from_str_in(&rt, &set, &text).expect(&rt, "an atom");
+    let upper = atom.to_ascii_uppercase_in(&rt, &set).expect(&rt, "an atom");
+    assert!(rt; upper.unsafe_data() == UPPER_TICKET && upper != atom);
+    assert!(rt; upper.eq_str(&upper_text(rt.alloc()).expect(&rt, "a text")));
+}
+
+#[test]
+fn long_text_is_sent_as_json(rt: HostRuntime) {
+    let text = long_text(rt.alloc()).expect(&rt, "a text");
+    let set: Set<EmptyStaticAtomSet> = Set::new(rt.alloc()).expect(&rt, "a set");
+    let other: Set<EmptyStaticAtomSet> = Set::new(rt.alloc()).expect(&rt, "a set");
+    let atom = Atom::from_str_in(&rt, &set, &text).expect(&rt, "an atom");
+    let json = atom.to_json(rt.alloc()).expect(&rt, "an answer");
+    assert!(rt; json.as_str() == Some(text.as_str()));
+    let again = Atom::from_json_in(&rt, &other, &json).expect(&rt, "an atom");
+    assert!(rt; again.unsafe_data() == LONG_TICKET && again == atom);
+}
+
+#[test]
+fn long_text_lies_in_a_table(rt: HostRuntime) {
+    let text = long_text(rt.alloc()).expect(&rt, "a text");
+    let mut table = Table::<EmptyStaticAtomSet>::new(rt.alloc()).expect(&rt, "a table");
+    let word = table.intern(&text).expect(&rt, "a word");
+    assert!(rt; word == LONG_TICKET && table.text(word) == Some(text.as_str()));
+    assert!(rt; table.entries() == 1 && table.text_bytes() == 2_097_160);
+    table.give(word);
+    assert!(rt; table.entries() == 0 && table.text_bytes() == 0);
+}

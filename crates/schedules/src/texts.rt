@@ -1,0 +1,72 @@
+//! The few texts that threads intern, each in two cases.
+#![tactic(auto)]
+
+/// The case of a text.
+#[derive(Clone, Copy)]
+pub enum Case {
+    Lower,
+    Upper,
+}
+
+/// A text in both cases.
+#[derive(Clone, Copy)]
+struct Text {
+    lower: &'static str,
+    upper: &'static str,
+}
+
+/// A text in one of its cases.
+#[derive(Clone, Copy)]
+pub struct Word {
+    text: Text,
+    case: Case,
+}
+
+/// None is inline. By SipHash their buckets among 4096 are 0x72f, 0x72f, 0 and 0xfff: so the first two have one bucket, whatever the
+/// number of buckets up to that, and with 16 the third has another.
+const TEXTS: [Text; 4] = [
+    Text {
+        lower: "forgotten",
+        upper: "FORGOTTEN",
+    },
+    Text {
+        lower: "magnitude",
+        upper: "MAGNITUDE",
+    },
+    Text {
+        lower: "afterwards",
+        upper: "AFTERWARDS",
+    },
+    Text {
+        lower: "geometric",
+        upper: "GEOMETRIC",
+    },
+];
+
+impl Word {
+    /// The word of a number: 0 to 3 are the texts in lower case, and 4 to 7 in upper case.
+    pub fn of_number(number: u8) -> Option<Word> {
+        let case = if number < 4 { Case::Lower } else { Case::Upper };
+        let text = TEXTS.get(usize::from(number % 4))?;
+        if number < 8 {
+            Some(Word { text: *text, case })
+        } else {
+            None
+        }
+    }
+
+    pub fn as_str(&self) -> &'static str {
+        match self.case {
+            Case::Lower => self.text.lower,
+            Case::Upper => self.text.upper,
+        }
+    }
+
+    /// The same text in this case.
+    pub fn in_case(&self, case: Case) -> Word {
+        Word {
+            text: self.text,
+            case,
+        }
+    }
+}

@@ -1,0 +1,264 @@
+#!/usr/bin/env python3
+"""Counts the words of more text than one machine holds: it runs `atoms count` over pieces under GNU parallel, and merges.
+
+    tools/count_many.py [--atoms PROGRAM] [--sshlogin MACHINE].. [--keep FOLDER [--resume]] FILE..
+
+prints exactly what `cat FILE.. | PROGRAM count N` prints, or ends with a status that isn't 0 and says why on standard error:
+
+    0  all is counted
+    1  the text is one that `atoms count` refuses (its own line is printed), or a piece is missing, unreadable, failed or cut short
+    2  the arguments weren't understood, or GNU parallel isn't here
+
+parallel cuts each file at line feeds into pieces of about --block bytes (--pipepart), sends each piece to a machine that has room, and
+keeps a log. A job tells how many bytes it read, and how many it wrote: what is merged has to be whole, and all pieces together have to be
+as long as the files. A file whose last line has no line feed goes on in the next one, as under `cat`; such files are put together in a
+copy first.
+
+What failed is tried again in a further run, without the machines whose line broke. With --keep the folder keeps the results and the log
+of each run, and --resume counts only what is missing there. A further run cuts the same files into the same pieces, and a job whose piece
+is there already ends at once. (parallel's own --retries and --resume are of no use here: with --pipepart, as of version 20221122, a job
+that is tried again gets another piece, and its own is lost.)
+
+The program has to be at the same path on each machine. MACHINE is as parallel has it: `host`, `4/user@host`, `:` for this one.
+"""
+
+import argparse
+import json
+import os
+import re
+import shlex
+import shutil
+import subprocess
+import sys
+import tempfile
+from dataclasses import dataclass
+from pathlib import Path
+
+import merge_counts
+
+TOP = Path(__file__).resolve().parent.parent
+COPY = 1 << 20  # bytes that are copied at a time
+
+# What a job does with its piece, which comes on standard input: on standard output the counts, and as the last line on standard error
+# `end READ WROTE`, both in bytes, or `refused` for a piece that isn't UTF-8, which no second try mends.
+JOB = """
+case " DONE " in *" $PIECE "*) exit 0;; esac
+room=$(mktemp -d) || exit 3
+trap 'rm -rf "$room"' EXIT
+cat > "$room/piece" || exit 3
+if ATOMS count WORKERS < "$room/piece" > "$room/counts" 2> "$room/fault"; then
+    cat "$room/counts" || exit 3
+    echo "end $(($(wc -c < "$room/piece"))) $(($(wc -c < "$room/counts")))" >&2
+else
+    status=$?
+    cat "$room/fault" >&2
+    if grep -q "^NOT_TEXT$" "$room/fault"; then echo refused >&2; exit 0; fi
+    exit $status
+fi
+"""
+NOT_TEXT = "atoms: input is not UTF-8"
+BROKEN_LINE = "255"  # the status of ssh where it can't reach the machine, or loses it
+
+
+class Failed(Exception):
+    """The text couldn't be counted whole; the message says why."""
+
+
+@dataclass
+class Piece:
+    """What a run left of the piece of this number: its counts, and what its job said."""
+
+    number: int
+    counts: Path
+
+    def said(self):
+        said = self.counts.with_name(self.counts.name + ".err")
+        return said.read_text(encoding="utf-8", errors="replace").splitlines() if said.is_file() else []
+
+    def read(self):
+        """How many bytes of text the job read, where its counts are whole; else None."""
+        said = self.said()
+        end = re.fullmatch(r"end ([1-9]\d*) (\d+)", said[-1]) if said else None
+        whole = end and self.counts.is_file() and self.counts.stat().st_size == int(end[2])
+        return int(end[1]) if whole else None
+
+    def is_refused(self):
+        return self.said()[-1:] == ["refused"]
+
+
+def ends_a_line(path):
+    with open(path, "rb") as file:
+        file.seek(-1, os.SEEK_END)
+        return file.read(1) == b"\n"
+
+
+def as_one_text(files, room):
+    """Files whose texts, one after another, are those of the given ones, and which may be cut between each other: all but the last end
+    a line. Only files that go on in another one are copied."""
+    parts, group = [], []
+    for file in files:
+        group.append(file)
+        if ends_a_line(file) or file is files[-1]:
+            parts.append(group[0] if len(group) == 1 else joined(group, room / f"text.{len(parts)}"))
+            group = []
+    return parts
+
+
+def joined(files, path):
+    with open(path, "wb") as text:
+        for file in files:
+            with open(file, "rb") as part:
+                shutil.copyfileobj(part, text, COPY)
+    return path
+
+
+def plan_of(given):
+    """What has to be the same for a run to go on with the pieces of another one."""
+    stats = [(os.fspath(file.resolve()), file.stat().st_size, file.stat().st_mtime_ns) for file in given.files]
+    return {"files": [list(stat) for stat in stats], "block": given.block}
+
+
+def pieces_in(folder):
+    """The pieces that the runs in the folder left, whole ones first where a piece was tried in several runs."""
+    found = {}
+    for counts in sorted(folder.glob("run.*/*.counts")):
+        piece = Piece(int(counts.name.partition(".")[0]), counts)
+        if piece.number not in found or found[piece.number].read() is None:
+            found[piece.number] = piece
+    return [found[number] for number in sorted(found)]
+
+
+def job(given, done):
+    words = {
+        "DONE": " ".join(map(str, done)),
+        "ATOMS": shlex.quote(os.fspath(given.atoms)),
+        "WORKERS": str(given.workers),
+        "NOT_TEXT": NOT_TEXT,
+    }
+    script = re.sub(r"\b(DONE|ATOMS|WORKERS|NOT_TEXT)\b", lambda found: words[found[1]], JOB)
+    return f"env PIECE={{#}} sh -c {shlex.quote(script)}"
+
+
+def run_parallel(given, texts, folder, machines):
+    """Has parallel count the pieces of the texts that aren't whole yet, in a folder of this run's own, which it answers."""
+    run = folder / f"run.{len(list(folder.glob('run.*')))}"
+    run.mkdir()
+    done = [piece.number for piece in pieces_in(folder) if piece.read() is not None]
+    command = ["parallel", "--no-notice", "--pipepart", "--block", given.block]
+    command += ["--joblog", os.fspath(run / "joblog"), "--results", f"{run}/{{#}}.counts"]
+    command += ["--bar"] if sys.stderr.isatty() else []
+    command += ["--jobs", given.jobs] if given.jobs else []
+    command += [word for machine in machines for word in ("--sshlogin", machine)]
+    command += [word for text in texts for word in ("-a", os.fspath(text))]
+    said = None if sys.stderr.isatty() else subprocess.DEVNULL  # what a job says lies in the folder
+    subprocess.run([*command, job(given, done)], stdin=subprocess.DEVNULL, stdout=subprocess.DEVNULL, stderr=said)
+    return run
+
+
+def answering(machines, run):
+    """The machines whose line didn't break in a run; all of them where every one's did."""
+    with open(run / "joblog", encoding="utf-8", errors="replace") as log:
+        jobs = [line.split("\t") for line in log][1:]
+    broken = {job[1] for job in jobs if len(job) > 6 and job[6] == BROKEN_LINE}
+    return [machine for machine in machines if re.sub(r"^\d+/", "", machine) not in broken] or machines
+
+
+def is_settled(pieces, size):
+    """Whether no further run can change anything: all is counted, or a piece is refused."""
+    whole = [piece.read() for piece in pieces]
+    return any(piece.is_refused() for piece in pieces) or (None not in whole and sum(whole) == size)
+
+
+def count_pieces(given, texts, folder, size):
+    """Counts the pieces of the texts, which have this many bytes, in as many runs as are needed and allowed."""
+    machines = given.sshlogin
+    for _ in range(given.tries):
+        if is_settled(pieces_in(folder), size):
+            return
+        run = run_parallel(given, texts, folder, machines)
+        machines = answering(machines, run)
+
+
+def see_whole(pieces, size):
+    """Sees that each piece is whole, and that all of them together are this long."""
+    for piece in pieces:
+        if piece.is_refused():
+            raise Failed(NOT_TEXT)
+        if piece.read() is None:
+            why = " ".join(piece.said()[-1:]) or "it left no word"
+            raise Failed(f"count_many: piece {piece.number} wasn't counted: {why}")
+    read = sum(piece.read() for piece in pieces)
+    if read != size:
+        raise Failed(f"count_many: the pieces have {read} bytes of {size}: one is missing, or a file changed")
+
+
+def begin(folder, plan, resume):
+    """Notes what the folder's runs are of; a run that goes on has to be of the same."""
+    note = folder / "plan.json"
+    if resume:
+        if not note.is_file():
+            raise Failed(f"count_many: there is nothing to go on with in {folder}")
+        if json.loads(note.read_text(encoding="utf-8")) != plan:
+            raise Failed(f"count_many: {folder} is of other files, or of another --block, or a file changed since")
+    elif note.exists():
+        raise Failed(f"count_many: {folder} has results already: --resume goes on with them")
+    note.write_text(json.dumps(plan), encoding="utf-8")
+
+
+def count(given, folder, out):
+    """Counts the files' text with the results in the folder, and writes the merged counts."""
+    plan = plan_of(given)
+    begin(folder, plan, given.resume)
+    files = [file for file in given.files if file.stat().st_size]
+    size = sum(file.stat().st_size for file in files)
+    with tempfile.TemporaryDirectory(prefix="count-many-") as room:
+        texts = as_one_text(files, Path(room))
+        count_pieces(given, texts, folder, size)
+    pieces = pieces_in(folder)
+    see_whole(pieces, size)
+    if plan_of(given) != plan:
+        raise Failed("count_many: a file changed while it was counted")
+    merge_counts.merge([piece.counts for piece in pieces], out)
+
+
+def arguments():
+    parser = argparse.ArgumentParser(description=__doc__, formatter_class=argparse.RawDescriptionHelpFormatter)
+    parser.add_argument("--atoms", type=Path, default=TOP / "crates/atoms/out/atoms", metavar="PROGRAM")
+    parser.add_argument("--workers", type=int, default=1, metavar="N", help="of each job, 1 to 64 (1)")
+    parser.add_argument("--block", default="64M", metavar="SIZE", help="of a piece, as parallel has it (64M)")
+    parser.add_argument("--jobs", metavar="N", help="on each machine, as parallel has it (one a processor)")
+    parser.add_argument("--sshlogin", action="append", default=[], metavar="MACHINE")
+    parser.add_argument("--tries", type=int, default=3, metavar="N", help="how often a piece that failed is tried in all (3)")
+    parser.add_argument("--keep", type=Path, metavar="FOLDER", help="for results and parallel's log")
+    parser.add_argument("--resume", action="store_true", help="count only what is missing in the folder")
+    parser.add_argument("files", nargs="+", type=Path, metavar="FILE")
+    given = parser.parse_args()
+    if not 1 <= given.workers <= 64:
+        parser.error("--workers is from 1 to 64")
+    if given.resume and not given.keep:
+        parser.error("--resume goes on with the results in --keep FOLDER")
+    if not shutil.which("parallel"):
+        parser.error("GNU parallel isn't here")
+    return given
+
+
+def main():
+    given = arguments()
+    try:
+        with tempfile.TemporaryDirectory(prefix="count-many-") as room, open(
+            sys.stdout.fileno(), "wb", buffering=merge_counts.BUFFER, closefd=False
+        ) as out:
+            folder = given.keep or Path(room)
+            folder.mkdir(parents=True, exist_ok=True)
+            count(given, folder, out)
+    except Failed as why:
+        print(why, file=sys.stderr)
+        return 1
+    except (merge_counts.BadCounts, OSError) as why:
+        print(f"count_many: {why}", file=sys.stderr)
+        return 1
+    return 0
+
+
+if __name__ == "__main__":
+    sys.exit(main())

@@ -1,0 +1,105 @@
+"""Wrong bodies that no contract sees, as they are kept in crates/NAME/caught/*.edit, and in crates/NAME/scheduled/*.edit those that
+tools/schedules finds: what such a file says, and what it makes of a copy of the repository.
+
+The first line says what has to come of the body:
+
+    test: FUNCTION      this test of the crate fails
+    refused: FUNCTION   this test of crates/atoms/src/refusals is WRONG for tools/refused.py
+    error: TEXT         the compiler says this
+    scene: NAME         an outcome of this scene of tools/schedules/scenes.txt is wrong
+
+The test is named by the end of its path. A line 'of: NAME' may follow where it is a test of another crate, which stands above the edit's.
+Then come, as in a must-fail edit, lines 'file: src/..', 'old: TEXT' and 'new: TEXT': the text, which stands once, is replaced.
+"""
+
+import contextlib
+from dataclasses import dataclass, field
+from pathlib import Path
+
+WANTS = ("test", "refused", "error", "scene")
+
+
+class BadEdit(Exception):
+    """The edit can't be read, or can't be applied."""
+
+
+@dataclass
+class Edit:
+    """A wrong body: what has to come of it (one of WANTS), the test or the error that this names, the crate whose test it is, and what is
+    replaced by what, file by file."""
+
+    path: Path
+    want: str = ""
+    name: str = ""
+    of: str = ""
+    changes: list = field(default_factory=list)
+
+    @property
+    def crate(self):
+        """The name of the crate that is changed."""
+        return self.path.parent.parent.name
+
+    def __str__(self):
+        return f"{self.crate}/{self.path.name}"
+
+
+def read_edit(path):
+    """The edit in a file."""
+    edit, file, old = Edit(path), None, None
+    for line in path.read_text(encoding="utf-8").splitlines():
+        word, _, text = line.partition(": ")
+        if word in WANTS and not edit.want:
+            edit.want, edit.name = word, text.strip()
+        elif word in WANTS:
+            raise BadEdit(f"it wants more than one of {', '.join(WANTS)}")
+        elif word == "of":
+            edit.of = text.strip()
+        elif word == "file":
+            file = text.strip()
+        elif word == "old":
+            old = text
+        elif word in ("new", "new:"):
+            if not file or old is None:
+                raise BadEdit("a 'new:' line stands before any 'file:' or 'old:' line")
+            edit.changes.append((file, old, text))
+            old = None
+    if not edit.name or not edit.changes:
+        raise BadEdit("it has no line 'test: FUNCTION', 'refused: FUNCTION', 'error: TEXT' or 'scene: NAME', or no pair 'old:' and 'new:'")
+    if not edit.of:
+        edit.of = "atoms" if edit.want == "refused" else edit.crate
+    return edit
+
+
+def edited(edit, root):
+    """The changed texts, by their files in the copy at root."""
+    texts = {}
+    for name, old, new in edit.changes:
+        file = root / "crates" / edit.crate / name
+        if file not in texts:
+            if not name.startswith("src/") or not file.is_file():
+                raise BadEdit(f"there is no file {name}")
+            texts[file] = file.read_text(encoding="utf-8")
+        found = texts[file].count(old)
+        if found != 1:
+            raise BadEdit(f"an 'old:' text stands {found} times in {name}, and not once")
+        texts[file] = texts[file].replace(old, new)
+    return texts
+
+
+@contextlib.contextmanager
+def applied(edit, root):
+    """Changes the copy at root, and changes it back at the end."""
+    texts = edited(edit, root)
+    kept = {file: file.read_bytes() for file in texts}
+    try:
+        for file, text in texts.items():
+            file.write_text(text, encoding="utf-8")
+        yield
+    finally:
+        for file, text in kept.items():
+            file.write_bytes(text)
+
+
+def ends_in(path, name):
+    """Whether a test's path is the name, or ends in it."""
+    return f"::{path}".endswith(f"::{name}")

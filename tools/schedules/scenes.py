@@ -1,0 +1,96 @@
+"""Scenes as the file scenes.txt has them, and as the program crates/schedules takes them."""
+
+from dataclasses import dataclass, field
+from pathlib import Path
+
+from history import Limits
+
+FILE = Path(__file__).resolve().parent / "scenes.txt"
+TEXTS = ("forgotten", "magnitude", "afterwards", "geometric", "FORGOTTEN", "MAGNITUDE", "AFTERWARDS", "GEOMETRIC")
+LETTERS = {"clone": "c", "drop": "d", "upper": "u", "lower": "w", "sweep": "s", "linked": "l"}
+
+
+class BadScene(Exception):
+    """A line of the scenes can't be read."""
+
+
+@dataclass
+class Scene:
+    """A set's limits, what each thread calls, and which of its schedules are tried."""
+
+    name: str
+    holders: int = 9
+    serials: int = 9
+    bits: int = 0
+    deep: int = 2
+    is_by_order: bool = False
+    is_compared: bool = False
+    has_refusals: bool = False
+    threads: list = field(default_factory=list)  # as the program takes them
+    calls: list = field(default_factory=list)  # of each thread beside the others
+
+    def arguments(self):
+        return [str(self.holders), str(self.serials), str(self.bits), *self.threads]
+
+    def limits(self, refusals):
+        return Limits(self.holders, self.serials, self.bits, refusals)
+
+
+def calls_of(text):
+    """The calls of a text such as 'intern forgotten drop', a text each."""
+    calls, words = [], iter(text.split())
+    for word in words:
+        if word in LETTERS:
+            calls.append(word)
+        elif word in ("intern", "read"):
+            calls.append(f"{word} {next(words, '')}")
+        else:
+            raise BadScene(f"'{word}' is no call")
+    return calls
+
+
+def letter_of(call):
+    """The letter that stands for a call where the program takes it."""
+    name, _, text = call.partition(" ")
+    if not text:
+        return LETTERS[name]
+    if text not in TEXTS:
+        raise BadScene(f"'{text}' is none of the texts: {', '.join(TEXTS)}")
+    return chr(ord("0" if name == "intern" else "A") + TEXTS.index(text))
+
+
+def read_line(scene, line):
+    word, colon, rest = line.partition(":")
+    if line in ("by order", "by order, compared"):
+        scene.is_by_order, scene.is_compared = True, line.endswith("compared")
+    elif line == "refusals":
+        scene.has_refusals = True
+    elif word in ("holders", "serials", "bits", "deep") and rest.strip().isdecimal():
+        setattr(scene, word, int(rest))
+    elif word == "thread" and rest.count("|") == 1:
+        first, calls = map(calls_of, rest.split("|"))
+        scene.threads.append("/".join("".join(map(letter_of, it)) for it in (first, calls)))
+        scene.calls.append(calls)
+    else:
+        raise BadScene(f"'{line}' is no line of a scene{'' if colon else ', which is WORD: ..'}")
+
+
+def read_scenes(text):
+    scenes = []
+    for line in text.splitlines():
+        if not line.strip() or line.startswith("#"):
+            continue
+        if line.startswith("scene: "):
+            scenes.append(Scene(line.removeprefix("scene: ").strip()))
+        elif scenes:
+            read_line(scenes[-1], line.strip())
+        else:
+            raise BadScene("a line stands before the first 'scene: NAME'")
+    names = [scene.name for scene in scenes]
+    if len(set(names)) < len(names) or not all(scene.threads for scene in scenes):
+        raise BadScene("two scenes have one name, or one has no thread")
+    return scenes
+
+
+def all_scenes():
+    return read_scenes(FILE.read_text(encoding="utf-8"))
