@@ -292,7 +292,7 @@ def line_breaks(room):
     for status, row in ((255, same), (0, None)):
         ssh = room / f"ssh{status}"
         often = "true" if status == 0 else f'mkdir "{room}/broken" 2> "{room}/said"'
-        ssh.write_text(f'#!/bin/bash\nshift 2\nif {often}; then sh -c "$*" | head -c 60; exit {status}; fi\nexec sh -c "$*"\n', encoding="utf-8")
+        ssh.write_text(f'#!/bin/bash\nexport SHELL=/bin/bash\nshift 2\nif {often}; then sh -c "$*" | head -c 60; exit {status}; fi\nexec sh -c "$*"\n', encoding="utf-8")
         ssh.chmod(0o755)
         found = counted(written(room, [TEXT]), "--sshlogin", f"2/{ssh} machine")
         if wrong := same(found, whole(TEXT)) if row else failed(found, "wasn't counted"):

@@ -201,8 +201,8 @@ fn greatest_bound(rt: HostRuntime) {
         let tables = tables_of(alloc, &names[..count], 0, u32::MAX).expect(&rt, "tables");
         let printed = format!(in alloc; "{tables}").expect(&rt, "memory");
         assert!(rt; checked(alloc, &printed).expect(&rt, "memory"));
-        assert!(rt; tables.disps[0].0 > 0 && tables.disps[0].0 < 1000);
-        assert!(rt; tables.disps[0].1 < 1000);
+        let (first, second) = *tables.disps.first().expect(&rt, "a pair");
+        assert!(rt; first > 0 && first < 1000 && second < 1000);
     }
 }
 
