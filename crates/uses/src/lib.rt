@@ -28,7 +28,7 @@ use std::collections::HashMap;
 use std::sync::Wait;
 use string_cache::dynamic_set::Set;
 use string_cache::{DefaultAtom, Fault};
-pub use symbols::{WordText, reads_back, same_word, text_of};
+pub use symbols::{WordText, is_keyword, reads_back, same_word, text_of};
 pub use tags::{TAGS, Tag, Tags, finds_all, is_field};
 
 /// How one name stands to another.

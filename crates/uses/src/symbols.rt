@@ -19,6 +19,22 @@ pub fn same_word(alloc: Global, left: &str, right: &str) -> Result<bool, Fault>
     Ok(first == second)
 }
 
+/// Whether a name is the keyword. Unless it is refused, it gives back what it interned.
+pub fn is_keyword(
+    table: &mut Table<EmptyStaticAtomSet>,
+    name: &str,
+    keyword: &str,
+) -> Result<bool, Fault>
+    ensures { IfOk result (λ same. IsTrue same ↔ (name.now ≡ keyword.now)) }
+{
+    let word = table.intern(name)?;
+    let wanted = table.intern(keyword)?;
+    let same = word == wanted;
+    table.give(wanted);
+    table.give(word);
+    Ok(same)
+}
+
 /// The text of a word: its own, or one that a table lends.
 #[derive(Clone, Copy)]
 pub enum WordText<'t> {

@@ -137,6 +137,28 @@ fn names_have_one_word_each(rt: HostRuntime) -> Result<(), Fail> {
     Ok(())
 }
 
+/// Whether a name is the keyword, asked in a table of its own, and how many texts the table holds after it.
+fn asked_of_keyword(alloc: Global, name: &str, keyword: &str) -> Result<(bool, usize), Fault> {
+    let mut table = Table::<EmptyStaticAtomSet>::new(alloc)?;
+    let same = is_keyword(&mut table, name, keyword)?;
+    Ok((same, table.entries()))
+}
+
+#[test]
+fn keywords_are_told_and_given_back(rt: HostRuntime) -> Result<(), Fail> {
+    for (name, keyword, wanted) in [
+        ("while", "while", true),
+        ("while", "where", false),
+        ("continue", "continue", true),
+        ("continue", "contrive", false),
+        ("m\u{f6}glich", "m\u{f6}glich", true),
+    ] {
+        let found = asked_of_keyword(rt.alloc(), name, keyword)?;
+        assert_eq!(rt; found, (wanted, 0), "of {name:?}");
+    }
+    Ok(())
+}
+
 #[test]
 fn words_of_all_forms_have_texts(rt: HostRuntime) -> Result<(), Fail> {
     let mut table = Table::<Tags>::new(rt.alloc())?;
