@@ -8,6 +8,24 @@ use std::thread::{Promise, Threads};
 use string_cache::dynamic_set::Set;
 use string_cache::{DefaultAtom, EmptyStaticAtomSet, Fault};
 
+/// Whether the atoms that two threads make of two texts in one set are equal: exactly if the texts are.
+pub fn agree<R: Threads + Wait + Sync>(
+    rt: &R,
+    alloc: Global,
+    left: &str,
+    right: &str,
+) -> Result<bool, Fault>
+    ensures { IfOk result (λ same. IsTrue same ↔ (left.now ≡ right.now)) }
+{
+    let set = Set::new(alloc)?;
+    let (left, right) = thread::join(
+        rt,
+        || DefaultAtom::from_str_in(rt, &set, left),
+        || DefaultAtom::from_str_in(rt, &set, right),
+    );
+    Ok(left? == right?)
+}
+
 /// What a thread does: it interns the text, and goes on with a clone of the atom.
 fn intern<'s, R: Wait>(
     rt: &R,
@@ -20,20 +38,6 @@ fn intern<'s, R: Wait>(
     let second = first.clone_atom(rt)?;
     drop(first);
     Ok(second)
-}
-
-/// Whether the atoms that two threads make of two texts in one set are equal: exactly if the texts are.
-pub fn agree<R: Threads + Wait + Sync>(
-    rt: &R,
-    alloc: Global,
-    left: &str,
-    right: &str,
-) -> Result<bool, Fault>
-    ensures { IfOk result (λ same. IsTrue same ↔ (left.now ≡ right.now)) }
-{
-    let set = Set::new(alloc)?;
-    let (left, right) = thread::join(rt, || intern(rt, &set, left), || intern(rt, &set, right));
-    Ok(left? == right?)
 }
 
 /// What a worker promises: where it isn't refused, an atom of this text.
