@@ -1,4 +1,4 @@
-// Gates that hold workers until both have come, and note what is linked then.
+// Gates that hold workers until others have come or gone, and note what is linked then.
 #![tactic(auto)]
 
 use crate::count::Gate;
@@ -11,29 +11,31 @@ use string_cache::dynamic_set::Set;
 /// So often a worker that waits for the other looks again, and yields each time.
 const TURNS: u64 = 1_000_000;
 
-/// Where pieces 1 and 2 meet.
+/// Where the first so many pieces meet.
 #[derive(Drop)]
 struct Meeting {
+    pieces: u32,
     come: AtomicU64,
     missed: AtomicU64,
 }
 
 impl Meeting {
-    fn new() -> Meeting {
+    fn of(pieces: u32) -> Meeting {
         Meeting {
+            pieces,
             come: AtomicU64::new(0),
             missed: AtomicU64::new(0),
         }
     }
 
-    /// Holds each of the two until both have come. After the last turn it lets go, and notes that.
+    /// Holds each of these pieces until all have come. After the last turn it lets go, and notes that.
     fn meet(&self, piece: u32) {
-        if piece > 2 {
+        if piece > self.pieces {
             return;
         }
         self.come.fetch_add(1, Ordering::SeqCst);
         for _ in 0..TURNS {
-            if self.come.load(Ordering::SeqCst) >= 2 {
+            if self.come.load(Ordering::SeqCst) >= u64::from(self.pieces) {
                 return;
             }
             yield_now();
@@ -46,30 +48,108 @@ impl Meeting {
     }
 }
 
-/// Holds each of pieces 1 and 2 in `enter` until both have come.
-#[derive(Drop)]
-pub struct BothEnter {
-    meeting: Meeting,
+/// How often each piece came by: a digit of base 16 for each piece up to 15, the first piece's to the right.
+fn digit(piece: u32) -> u64 {
+    match piece {
+        1..=15 => 1 << (4 * (piece - 1)),
+        _ => 0,
+    }
 }
 
-impl BothEnter {
-    pub fn new() -> BothEnter {
-        BothEnter {
-            meeting: Meeting::new(),
+/// Holds each of the first so many pieces in `enter` until all have come, and notes how often each enters and leaves.
+#[derive(Drop)]
+pub struct Together {
+    meeting: Meeting,
+    entered: AtomicU64,
+    left: AtomicU64,
+}
+
+impl Together {
+    pub fn of(pieces: u32) -> Together {
+        Together {
+            meeting: Meeting::of(pieces),
+            entered: AtomicU64::new(0),
+            left: AtomicU64::new(0),
         }
     }
 
     pub fn was_missed(&self) -> bool {
         self.meeting.was_missed()
     }
+
+    /// How often each piece entered and left, as `digit` has it.
+    pub fn passed(&self) -> (u64, u64) {
+        (
+            self.entered.load(Ordering::SeqCst),
+            self.left.load(Ordering::SeqCst),
+        )
+    }
 }
 
-impl Gate for BothEnter {
+impl Gate for Together {
     fn enter<R: Wait>(&self, _rt: &R, piece: u32) {
+        self.entered.fetch_add(digit(piece), Ordering::SeqCst);
         self.meeting.meet(piece);
     }
 
-    fn leave<R: Wait>(&self, _rt: &R, _piece: u32) {}
+    fn leave<R: Wait>(&self, _rt: &R, piece: u32) {
+        self.left.fetch_add(digit(piece), Ordering::SeqCst);
+    }
+}
+
+/// Lets the pieces in one after another, in order, and notes where other than so many entries are linked as one leaves: its
+/// words and those of the pieces before it, all of which are still held.
+#[derive(Drop)]
+pub struct InTurn<'s> {
+    set: &'s Set<EmptyStaticAtomSet>,
+    wanted: &'s [u64],
+    left: AtomicU64,
+    missed: AtomicU64,
+    others: AtomicU64,
+}
+
+impl<'s> InTurn<'s> {
+    /// With the number that is wanted as each piece leaves.
+    pub fn new(set: &'s Set<EmptyStaticAtomSet>, wanted: &'s [u64]) -> InTurn<'s> {
+        InTurn {
+            set,
+            wanted,
+            left: AtomicU64::new(0),
+            missed: AtomicU64::new(0),
+            others: AtomicU64::new(0),
+        }
+    }
+
+    /// How many pieces left, each after those before it, with as many entries linked as are wanted.
+    pub fn right(&self) -> Option<u64> {
+        let wrong = self.missed.load(Ordering::SeqCst) + self.others.load(Ordering::SeqCst);
+        if wrong > 0 {
+            return None;
+        }
+        Some(self.left.load(Ordering::SeqCst))
+    }
+}
+
+impl Gate for InTurn<'_> {
+    fn enter<R: Wait>(&self, _rt: &R, piece: u32) {
+        for _ in 0..TURNS {
+            if self.left.load(Ordering::SeqCst) + 1 == u64::from(piece) {
+                return;
+            }
+            yield_now();
+        }
+        self.missed.fetch_add(1, Ordering::SeqCst);
+    }
+
+    fn leave<R: Wait>(&self, rt: &R, piece: u32) {
+        let wanted = piece
+            .checked_sub(1)
+            .and_then(|i| self.wanted.get(i as usize));
+        if wanted != Some(&linked(rt, self.set)) {
+            self.others.fetch_add(1, Ordering::SeqCst);
+        }
+        self.left.fetch_add(1, Ordering::SeqCst);
+    }
 }
 
 /// Holds each of pieces 1 and 2 in `leave` until both have come, and then notes how many entries are
@@ -85,7 +165,7 @@ impl<'s> BothLeave<'s> {
     pub fn new(set: &'s Set<EmptyStaticAtomSet>) -> BothLeave<'s> {
         BothLeave {
             set,
-            meeting: Meeting::new(),
+            meeting: Meeting::of(2),
             linked: AtomicU64::new(0),
         }
     }

@@ -3,10 +3,11 @@
 
 ghost use Rattle.std.specs.Prelude.{◌≤◌};
 
-use crate::count::gates::{BothEnter, BothLeave, Watch};
+use crate::count::gates::{BothLeave, InTurn, Together, Watch};
 use crate::count::{Gate, Open, count};
 use crate::faults::AppFault;
 use crate::tests::EXAMPLE;
+use std::alloc::{AllocError, Global};
 use std::sync::Wait;
 use std::thread::Threads;
 use std::{str, thread};
@@ -78,17 +79,67 @@ fn counts_of_a_long_text(rt: HostRuntime) {
 fn workers_run_at_once(rt: HostRuntime) {
     let set = Set::<EmptyStaticAtomSet>::new(rt.alloc()).expect(&rt, "a set");
     let text = str::from_utf8(EXAMPLE).expect(&rt, "a text");
-    let gate = BothEnter::new();
+    let gate = Together::of(2);
     let counts = count(&rt, &set, text, 2, &gate).expect(&rt, "counts");
     assert!(rt; are(&counts, &EXAMPLE_COUNTS));
     assert!(rt; !gate.was_missed());
+}
+
+/// All of eight workers are in their pieces at once, and each number comes in once and goes out once.
+#[test]
+fn eight_workers_run_at_once(rt: HostRuntime) {
+    let set = Set::<EmptyStaticAtomSet>::new(rt.alloc()).expect(&rt, "a set");
+    let text = str::from_utf8(EXAMPLE).expect(&rt, "a text");
+    let gate = Together::of(8);
+    let counts = count(&rt, &set, text, 8, &gate).expect(&rt, "counts");
+    assert!(rt; are(&counts, &EXAMPLE_COUNTS));
+    drop(counts);
+    assert!(rt; !gate.was_missed());
+    assert!(rt; gate.passed() == (0x1111_1111, 0x1111_1111));
+}
+
+/// So many different words, each of `long` letters or more.
+fn different_words(alloc: Global, count: u32, long: u32) -> Result<String, AllocError> {
+    let mut letters = String::new(alloc);
+    for _ in 0..long {
+        letters.push('a')?;
+    }
+    let mut text = String::new(alloc);
+    for n in 0..count {
+        write!(text, "{letters}{n} ")?;
+    }
+    Ok(text)
+}
+
+/// Of 20 different words, piece i of 8 ends at word 20 * i / 8.
+#[test]
+fn pieces_of_twenty_words(rt: HostRuntime) {
+    let text = different_words(rt.alloc(), 20, 8).expect(&rt, "room");
+    let set = Set::<EmptyStaticAtomSet>::new(rt.alloc()).expect(&rt, "a set");
+    let gate = InTurn::new(&set, &[2, 5, 7, 10, 12, 15, 17, 20]);
+    let counts = count(&rt, &set, &text, 8, &gate).expect(&rt, "counts");
+    assert!(rt; counts.len() == 20);
+    drop(counts);
+    assert!(rt; gate.right() == Some(8));
+}
+
+/// Of 402 different words, over several sections of the text, piece i of 4 ends at word 402 * i / 4.
+#[test]
+fn pieces_of_a_long_text(rt: HostRuntime) {
+    let text = different_words(rt.alloc(), 402, 1_000).expect(&rt, "room");
+    let set = Set::<EmptyStaticAtomSet>::new(rt.alloc()).expect(&rt, "a set");
+    let gate = InTurn::new(&set, &[100, 201, 301, 402]);
+    let counts = count(&rt, &set, &text, 4, &gate).expect(&rt, "counts");
+    assert!(rt; counts.len() == 402);
+    drop(counts);
+    assert!(rt; gate.right() == Some(4));
 }
 
 /// Of one word and two pieces, the first piece has none.
 #[test]
 fn empty_pieces(rt: HostRuntime) {
     let set = Set::<EmptyStaticAtomSet>::new(rt.alloc()).expect(&rt, "a set");
-    let gate = BothEnter::new();
+    let gate = Together::of(2);
     let counts = count(&rt, &set, "a", 2, &gate).expect(&rt, "counts");
     assert!(rt; are(&counts, &[("a", 1)]));
     assert!(rt; !gate.was_missed());

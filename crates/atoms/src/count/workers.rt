@@ -147,7 +147,7 @@ fn counts_to<'x, 'e: 'x, R: Threads + Wait + Sync, Static: StaticAtomSet + Send 
     Ok(counts)
 }
 
-/// The counts of the words of all pieces, by a worker for each.
+/// The counts of the words of all pieces, by a worker for each. Where there are several, the words are cut by their exact number.
 fn counts_of_pieces<'e, R: Threads + Wait + Sync, Static: StaticAtomSet + Send + Sync, G: Gate>(
     rt: &'e R,
     set: &'e Set<Static>,
@@ -155,7 +155,8 @@ fn counts_of_pieces<'e, R: Threads + Wait + Sync, Static: StaticAtomSet + Send +
     marked: Marked<'e>,
     cut: Cut,
 ) -> Result<Counts<'e, Static>, AppFault>
-    requires { length (words marked.text.now) ≤ cut.words }
+    requires enough { length (words marked.text.now) ≤ cut.words }
+    requires exact { 1 < cut.pieces → cut.words ≡ length (words marked.text.now) }
     ensures counts { IfOk result (λ counts. counted_texts counts.items ≡ word_counts (words marked.entry.text.now)) }
     ensures fault { IfErr result IsCountFault }
 {
