@@ -122,8 +122,7 @@ impl<'s> InTurn<'s> {
 
     /// How many pieces left, each after those before it, with as many entries linked as are wanted.
     pub fn right(&self) -> Option<u64> {
-        let wrong = self.missed.load(Ordering::SeqCst) + self.others.load(Ordering::SeqCst);
-        if wrong > 0 {
+        if self.missed.load(Ordering::SeqCst) > 0 || self.others.load(Ordering::SeqCst) > 0 {
             return None;
         }
         Some(self.left.load(Ordering::SeqCst))
@@ -133,7 +132,7 @@ impl<'s> InTurn<'s> {
 impl Gate for InTurn<'_> {
     fn enter<R: Wait>(&self, _rt: &R, piece: u32) {
         for _ in 0..TURNS {
-            if self.left.load(Ordering::SeqCst) + 1 == u64::from(piece) {
+            if self.left.load(Ordering::SeqCst).saturating_add(1) == u64::from(piece) {
                 return;
             }
             yield_now();
