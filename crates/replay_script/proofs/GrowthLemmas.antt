@@ -69,16 +69,16 @@ module _ (t : Tables) (w : World) where
   step_grows party (TakeSweep bucket) = guard_case Grows _ _ (reply.No, w) (omega arith) (take_grows _ _ _)
   step_grows party (Add e) =
       bind_case Grows (pass_of w party) _ _ (omega arith) (λ pass.
-      bind_case Grows (entry_at w e) _ _ (omega arith) (λ x. guard_case Grows _ _ (reply.No, w) (omega arith) (add_grows pass e x)))
+      bind_case Grows (entry_at w.entries e) _ _ (omega arith) (λ x. guard_case Grows _ _ (reply.No, w) (omega arith) (add_grows pass e x)))
   step_grows party (Link room) =
       bind_case Grows (pass_of w party) _ _ (omega arith) (λ pass.
       bind_case Grows pass.wanted _ _ (omega arith) (λ text. guard_case Grows _ _ (reply.No, w) (omega arith) (link_grows pass room text)))
-  step_grows party (Clone e) = bind_case Grows (entry_at w e) _ _ (omega arith) (λ x. guard_case Grows _ _ (reply.No, w) (omega arith) (clone_grows e x))
-  step_grows party (Give e) = bind_case Grows (entry_at w e) _ _ (omega arith) (λ x. guard_case Grows _ _ (reply.No, w) (omega arith) (give_grows e x))
+  step_grows party (Clone e) = bind_case Grows (entry_at w.entries e) _ _ (omega arith) (λ x. guard_case Grows _ _ (reply.No, w) (omega arith) (clone_grows e x))
+  step_grows party (Give e) = bind_case Grows (entry_at w.entries e) _ _ (omega arith) (λ x. guard_case Grows _ _ (reply.No, w) (omega arith) (give_grows e x))
   step_grows party (Unlink e) =
       bind_case Grows (pass_of w party) _ _ (omega arith) (λ pass.
-      bind_case Grows (entry_at w e) _ _ (omega arith) (λ x. guard_case Grows _ _ (reply.No, w) (omega arith) (unlink_grows pass e x)))
-  step_grows party (Free e) = bind_case Grows (entry_at w e) _ _ (omega arith) (λ x. guard_case Grows _ _ (reply.No, w) (omega arith) (set_entry reply.No e _))
+      bind_case Grows (entry_at w.entries e) _ _ (omega arith) (λ x. guard_case Grows _ _ (reply.No, w) (omega arith) (unlink_grows pass e x)))
+  step_grows party (Free e) = bind_case Grows (entry_at w.entries e) _ _ (omega arith) (λ x. guard_case Grows _ _ (reply.No, w) (omega arith) (set_entry reply.No e _))
   step_grows party Leave = bind_case Grows (pass_of w party) _ _ (omega arith) (λ pass. guard_case Grows _ _ (reply.No, w) (omega arith) (same reply.Left (record w { passes = without_party w.passes party }) refl))
 
 -- a run links one entry a step at most

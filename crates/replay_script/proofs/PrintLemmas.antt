@@ -40,11 +40,11 @@ held_none e zero (x ∷ entries) h = absurd (omega (arith, h))
 held_none e (suc k) [] h = refl
 held_none e (suc k) (x ∷ entries) h = held_none e k entries (omega (arith, h))
 
-entry_after : (w : World) (k : ℕ) → entry_at w (k + 1) ≡ slice_get w.entries k
+entry_after : (w : World) (k : ℕ) → entry_at w.entries (k + 1) ≡ slice_get w.entries k
 entry_after w k = rw add-one refl
 
 -- one line more
-pub held_step : (old out new : List ℕ) (w : World) (k : ℕ) (count : Option ℕ) → count ≡ option_map (λ entry. entry.count) (entry_at w (k + 1)) → new ≡ out ++ line_at (k + 1) count
+pub held_step : (old out new : List ℕ) (w : World) (k : ℕ) (count : Option ℕ) → count ≡ option_map (λ entry. entry.count) (entry_at w.entries (k + 1)) → new ≡ out ++ line_at (k + 1) count
     → out ++ held_lines_from (k + 1) (drop k w.entries) ≡ old ++ held_lines_from 1 w.entries
     → new ++ held_lines_from (k + 1 + 1) (drop (k + 1) w.entries) ≡ old ++ held_lines_from 1 w.entries
 held_step old out new w k count is line before =

@@ -16,6 +16,7 @@ pub use Rattle.string_cache_core.specs.Steps
 pub use Rattle.string_cache_core.specs.Table
 pub use Rattle.string_cache_core.specs.Tables
 pub use Rattle.string_cache_core.specs.Theorem
+pub use Rattle.string_cache_core.specs.Times
 pub use Rattle.string_cache_core.specs.Word
 pub use Rattle.string_cache_core.specs.World
 pub mod AtomForm

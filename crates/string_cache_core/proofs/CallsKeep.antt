@@ -1,10 +1,9 @@
 -- What the calls of a table keep of its words, and what they add.
-use Rattle.std.proofs.Common.{◌≡◌, ◌∙◌, ap, sym, subst, refl, arith, ℕ, zero, suc, ◌+◌, ◌-◌, ◌%◌, ◌<◌, ◌≤◌, ◌≢◌, ◌⊎◌, inl, inr, false, cond, List, [], ◌∷◌, ◌++◌, length, Option, None, Some, Result, Ok, Err, true≢false, nat_lt}
-use Rattle.std.specs.Prelude.{◌==◌, count_by, IfOk, string_bytes}
+use Rattle.std.proofs.Common.{◌≡◌, ◌∙◌, ap, sym, subst, refl, arith, ℕ, zero, suc, ◌+◌, ◌-◌, ◌<◌, ◌≤◌, ◌≢◌, ◌⊎◌, inl, inr, false, cond, List, [], ◌∷◌, ◌++◌, length, Option, None, Some, Result, Ok, Err, true≢false, nat_lt}
+use Rattle.std.specs.Prelude.{◌==◌, IfOk, string_bytes}
 use Rattle.std.specs.Str.{IsUtf8, bytes_eq}
 use Rattle.std.proofs.lemmas.Bool.{cases_Bool, eqb-true, eq-eqb, le-ltb, ltb-false}
 use Rattle.std.proofs.lemmas.Slice.Eq.{bytes_eq-Decides}
-use Rattle.std.proofs.lemmas.List.Sums.{sum_by-cons}
 use Rattle.string_cache_core.specs.Bounds.{Bounds}
 use Rattle.string_cache_core.specs.declared.faults.Fault.{Fault}
 use Rattle.string_cache_core.specs.declared.static_sets.TextForm.{TextForm}
@@ -13,14 +12,16 @@ use Rattle.string_cache_core.specs.declared.table.call.Call.TheVariants as call
 use Rattle.string_cache_core.specs.declared.table.call.TableReply.{TableReply}
 use Rattle.string_cache_core.specs.Calls.{Answers}
 use Rattle.string_cache_core.specs.declared.static_sets.TextForm.TheVariants as form
-use Rattle.string_cache_core.specs.Map.{Holding, InternMap, IsHeldTicket, MapReply, MayIntern, with_held, with_last, one_less, unless_given_up, bucket_in}
+use Rattle.string_cache_core.specs.Map.{Holding, InternMap, IsHeldTicket, MapReply, MayIntern, with_held, with_last, one_less, unless_given_up}
 use Rattle.string_cache_core.specs.Kept.{IsSoundMap}
 use Rattle.string_cache_core.specs.Table.{as_word, InternsBy, Interns, Clones, Gives, IsTextOf, IsFixedWord, IsHeld, IsHeldBy, AreHeld, HasWordBy, HasWord, KeepsWord, IsGivenTicket, IsNewTicket}
-use Rattle.string_cache_core.specs.Tables.{Tables, form_of_text, fixed_word, entry_hash, place_in, text_at}
+use Rattle.string_cache_core.specs.Tables.{Tables, form_of_text, fixed_word, entry_hash, place_in, text_at, bucket_of}
+use Rattle.string_cache_core.specs.Times.{times}
 use Rattle.string_cache_core.specs.Word.{inline_word, static_word, ticket_of}
 use Rattle.string_cache_core.proofs.HeldWords.{static-text, not-fixed-if-ticket}
 use Rattle.string_cache_core.proofs.KeptPairs.{the_same, none_some}
 use Rattle.string_cache_core.proofs.Replies.{some_left}
+use Rattle.string_cache_core.proofs.TimesLemmas.{times-same, times-other}
 use Rattle.string_cache_core.proofs.WordsApart.{has, inline_by}
 
 abbrev pub held_by : ℕ → ℕ → Option Holding
@@ -163,46 +164,26 @@ module _ (t : Tables) (m new : InternMap) (word : ℕ) (grows : Grows m new word
 
 -- ---- words that are listed
 
-abbrev pub times : ℕ → List ℕ → ℕ
-times word words = count_by (λ own. own == word) words
-
-pub times-cons : (word own : ℕ) (words : List ℕ) → times word (own ∷ words) ≡ cond (own == word) 1 0 + times word words
-times-cons word own words = sum_by-cons (λ own. cond (own == word) 1 0) own words
-
-pub times-middle : (word own : ℕ) (before after : List ℕ) → times word (before ++ own ∷ after) ≡ cond (own == word) 1 0 + times word (before ++ after)
-times-middle word own [] after = times-cons word own after
-times-middle word own (x ∷ before) after =
-    let rest = times-middle word own before after in
-    let whole = times-cons word x (before ++ own ∷ after) in
-    let less = times-cons word x (before ++ after) in
-    omega (arith, rest, whole, less)
-
 module _ (t : Tables) (m new : InternMap) (word : ℕ) (before after : List ℕ) where
-  one : (1 + times word (before ++ after)) ≡ times word (before ++ word ∷ after)
-  one = sym (times-middle word word before after ∙ ap (λ b. cond b 1 0 + times word (before ++ after)) (eq-eqb word word refl))
-
-  none : (other : ℕ) → (word == other) ≡ false → times other (before ++ word ∷ after) ≡ times other (before ++ after)
-  none other apart = times-middle other word before after ∙ ap (λ b. cond b 1 0 + times other (before ++ after)) apart ∙ omega arith
-
   -- a word more
   pub listed-more : ((other : ℕ) → Grows m new other) → ((n : ℕ) → IsHeldBy t m word n → IsHeldBy t new word (1 + n)) → AreHeld t m (before ++ after) → AreHeld t new (before ++ word ∷ after)
   listed-more grows more all other = elim (cases_Bool (word == other)) [
-    | inl same ↦ subst (λ (w : ℕ). IsHeldBy t new w (times w (before ++ word ∷ after))) (eqb-true word other same) (subst (IsHeldBy t new word) one (more (times word (before ++ after)) (all word)))
-    | inr apart ↦ subst (IsHeldBy t new other) (sym (none other apart)) (grows-by t m new other (grows other) (times other (before ++ after)) (all other))
+    | inl same ↦ subst (λ (w : ℕ). IsHeldBy t new w (times w (before ++ word ∷ after))) (eqb-true word other same) (subst (IsHeldBy t new word) (times-same word before after) (more (times word (before ++ after)) (all word)))
+    | inr apart ↦ subst (IsHeldBy t new other) (sym (times-other other word before after apart)) (grows-by t m new other (grows other) (times other (before ++ after)) (all other))
   ]
 
   -- a word less
   pub listed-less : ((other : ℕ) → other ≢ word → Grows m new other) → ((n : ℕ) → IsHeldBy t m word (1 + n) → IsHeldBy t new word n) → AreHeld t m (before ++ word ∷ after) → AreHeld t new (before ++ after)
   listed-less grows less all other = elim (cases_Bool (word == other)) [
-    | inl same ↦ subst (λ (w : ℕ). IsHeldBy t new w (times w (before ++ after))) (eqb-true word other same) (less (times word (before ++ after)) (subst (IsHeldBy t m word) (sym one) (all word)))
+    | inl same ↦ subst (λ (w : ℕ). IsHeldBy t new w (times w (before ++ after))) (eqb-true word other same) (less (times word (before ++ after)) (subst (IsHeldBy t m word) (sym (times-same word before after)) (all word)))
     | inr apart ↦
         let differ : other ≢ word = λ e. true≢false (sym (eq-eqb word other (sym e)) ∙ apart) in
-        grows-by t m new other (grows other differ) (times other (before ++ after)) (subst (IsHeldBy t m other) (none other apart) (all other))
+        grows-by t m new other (grows other differ) (times other (before ++ after)) (subst (IsHeldBy t m other) (times-other other word before after apart) (all other))
   ]
 
   -- a listed word is held
   pub listed-held : AreHeld t m (before ++ word ∷ after) → IsHeld t m word
-  listed-held all = elim (subst (IsHeldBy t m word) (sym one) (all word)) [
+  listed-held all = elim (subst (IsHeldBy t m word) (sym (times-same word before after)) (all word)) [
     | inl zeroed ↦ absurd (omega (arith, zeroed))
     | inr (inl fixed) ↦ inl fixed
     | inr (inr h) ↦ inr (record { text = h.0; holders = h.1; held = h.2 })
@@ -215,7 +196,7 @@ abbrev pub IsInterned : Tables → InternMap → List ℕ → ℕ → InternMap 
 IsInterned t m text word new =
     ((fixed_word (form_of_text t text) ≡ Some word) × (new ≡ m))
     ⊎ ((fixed_word (form_of_text t text) ≡ None) × (holders : ℕ) × (m.held text ≡ held_by word holders) × IsWritten m new text (held_by word (holders + 1)))
-    ⊎ ((fixed_word (form_of_text t text) ≡ None) × (m.held text ≡ None) × (word ≡ ticket_of (m.last (bucket_in t m text) + 1) (bucket_in t m text))
+    ⊎ ((fixed_word (form_of_text t text) ≡ None) × (m.held text ≡ None) × (word ≡ ticket_of (m.last (bucket_of t m.buckets text) + 1) (bucket_of t m.buckets text))
     × IsWritten m new text (held_by word 1) × (m.buckets ≡ new.buckets))
 
 ok-same : (x y : ℕ) → ◌≡◌ {A = Result ℕ Fault} (Ok x) (Ok y) → x ≡ y
@@ -245,7 +226,7 @@ module _ (t : Tables) (limits : Bounds) (m new : InternMap) (text : List ℕ) wh
         ))
     by-held (Some had) reply h dynamic (inr x) e = absurd (not-err word _ (e ∙ ap as_word x.1))
     by-held None reply h dynamic (inl x) e =
-        let bucket = bucket_in t m text in
+        let bucket = bucket_of t m.buckets text in
         let is : word ≡ ticket_of (m.last bucket + 1) bucket = ok-same word (ticket_of (m.last bucket + 1) bucket) (e ∙ ap as_word x.1) in
         inr (inr (
           dynamic,
@@ -304,11 +285,11 @@ module _ (t : Tables) (limits : Bounds) (m new : InternMap) (text : List ℕ) wh
           let there = written-there m new text (held_by word 1) x.3 in
           let is : word ≡ ticket = same-ticket (new.held text) (new.held k.text) word ticket 1 k.holders (ap new.held same) there k.held in
           let g = sound.given text (record { ticket = word; holders = 1 }) there in
-          let bucket : bucket_in t m text ≡ entry_hash t text % new.buckets = ap (λ (n : ℕ). entry_hash t text % n) x.4 in
-          let last : m.last (bucket_in t m text) ≡ m.last (entry_hash t text % new.buckets) = ap m.last bucket in
+          let bucket : bucket_of t m.buckets text ≡ bucket_of t new.buckets text = ap (λ (n : ℕ). bucket_of t n text) x.4 in
+          let last : m.last (bucket_of t m.buckets text) ≡ m.last (bucket_of t new.buckets text) = ap m.last bucket in
           let next = x.2 in
           let own = g.is in
-          inr (g.serial, entry_hash t text % new.buckets, g.right, sym own ∙ is, omega (arith, next, own, bucket, last))
+          inr (g.serial, bucket_of t new.buckets text, g.right, sym own ∙ is, omega (arith, next, own, bucket, last))
       | inr stays ↦ inl (record { text = k.text; holders = k.holders; held = sym stays ∙ k.held })
     ]
   ]
@@ -413,7 +394,7 @@ module _ (t : Tables) (limits : Bounds) (m new : InternMap) (word : ℕ) where
   given-still (inr x) sound (inl fixed) =
       let k = x.1.0 in
       let g = sound.given k.text (record { ticket = word; holders = k.holders }) k.held in
-      absurd (not-fixed-if-ticket t word g.serial (entry_hash t k.text % m.buckets) (sym g.is) fixed)
+      absurd (not-fixed-if-ticket t word g.serial (bucket_of t m.buckets k.text) (sym g.is) fixed)
   given-still (inr x) sound (inr j) =
       let k = x.1.0 in
       let had : Holding = record { ticket = word; holders = k.holders } in
@@ -460,7 +441,7 @@ module _ (t : Tables) (limits : Bounds) (m new : InternMap) (word : ℕ) where
 pub held-given : (t : Tables) (m : InternMap) → IsSoundMap t m → (ticket : ℕ) → IsHeldTicket m ticket → IsGivenTicket m ticket
 held-given t m sound ticket k =
     let g = sound.given k.text (record { ticket = ticket; holders = k.holders }) k.held in
-    (g.serial, entry_hash t k.text % m.buckets, g.right, sym g.is, g.given)
+    (g.serial, bucket_of t m.buckets k.text, g.right, sym g.is, g.given)
 
 abbrev pub IsFresh : InternMap → InternMap → Type 0
 IsFresh m new = (ticket : ℕ) → IsHeldTicket new ticket → IsHeldTicket m ticket ⊎ IsNewTicket m ticket

@@ -35,5 +35,6 @@ pub mod StepZeros
 pub mod TableLemmas
 pub mod TextBytes
 pub mod Tickets
+pub mod TimesLemmas
 pub mod Unpacking
 pub mod WordsApart

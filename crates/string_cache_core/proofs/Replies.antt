@@ -5,10 +5,10 @@ use Rattle.std.proofs.lemmas.Bool.{cases_Bool, eqb-true}
 use Rattle.string_cache_core.specs.declared.faults.Fault.{Fault}
 use Rattle.string_cache_core.specs.declared.faults.Fault.TheVariants.{Memory, FullCount, TicketsSpent}
 use Rattle.string_cache_core.specs.Bounds.{Bounds}
-use Rattle.string_cache_core.specs.Map.{Holding, InternMap, IsHeldTicket, MapReply, Intern, MayReply, MayIntern, with_held, with_last, one_more, one_less, unless_given_up, bucket_in}
+use Rattle.string_cache_core.specs.Map.{Holding, InternMap, IsHeldTicket, MapReply, Intern, MayReply, MayIntern, with_held, with_last, one_more, one_less, unless_given_up}
 use Rattle.string_cache_core.specs.Table.{as_word, Adds, Clones, Gives}
 use Rattle.string_cache_core.specs.Kept.{Kept, map_of}
-use Rattle.string_cache_core.specs.Tables.{Tables}
+use Rattle.string_cache_core.specs.Tables.{Tables, bucket_of}
 use Rattle.string_cache_core.specs.Word.{ticket_of}
 
 abbrev pub InternReply : Tables → Bounds → InternMap → List ℕ → Result ℕ Fault → InternMap → Type 0
@@ -40,7 +40,7 @@ abbrev pub first_of_bucket : ℕ → ℕ → Holding
 first_of_bucket serial bucket = record { ticket = ticket_of serial bucket; holders = 1 }
 
 -- a text that isn't held
-module _ (t : Tables) (limits : Bounds) (m : InternMap) (text : List ℕ) (bucket : ℕ) (own : bucket ≡ bucket_in t m text) (none : m.held text ≡ None) where
+module _ (t : Tables) (limits : Bounds) (m : InternMap) (text : List ℕ) (bucket : ℕ) (own : bucket ≡ bucket_of t m.buckets text) (none : m.held text ≡ None) where
   pub interned-spent : limits.serials ≤ m.last bucket → InternReply t limits m text (Err TicketsSpent) m
   interned-spent spent =
       (Err TicketsSpent, subst (λ o. MayIntern t limits m text o (Err TicketsSpent) m) (sym none) (inr (inr (subst (λ b. limits.serials ≤ m.last b) own spent, refl, refl))), refl)
@@ -49,7 +49,7 @@ module _ (t : Tables) (limits : Bounds) (m : InternMap) (text : List ℕ) (bucke
       → OnOk result (new ≡ with_last (with_held m text (Some (first_of_bucket (m.last bucket + 1) bucket))) bucket (m.last bucket + 1))
       → OnErr result (new ≡ m) → IfErr result (λ fault. fault ≡ Memory) → InternReply t limits m text result new
   interned-new new (Ok word) less is ok err fault =
-      let b = bucket_in t m text in (
+      let b = bucket_of t m.buckets text in (
         Ok (first_of_bucket (m.last b + 1) b),
         subst (λ o. MayIntern t limits m text o (Ok (first_of_bucket (m.last b + 1) b)) new) (sym none)
             (inl (subst (λ b. m.last b < limits.serials) own less, refl, ok ∙ ap (λ b. with_last (with_held m text (Some (first_of_bucket (m.last b + 1) b))) b (m.last b + 1)) own)),
@@ -59,7 +59,7 @@ module _ (t : Tables) (limits : Bounds) (m : InternMap) (text : List ℕ) (bucke
       (Err Memory, subst (λ o. MayIntern t limits m text o (Err Memory) new) (sym none) (inr (inl (subst (λ b. m.last b < limits.serials) own less, refl, err))), ap Err fault)
 
 -- the same, of a table and the last serial that was read
-pub added : (t : Tables) (old new : Kept) (text : List ℕ) (bucket last : ℕ) (result : Result ℕ Fault) → bucket ≡ bucket_in t (map_of old) text → (map_of old).held text ≡ None → last ≡ (map_of old).last bucket
+pub added : (t : Tables) (old new : Kept) (text : List ℕ) (bucket last : ℕ) (result : Result ℕ Fault) → bucket ≡ bucket_of t (map_of old).buckets text → (map_of old).held text ≡ None → last ≡ (map_of old).last bucket
     → last < old.limits.serials → IfOk result (λ word. word ≡ ticket_of (last + 1) bucket)
     → OnOk result (map_of new ≡ with_last (with_held (map_of old) text (Some (first_of_bucket (last + 1) bucket))) bucket (last + 1))
     → OnErr result (new ≡ old) → IfErr result (λ fault. fault ≡ Memory) → InternReply t old.limits (map_of old) text result (map_of new)

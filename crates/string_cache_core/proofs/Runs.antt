@@ -9,9 +9,9 @@ use Rattle.string_cache_core.specs.declared.table.call.Call.TheVariants as call
 use Rattle.string_cache_core.specs.declared.table.call.TableReply.{TableReply}
 use Rattle.string_cache_core.specs.Bounds.{Bounds}
 use Rattle.string_cache_core.specs.Calls.{Answers, AnswersAll}
-use Rattle.string_cache_core.specs.Map.{Holding, InternMap, MapCall, Intern, Clone, Give, MapReply, MayAdd, MayIntern, MayReply, with_held, with_last, bucket_in}
+use Rattle.string_cache_core.specs.Map.{Holding, InternMap, MapCall, Intern, Clone, Give, MapReply, MayAdd, MayIntern, MayReply, with_held, with_last}
 use Rattle.string_cache_core.specs.Table.{InternsBy, Clones, Gives}
-use Rattle.string_cache_core.specs.Tables.{Tables, form_of_text, fixed_word}
+use Rattle.string_cache_core.specs.Tables.{Tables, form_of_text, fixed_word, bucket_of}
 
 -- one call more, at the end
 replays-push : (t : Tables) (limits : Bounds) (m mid new : InternMap) (calls : List Call) (answers : List TableReply) (c : Call) (answer : TableReply)
@@ -55,7 +55,7 @@ grows-adds limits m new text had reply bucket (inr x) = grows-same m new bucket 
 
 grows-intern : (t : Tables) (limits : Bounds) (m new : InternMap) (text : List ℕ) (held : Option Holding) (reply : MapReply) (bucket : ℕ) → MayIntern t limits m text held reply new → m.last bucket ≤ new.last bucket
 grows-intern t limits m new text (Some had) reply bucket x = grows-adds limits m new text had reply bucket x
-grows-intern t limits m new text None reply bucket (inl x) = grows-last m new text _ (bucket_in t m text) bucket x.2
+grows-intern t limits m new text None reply bucket (inl x) = grows-last m new text _ (bucket_of t m.buckets text) bucket x.2
 grows-intern t limits m new text None reply bucket (inr (inl x)) = grows-same m new bucket x.2
 grows-intern t limits m new text None reply bucket (inr (inr x)) = grows-same m new bucket x.2
 

@@ -8,17 +8,17 @@ use Rattle.string_cache_core.specs.declared.steps.entry.Place.TheVariants as pla
 use Rattle.string_cache_core.specs.declared.steps.Step.{Step}
 use Rattle.string_cache_core.specs.declared.steps.Step.TheVariants.{TakeIntern, TakeSweep, Add, Link, Clone, Give, Unlink, Free, Leave}
 use Rattle.string_cache_core.specs.declared.steps.StepReply.{StepReply}
-use Rattle.string_cache_core.specs.Steps.{bucket_of, pass_of, is_free, is_linked_in, wants, has, take_bucket, add, link, clone, give, unlink, all_found_dying, all_looked_at, replaced, without_party, finds_dying, looks_at, decides, last_of, step}
+use Rattle.string_cache_core.specs.Steps.{pass_of, is_free, is_linked_in, wants, has, take_bucket, add, link, clone, give, unlink, all_found_dying, all_looked_at, replaced, without_party, finds_dying, looks_at, decides, last_of, step}
 use Rattle.string_cache_core.specs.World.{Entry, Pass, World, is_linked, is_unlinked_by}
 use Rattle.string_cache_core.specs.Listed.{AreWithin}
 use Rattle.string_cache_core.specs.Runs.{Event, Leads}
 use Rattle.string_cache_core.specs.Sound.{At, SoundPass, DiffersFrom, Apart, SoundWorld}
-use Rattle.string_cache_core.proofs.StepLists.{at_set_cases, at_push_cases, at_set_same, at_push_old, at_one, bind_case, guard_case, if_case, find-all, all_at}
+use Rattle.string_cache_core.proofs.StepLists.{at_set_cases, at_push_cases, at_set_same, at_push_old, at_one, bind_case, guard_case, if_case, find-all, all_at, at_set_other, false_is_true}
 use Rattle.string_cache_core.proofs.StepSound.{all_replaced, all_without_party}
-use Rattle.string_cache_core.proofs.StepEntries.{set_other, sound_by}
+use Rattle.string_cache_core.proofs.StepEntries.{sound_by}
 use Rattle.string_cache_core.proofs.StepHistory.{keeps}
 use Rattle.string_cache_core.proofs.StepPasses.{of_party, find_passes, none_is}
-use Rattle.string_cache_core.specs.Tables.{Tables, is_dynamic}
+use Rattle.string_cache_core.specs.Tables.{Tables, is_dynamic, bucket_of}
 
 -- ---- what a step may do to the entries, and to the passes
 
@@ -128,7 +128,7 @@ same_change bucket es k x y at text ticket same back forth = record {
           text ∙ sym (ap (λ (v : Entry). v.text) is),
           ticket ∙ sym (ap (λ (v : Entry). v.ticket) is),
         )
-    | inr n ↦ (z, set_other es k y j z n a, h, refl, refl)
+    | inr n ↦ (z, at_set_other es k y j z n a, h, refl, refl)
   ];
   back = λ j z a h. elim (at_set_cases es k y j z a) [
     | inl (e, f) ↦
@@ -187,14 +187,11 @@ module _ (tables : Tables) where
     unfolding give
     give_goes k x at = record { entries = counts k x (x.count - 1) at; passes = As_they_are refl }
 
-    differ : {P : Type 0} → ◌≡◌ {A = Bool} false true → P
-    differ e = absurd cc
-
     unlink_goes : (k : ℕ) (pass : Pass) (x : Entry) → pass_of w q ≡ Some pass → At w.entries k x → x.bucket ≡ pass.bucket → G (unlink w pass (suc k) x)
     unfolding unlink
     unlink_goes k pass x p at b =
         if_case G (x.count == 0) _ _
-        (λ e. record { entries = Change k x (record x { place = place.UnlinkedBy pass.party }) at refl refl refl (λ l. differ l) (λ l. inr (pass, p, b)) refl; passes = As_they_are refl })
+        (λ e. record { entries = Change k x (record x { place = place.UnlinkedBy pass.party }) at refl refl refl (λ l. false_is_true l) (λ l. inr (pass, p, b)) refl; passes = As_they_are refl })
         (λ e. record { entries = Stay refl; passes = Next pass (looks_at pass (suc k)) p refl refl refl })
 
     own_unlinked : (x : Entry) → is_unlinked_by q x.place ≡ true → is_linked x.place ≡ true → ⊥
@@ -236,7 +233,7 @@ module _ (tables : Tables) where
     goes (Free (suc k)) =
         bind_case G (slice_get w.entries k) _ _ (nothing _) (λ x at.
         guard_case G (is_unlinked_by q x.place) _ _ (nothing _) (λ ok.
-        record { entries = Change k x (record x { place = place.Freed }) at refl refl refl (λ l. differ l) (λ l. absurd (own_unlinked x ok l)) refl; passes = As_they_are refl }))
+        record { entries = Change k x (record x { place = place.Freed }) at refl refl refl (λ l. false_is_true l) (λ l. absurd (own_unlinked x ok l)) refl; passes = As_they_are refl }))
     goes Leave =
         bind_case G (pass_of w q) _ _ (nothing _) (λ pass p.
         guard_case G (is_none pass.wanted && all_looked_at w pass) _ _ (nothing _) (λ ok. record { entries = Stay refl; passes = One_less refl }))

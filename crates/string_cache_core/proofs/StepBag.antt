@@ -1,7 +1,8 @@
 -- What stands for the bag: each entry's ticket as often as it counts, where no two entries have one ticket.
-use Rattle.std.proofs.Common.{◌≡◌, ℕ, ◌+◌, ◌-◌, ◌<◌, ◌≤◌, ◌≢◌, Bool, true, false, cond, List, [], ◌∷◌, ◌++◌, length, replicate, Option, None, Some, refl, sym, ap, ◌∙◌, arith, zero, suc}
-use Rattle.std.specs.Prelude.{slice_set, slice_index, ◌==◌}
-use Rattle.std.proofs.lemmas.Bool.{eqb-true, eq-eqb, false_from_ne_true}
+use Rattle.std.proofs.Common.{◌≡◌, ℕ, ◌+◌, ◌-◌, ◌<◌, ◌≤◌, ◌≢◌, Bool, true, false, cond, List, [], ◌∷◌, ◌++◌, length, replicate, refl, sym, ap, ◌∙◌, arith, zero, suc}
+use Rattle.std.specs.Prelude.{slice_set, slice_index}
+use Rattle.std.proofs.lemmas.Bool.{eq-eqb, false_from_ne_true, ne_eqb}
+use Rattle.std.proofs.lemmas.Option.{none-some}
 use Rattle.string_cache_core.specs.Word.{ticket_of}
 use Rattle.string_cache_core.specs.declared.steps.entry.Place.{Place}
 use Rattle.string_cache_core.specs.World.{Entry, Pass, World}
@@ -10,9 +11,6 @@ use Rattle.string_cache_core.specs.Sound.{At, SoundTable}
 use Rattle.string_cache_core.specs.StepPlaces.{held_places}
 use Rattle.string_cache_core.proofs.StepLists.{has-times, times-has}
 use Rattle.string_cache_core.proofs.StepSound.{fresh}
-
-differs : (a b : ℕ) → a ≢ b → (a == b) ≡ false
-differs a b n = false_from_ne_true (a == b) (λ e. n (eqb-true a b e))
 
 -- whether a ticket is held, by its entry's count
 pub has_by_count : (es : List Entry) (lasts bag : List ℕ) → SoundTable es lasts bag → (k : ℕ) (x : Entry) → At es k x → (b : Bool) → (b ≡ true → 0 < x.count) → (b ≡ false → x.count ≤ 0) → b ≡ has bag x.ticket
@@ -29,13 +27,13 @@ held_counts es lasts bag table k x at h = let c = table.counted k x at in let t 
 with_one-past : (n a b : ℕ) (rest : List ℕ) → a ≢ b → with_one b (replicate n a ++ rest) ≡ replicate n a ++ with_one b rest
 with_one-past zero a b rest other = refl
 with_one-past (suc n) a b rest other =
-    ap (λ (c : Bool). cond c (b ∷ a ∷ (replicate n a ++ rest)) (a ∷ with_one b (replicate n a ++ rest))) (differs a b other)
+    ap (λ (c : Bool). cond c (b ∷ a ∷ (replicate n a ++ rest)) (a ∷ with_one b (replicate n a ++ rest))) (ne_eqb a b other)
     ∙ ap (λ (ys : List ℕ). a ∷ ys) (with_one-past n a b rest other)
 
 without_one-past : (n a b : ℕ) (rest : List ℕ) → a ≢ b → without_one b (replicate n a ++ rest) ≡ replicate n a ++ without_one b rest
 without_one-past zero a b rest other = refl
 without_one-past (suc n) a b rest other =
-    ap (λ (c : Bool). cond c (replicate n a ++ rest) (a ∷ without_one b (replicate n a ++ rest))) (differs a b other)
+    ap (λ (c : Bool). cond c (replicate n a ++ rest) (a ∷ without_one b (replicate n a ++ rest))) (ne_eqb a b other)
     ∙ ap (λ (ys : List ℕ). a ∷ ys) (without_one-past n a b rest other)
 
 with_one-here : (n a : ℕ) (rest : List ℕ) → 0 < n → replicate (n + 1) a ++ rest ≡ with_one a (replicate n a ++ rest)
@@ -57,11 +55,8 @@ without_one-here (suc n) a rest some =
 abbrev IsAlone : List Entry → ℕ → Entry → Type 0
 IsAlone es k x = (j : ℕ) (z : Entry) → At es j z → z.ticket ≡ x.ticket → j ≡ k
 
-none_there : (x : Entry) {P : Type 0} → ◌≡◌ {A = Option Entry} None (Some x) → P
-none_there x e = absurd cc
-
 raised : (es : List Entry) (k : ℕ) (x : Entry) → At es k x → IsAlone es k x → 0 < x.count → held_places (slice_set es k (record x { count = x.count + 1 })) ≡ with_one x.ticket (held_places es)
-raised [] k x at alone some = none_there x at
+raised [] k x at alone some = absurd (none-some x at)
 raised (z ∷ es) zero x at alone some =
     let is : z ≡ x = cc in
     with_one-here x.count x.ticket (held_places es) some ∙ ap (λ (v : Entry). with_one x.ticket (replicate v.count v.ticket ++ held_places es)) (sym is)
@@ -71,7 +66,7 @@ raised (z ∷ es) (suc k) x at alone some =
     ∙ sym (with_one-past z.count z.ticket x.ticket (held_places es) other)
 
 lowered : (es : List Entry) (k : ℕ) (x : Entry) → At es k x → IsAlone es k x → 0 < x.count → held_places (slice_set es k (record x { count = x.count - 1 })) ≡ without_one x.ticket (held_places es)
-lowered [] k x at alone some = none_there x at
+lowered [] k x at alone some = absurd (none-some x at)
 lowered (z ∷ es) zero x at alone some =
     let is : z ≡ x = cc in
     without_one-here x.count x.ticket (held_places es) some ∙ ap (λ (v : Entry). without_one x.ticket (replicate v.count v.ticket ++ held_places es)) (sym is)
@@ -81,7 +76,7 @@ lowered (z ∷ es) (suc k) x at alone some =
     ∙ sym (without_one-past z.count z.ticket x.ticket (held_places es) other)
 
 pub places_moved : (es : List Entry) (k : ℕ) (x : Entry) (to : Place) → At es k x → held_places (slice_set es k (record x { place = to })) ≡ held_places es
-places_moved [] k x to at = none_there x at
+places_moved [] k x to at = absurd (none-some x at)
 places_moved (z ∷ es) zero x to at =
     let is : x ≡ z = cc in
     ap (λ (v : Entry). replicate v.count v.ticket ++ held_places es) is

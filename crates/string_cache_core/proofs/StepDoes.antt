@@ -1,7 +1,7 @@
 -- What the code does at a place is what the table says.
 use Rattle.std.proofs.Common.{◌≡◌, ℕ, ◌+◌, ◌<◌, ◌≤◌, ◌≢◌, Bool, true, false, List, [], ◌∷◌, ◌++◌, length, Option, None, Some, refl, sym, ap, ◌∙◌, suc}
 use Rattle.std.specs.Prelude.{slice_set, nat_lt, ◌==◌, ◌&&◌}
-use Rattle.std.proofs.lemmas.Bool.{eqb-true, eq-eqb, cond-true, cond-false, false_from_ne_true, lt-ltb, le-ltb}
+use Rattle.std.proofs.lemmas.Bool.{eq-eqb, cond-true, cond-false, lt-ltb, le-ltb, ne_eqb}
 use Rattle.std.specs.Option.{option_map_or, unwrap_or}
 use Rattle.string_cache_core.specs.Word.{ticket_of}
 use Rattle.string_cache_core.specs.declared.steps.entry.Place.TheVariants as place
@@ -9,27 +9,22 @@ use Rattle.string_cache_core.specs.declared.steps.Step.TheVariants.{Add, Link, U
 use Rattle.string_cache_core.specs.declared.steps.StepReply.{StepReply}
 use Rattle.string_cache_core.specs.declared.steps.StepReply.TheVariants as reply
 use Rattle.string_cache_core.specs.World.{Pass, World}
-use Rattle.string_cache_core.specs.Steps.{entry_at, is_linked_in, wants, step, IsStep, unlink, add, link, last_of, all_found_dying, replaced, ◌>>=◌, only_if, looks_at, finds_dying, decides, with_pass, with_entry, with_ticket, with_one}
+use Rattle.string_cache_core.specs.Steps.{is_linked_in, wants, step, IsStep, unlink, add, link, last_of, all_found_dying, replaced, ◌>>=◌, only_if, looks_at, finds_dying, decides, with_pass, with_entry, with_ticket, with_one}
 use Rattle.string_cache_core.specs.StepPlaces.{PassAt, EntryAt}
-use Rattle.string_cache_core.proofs.StepLists.{some_then, test_fails, test_holds, replied}
+use Rattle.string_cache_core.proofs.StepLists.{some_then, test_fails, test_holds, replied, replied_both}
+use Rattle.string_cache_core.proofs.StepPlaces.{entry_is}
 use Rattle.string_cache_core.specs.Tables.{Tables}
 
 module _ (tables : Tables) where
   module _ (w : World) (party number at k : ℕ) (p : PassAt w party at) (e : EntryAt w number k) where
-    entry_at_is : entry_at w number ≡ Some e.entry
-    entry_at_is = ap (entry_at w) e.numbered ∙ e.there
-
     put : (new : Pass) → new.party ≡ p.pass.party → with_pass w new ≡ record w { passes = slice_set w.passes at new }
     put new same = ap (λ (ps : List Pass). record w { passes = ps }) (p.replaces new same)
 
-    not_equal : (a b : ℕ) → a ≢ b → (a == b) ≡ false
-    not_equal a b n = false_from_ne_true (a == b) (λ h. n (eqb-true a b h))
-
     pub unlink_is : is_linked_in p.pass.bucket e.entry ≡ true → step tables w party (Unlink number) ≡ unlink w p.pass number e.entry
-    unlink_is h = some_then _ _ _ _ p.found ∙ some_then _ _ _ _ entry_at_is ∙ test_holds _ _ _ h
+    unlink_is h = some_then _ _ _ _ p.found ∙ some_then _ _ _ _ (entry_is w number k e) ∙ test_holds _ _ _ h
 
     pub add_is : (is_linked_in p.pass.bucket e.entry && wants p.pass e.entry.text) ≡ true → step tables w party (Add number) ≡ add w p.pass number e.entry
-    add_is h = some_then _ _ _ _ p.found ∙ some_then _ _ _ _ entry_at_is ∙ test_holds _ _ _ h
+    add_is h = some_then _ _ _ _ p.found ∙ some_then _ _ _ _ (entry_is w number k e) ∙ test_holds _ _ _ h
 
     pub unlink_zero : e.entry.count ≡ 0 → is_linked_in p.pass.bucket e.entry ≡ true → (new : World)
         → new ≡ record w { entries = slice_set w.entries k (record e.entry { place = place.UnlinkedBy party }) } → IsStep tables w party (Unlink number) reply.Unlinked new
@@ -44,7 +39,7 @@ module _ (tables : Tables) where
         → new ≡ record w { passes = slice_set w.passes at (looks_at p.pass number) } → IsStep tables w party (Unlink number) reply.Kept new
     unfolding unlink
     unlink_kept some h new is =
-        unlink_is h ∙ cond-false (e.entry.count == 0) _ _ (not_equal e.entry.count 0 some)
+        unlink_is h ∙ cond-false (e.entry.count == 0) _ _ (ne_eqb e.entry.count 0 some)
         ∙ replied reply.Kept _ new (put (looks_at p.pass number) refl ∙ sym is)
 
     pub add_dying : e.entry.count ≡ 0 → (is_linked_in p.pass.bucket e.entry && wants p.pass e.entry.text) ≡ true → (new : World)
@@ -58,7 +53,7 @@ module _ (tables : Tables) where
         → new ≡ record w { passes = slice_set w.passes at (decides (looks_at p.pass number)) } → IsStep tables w party (Add number) reply.Full new
     unfolding add
     add_full some full h new is =
-        add_is h ∙ cond-false (e.entry.count == 0) _ _ (not_equal e.entry.count 0 some)
+        add_is h ∙ cond-false (e.entry.count == 0) _ _ (ne_eqb e.entry.count 0 some)
         ∙ cond-false (nat_lt e.entry.count w.limits.holders) _ _ (le-ltb e.entry.count w.limits.holders full)
         ∙ replied reply.Full _ new (put (decides (looks_at p.pass number)) refl ∙ sym is)
 
@@ -72,9 +67,9 @@ module _ (tables : Tables) where
         → IsStep tables w party (Add number) (reply.Added ticket holders) new
     unfolding add
     add_added some room h ticket holders new same_ticket same_holders is =
-        add_is h ∙ cond-false (e.entry.count == 0) _ _ (not_equal e.entry.count 0 some)
+        add_is h ∙ cond-false (e.entry.count == 0) _ _ (ne_eqb e.entry.count 0 some)
         ∙ cond-true (nat_lt e.entry.count w.limits.holders) _ _ (lt-ltb e.entry.count w.limits.holders room)
-        ∙ pair (ap (λ (t : ℕ). reply.Added t (e.entry.count + 1)) (sym same_ticket) ∙ ap (λ (n : ℕ). reply.Added ticket n) (sym same_holders))
+        ∙ replied_both (ap (λ (t : ℕ). reply.Added t (e.entry.count + 1)) (sym same_ticket) ∙ ap (λ (n : ℕ). reply.Added ticket n) (sym same_holders))
         (ap (λ (n : ℕ). with_ticket (with_pass (with_entry w n (record e.entry { count = e.entry.count + 1 })) (decides (looks_at p.pass number))) e.entry.ticket) e.numbered
         ∙ ap (λ (ps : List Pass). record w {
           entries = slice_set w.entries k (record e.entry { count = e.entry.count + 1 });
@@ -138,7 +133,7 @@ module _ (tables : Tables) where
         link_is text.0 text.1 text.2 ∙ cond-true (nat_lt (last_of w p.pass.bucket) w.limits.serials) _ _ (lt-ltb (last_of w p.pass.bucket) w.limits.serials below)
         ∙ cond-true room _ _ has_room
         ∙ ap (λ (n : ℕ). (reply.Linked (length w.entries + 1) (ticket_of n p.pass.bucket), linked n (replaced w.passes (decides (looks_at p.pass (length w.entries + 1)))))) (sym s)
-        ∙ pair (ap (λ (n : ℕ). reply.Linked n (ticket_of serial p.pass.bucket)) (sym e) ∙ ap (λ (n : ℕ). reply.Linked entry n) (sym t))
+        ∙ replied_both (ap (λ (n : ℕ). reply.Linked n (ticket_of serial p.pass.bucket)) (sym e) ∙ ap (λ (n : ℕ). reply.Linked entry n) (sym t))
         (ap (linked serial) (p.replaces (decides (looks_at p.pass (length w.entries + 1))) refl) ∙ sym is)
       where
         linked : ℕ → List Pass → World
@@ -148,6 +143,3 @@ module _ (tables : Tables) where
           passes = ps;
           bag = with_one (ticket_of n p.pass.bucket) w.bag;
         }
-
-        pair : {r r' : StepReply} {u v : World} → r ≡ r' → u ≡ v → ◌≡◌ {A = StepReply × World} (r, u) (r', v)
-        pair f g i = (f i, g i)

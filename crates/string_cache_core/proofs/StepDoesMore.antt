@@ -10,10 +10,11 @@ use Rattle.string_cache_core.specs.declared.steps.Step.TheVariants.{TakeSweep, C
 use Rattle.string_cache_core.specs.declared.steps.StepReply.{StepReply}
 use Rattle.string_cache_core.specs.declared.steps.StepReply.TheVariants as reply
 use Rattle.string_cache_core.specs.World.{World}
-use Rattle.string_cache_core.specs.Steps.{take_intern_if, bucket_of, pass_of, is_free, entry_at, has, step, IsStep, clone, give, without_one, take_bucket, with_entry, with_ticket, with_one}
+use Rattle.string_cache_core.specs.Steps.{take_intern_if, pass_of, is_free, has, step, IsStep, clone, give, without_one, take_bucket, with_entry, with_ticket, with_one}
 use Rattle.string_cache_core.specs.StepPlaces.{EntryAt}
-use Rattle.string_cache_core.proofs.StepLists.{some_then, test_holds, replied}
-use Rattle.string_cache_core.specs.Tables.{Tables, entry_hash, form_of_text, text_at, place_in, is_dynamic, is_dynamic_form}
+use Rattle.string_cache_core.proofs.StepLists.{some_then, test_holds, replied, replied_both}
+use Rattle.string_cache_core.proofs.StepPlaces.{entry_is}
+use Rattle.string_cache_core.specs.Tables.{Tables, entry_hash, form_of_text, text_at, place_in, is_dynamic, is_dynamic_form, bucket_of}
 use Rattle.string_cache_core.specs.Word.{inline_word}
 use Rattle.string_cache_core.specs.declared.static_sets.TextForm.{TextForm}
 use Rattle.string_cache_core.specs.declared.static_sets.TextForm.TheVariants as form
@@ -26,11 +27,8 @@ and_three false b c e f = absurd (let g : false ≡ true = f in cc)
 
 module _ (tables : Tables) where
   module _ (w : World) (party number k : ℕ) (e : EntryAt w number k) where
-    entry_is : entry_at w number ≡ Some e.entry
-    entry_is = ap (entry_at w) e.numbered ∙ e.there
-
     clone_is : has w.bag e.entry.ticket ≡ true → step tables w party (Clone number) ≡ clone w number e.entry
-    clone_is h = some_then _ _ _ _ entry_is ∙ test_holds _ _ _ h
+    clone_is h = some_then _ _ _ _ (entry_is w number k e) ∙ test_holds _ _ _ h
 
     pub clone_full : has w.bag e.entry.ticket ≡ true → w.limits.holders ≤ e.entry.count → IsStep tables w party (Clone number) reply.Full w
     unfolding clone
@@ -41,25 +39,19 @@ module _ (tables : Tables) where
     unfolding clone
     clone_more h room holders new n is =
         clone_is h ∙ cond-true (nat_lt e.entry.count w.limits.holders) _ _ (lt-ltb e.entry.count w.limits.holders room)
-        ∙ pair (ap (λ (m : ℕ). reply.Cloned m) (sym n))
+        ∙ replied_both (ap (λ (m : ℕ). reply.Cloned m) (sym n))
         (ap (λ (m : ℕ). with_ticket (with_entry w m (record e.entry { count = e.entry.count + 1 })) e.entry.ticket) e.numbered ∙ sym is)
-      where
-        pair : {r r' : StepReply} {u v : World} → r ≡ r' → u ≡ v → ◌≡◌ {A = StepReply × World} (r, u) (r', v)
-        pair f g i = (f i, g i)
 
   module _ (w : World) (party number k : ℕ) (e : EntryAt w number k) where
     pub give_given : has w.bag e.entry.ticket ≡ true → (left : ℕ) (new : World) → left ≡ e.entry.count - 1
         → new ≡ record w { entries = slice_set w.entries k (record e.entry { count = e.entry.count - 1 }); bag = without_one e.entry.ticket w.bag } → IsStep tables w party (Give number) (reply.Given left) new
     unfolding give
     give_given h left new n is =
-        some_then _ _ _ _ (entry_is w party number k e) ∙ test_holds _ _ _ h
-        ∙ pair (ap (λ (m : ℕ). reply.Given m) (sym n)) (ap after e.numbered ∙ sym is)
+        some_then _ _ _ _ (entry_is w number k e) ∙ test_holds _ _ _ h
+        ∙ replied_both (ap (λ (m : ℕ). reply.Given m) (sym n)) (ap after e.numbered ∙ sym is)
       where
         after : ℕ → World
         after m = (let v = with_entry w m (record e.entry { count = e.entry.count - 1 }) in record v { bag = without_one e.entry.ticket w.bag })
-
-        pair : {r r' : StepReply} {u v : World} → r ≡ r' → u ≡ v → ◌≡◌ {A = StepReply × World} (r, u) (r', v)
-        pair f g i = (f i, g i)
 
   module _ (w : World) (party bucket : ℕ) where
     pub sweep_taken : (n : ℕ) → n ≡ bucket → nat_lt bucket (length w.lasts) ≡ true → (is_none (pass_of w party) && is_free w n) ≡ true → (new : World) → new ≡ (take_bucket w party n None).1

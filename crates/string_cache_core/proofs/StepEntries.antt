@@ -14,7 +14,8 @@ use Rattle.string_cache_core.specs.Steps.{pass_of, is_linked_in, wants, has, tak
 use Rattle.string_cache_core.specs.Runs.{Event, Leads}
 use Rattle.string_cache_core.specs.Theorem.{FreesSoundly}
 use Rattle.string_cache_core.specs.Sound.{At, Sound}
-use Rattle.string_cache_core.proofs.StepLists.{at_set_same, at_push_old, at_one, bind_case, guard_case, if_case, has-times}
+use Rattle.string_cache_core.proofs.StepLists.{at_set_same, at_push_old, at_one, bind_case, guard_case, if_case, at_set_other}
+use Rattle.string_cache_core.proofs.StepBag.{held_counts}
 use Rattle.string_cache_core.proofs.StepHistory.{keeps, unlinked_counts_zero}
 use Rattle.string_cache_core.specs.Tables.{Tables}
 
@@ -38,19 +39,12 @@ goes_same es k x a = (x, a, same x)
 goes_push : (es : List Entry) (y : Entry) → Goes es (es ++ y ∷ [])
 goes_push es y k x a = (x, at_push_old es y k x a, same x)
 
-pub set_other : (es : List Entry) (k : ℕ) (y : Entry) (j : ℕ) (z : Entry) → j ≢ k → At es j z → At (slice_set es k y) j z
-set_other [] k y j z n a = a
-set_other (x ∷ es) zero y zero z n a = absurd (n refl)
-set_other (x ∷ es) zero y (suc j) z n a = a
-set_other (x ∷ es) (suc k) y zero z n a = a
-set_other (x ∷ es) (suc k) y (suc j) z n a = set_other es k y j z (λ e. n (ap suc e)) a
-
 goes_set : (es : List Entry) (j : ℕ) (x y : Entry) → At es j x → Evolves x y → Goes es (slice_set es j y)
 goes_set es j x y at ev k z a = elim (cases_eq k j) [
   | inl e ↦
       let is : z ≡ x = at_one es j z x (subst (λ (i : ℕ). At es i z) e a) at in
       (y, subst (λ (i : ℕ). At (slice_set es j y) i y) (sym e) (at_set_same es j x y at), subst (λ (v : Entry). Evolves v y) (sym is) ev)
-  | inr n ↦ (z, set_other es j y k z n a, same z)
+  | inr n ↦ (z, at_set_other es j y k z n a, same z)
 ]
 
 module _ (tables : Tables) where
@@ -63,9 +57,6 @@ module _ (tables : Tables) where
 
     moved : (x : Entry) (to : Place) → is_linked to ≡ false → (x.place ≡ place.Freed → to ≡ place.Freed) → Evolves x (record x { place = to })
     moved x to gone freed = record { text = refl; bucket = refl; ticket = refl; dead = λ h. h; gone = λ h. gone; freed = freed }
-
-    held : (k : ℕ) (x : Entry) → At w.entries k x → has w.bag x.ticket ≡ true → 0 < x.count
-    held k x at h = let c = sound.table.counted k x at in let t = has-times x.ticket w.bag h in omega (arith, c, t)
 
     add_goes : (k : ℕ) (pass : Pass) (x : Entry) → At w.entries k x → To (add w pass (suc k) x)
     unfolding add
@@ -86,12 +77,12 @@ module _ (tables : Tables) where
     unfolding clone
     clone_goes k x at h =
         if_case To (nat_lt x.count w.limits.holders) _ _
-        (λ r. goes_set w.entries k x (record x { count = x.count + 1 }) at (counted (x.count + 1) 0 x (held k x at h)))
+        (λ r. goes_set w.entries k x (record x { count = x.count + 1 }) at (counted (x.count + 1) 0 x (held_counts w.entries w.lasts w.bag sound.table k x at h)))
         (λ r. goes_same w.entries)
 
     give_goes : (k : ℕ) (x : Entry) → At w.entries k x → has w.bag x.ticket ≡ true → To (give w (suc k) x)
     unfolding give
-    give_goes k x at h = goes_set w.entries k x (record x { count = x.count - 1 }) at (counted (x.count - 1) 0 x (held k x at h))
+    give_goes k x at h = goes_set w.entries k x (record x { count = x.count - 1 }) at (counted (x.count - 1) 0 x (held_counts w.entries w.lasts w.bag sound.table k x at h))
 
     not_freed_linked : (p : Place) {P : Type 0} → is_linked p ≡ true → p ≡ place.Freed → P
     not_freed_linked p l f = absurd (let e : is_linked p ≡ false = ap is_linked f in let c : true ≡ false = sym l ∙ e in cc)

@@ -4,32 +4,27 @@ use Rattle.std.specs.Prelude.{◌==◌, IsSome}
 use Rattle.std.specs.List.{filter, AllByRecursion}
 use Rattle.std.specs.Option.{unwrap_or}
 use Rattle.std.proofs.lemmas.Bool.{eqb-true, eq-eqb}
+use Rattle.std.proofs.lemmas.Option.{none-some}
 use Rattle.string_cache_core.specs.declared.steps.Step.{Step}
 use Rattle.string_cache_core.specs.declared.steps.Step.TheVariants.{Add, Link, Unlink, Leave}
 use Rattle.string_cache_core.specs.declared.steps.StepReply.{StepReply}
 use Rattle.string_cache_core.specs.declared.steps.StepReply.TheVariants as reply
 use Rattle.string_cache_core.specs.Bounds.{Bounds}
 use Rattle.string_cache_core.specs.Layout.{most_buckets}
-use Rattle.string_cache_core.specs.Tables.{Tables}
+use Rattle.string_cache_core.specs.Tables.{Tables, bucket_of}
 use Rattle.string_cache_core.specs.World.{Entry, Pass, World}
-use Rattle.string_cache_core.specs.Steps.{bucket_of, pass_of, is_linked_in, has, add, link, unlink, step_if, step, opening}
+use Rattle.string_cache_core.specs.Steps.{pass_of, is_linked_in, has, add, link, unlink, step_if, step, opening}
 use Rattle.string_cache_core.specs.Runs.{Event, Leads}
 use Rattle.string_cache_core.specs.Theorem.{text_taken}
 use Rattle.string_cache_core.specs.Sound.{At, SoundPass, Apart, SoundWorld}
 use Rattle.string_cache_core.specs.Pass as th
 use Rattle.string_cache_core.specs.PassSteps.{Item, list_of, plan_of, Planned, planned, any_reply, is_added, is_full, is_dying, is_unlinked, is_kept, steps_of, own, AsPlanned, linked_by, new_by, PassIsSteps}
-use Rattle.string_cache_core.proofs.StepLists.{at_one, if_case, find-all}
+use Rattle.string_cache_core.proofs.StepLists.{at_one, if_case, find-all, false_is_true}
 use Rattle.string_cache_core.proofs.StepOpening.{opening_sound}
 use Rattle.string_cache_core.proofs.StepPasses.{of_party, took_event, leads-append}
 use Rattle.string_cache_core.proofs.StepApart.{held_all, held_by, others_leave}
 use Rattle.string_cache_core.proofs.StepItems.{numbers, Falls, items_same, is_other, IsThere, listed, cut_out}
 use Rattle.string_cache_core.proofs.StepPlans.{Told, is_of_add, still_wanted, keeps, leaving, IsPlan, Asks, plan_is, Stands, Midway, others_go, add_enabled, after_add, unlink_enabled, after_unlink, leave_enabled, link_enabled, after_link}
-
-differ : {P : Type 0} → ◌≡◌ {A = Bool} false true → P
-differ e = absurd cc
-
-no_text : (text : List ℕ) {P : Type 0} → ◌≡◌ {A = Option (List ℕ)} None (Some text) → P
-no_text text e = absurd cc
 
 -- ---- what a plan still has to do
 
@@ -83,8 +78,8 @@ module _ (bucket : ℕ) (begun : Option (List ℕ)) where
         by_told (th.added s) later left' asks p g p' = To_add pass wanted e rest (th.added s) later front left' m refl asks p p' of in_bucket list g
         by_told th.full later left' asks p g p' = To_add pass wanted e rest th.full later front left' m refl asks p p' of in_bucket list g
         by_told th.died later left' asks p g p' = To_add pass wanted e rest th.died later front left' m refl asks p p' of in_bucket list g
-        by_told th.gone later left' asks p g p' = To_unlink pass wanted e rest th.gone is_unlinked later front left' m (λ t. absurd (asks t)) p p' of (λ f. refl) (λ f. differ f) in_bucket list g
-        by_told th.stays later left' asks p g p' = To_unlink pass wanted e rest th.stays is_kept later front left' m (λ t. absurd (asks t)) p p' of (λ f. differ f) (λ f. inl refl) in_bucket list g
+        by_told th.gone later left' asks p g p' = To_unlink pass wanted e rest th.gone is_unlinked later front left' m (λ t. absurd (asks t)) p p' of (λ f. refl) (λ f. false_is_true f) in_bucket list g
+        by_told th.stays later left' asks p g p' = To_unlink pass wanted e rest th.stays is_kept later front left' m (λ t. absurd (asks t)) p p' of (λ f. false_is_true f) (λ f. inl refl) in_bucket list g
 
   module _ (tables : Tables) (w : World) (held : SoundWorld tables w) (party : ℕ) where
     -- ---- another's step
@@ -131,7 +126,7 @@ module _ (bucket : ℕ) (begun : Option (List ℕ)) where
 
     none_new : (o : Option (List ℕ)) (r : StepReply) → is_new r ≡ false → linked_by o r ≡ []
     none_new None r old = refl
-    none_new (Some text) (reply.Linked entry ticket) old = differ (sym old)
+    none_new (Some text) (reply.Linked entry ticket) old = false_is_true (sym old)
     none_new (Some text) r old = refl
 
     -- a step that links no entry
@@ -142,15 +137,15 @@ module _ (bucket : ℕ) (begun : Option (List ℕ)) where
 
     added_old : (r : StepReply) → is_added r ≡ true → (is_dying r ≡ false) × (is_new r ≡ false)
     added_old (reply.Added ticket holders) e = (refl, refl)
-    added_old r e = differ e
+    added_old r e = false_is_true e
 
     full_old : (r : StepReply) → is_full r ≡ true → (is_dying r ≡ false) × (is_new r ≡ false)
     full_old reply.Full e = (refl, refl)
-    full_old r e = differ e
+    full_old r e = false_is_true e
 
     dying_old : (r : StepReply) → is_dying r ≡ true → is_new r ≡ false
     dying_old reply.Dying e = refl
-    dying_old r e = differ e
+    dying_old r e = false_is_true e
 
     no_more : (wanted : Option (List ℕ)) (rest : List Item) (left : List Item) (plan : List Planned) (v : World) (goal : List Item) → IsPlan wanted rest plan left → plan ≡ [] → list_of v bucket ≡ goal
     no_more wanted rest left plan v goal is e = absurd (plan_some wanted rest left plan is e)
@@ -165,11 +160,11 @@ module _ (bucket : ℕ) (begun : Option (List ℕ)) where
           → (goal : List Item) → goal ≡ front ++ e ∷ left → Next (planned (Add e.number) fits ∷ later) goal
       next_decided fits old t p goal g =
           quiet (Add e.number) fits later goal _ (add_enabled tables w held party pass wanted e rest m t) (λ f. elim (after_add tables w held party pass wanted e rest m) [
-            | inl d ↦ differ (sym (old _ f).0 ∙ d.5)
+            | inl d ↦ false_is_true (sym (old _ f).0 ∙ d.5)
             | inr d ↦ (
               (old _ f).1,
               (
-                ready (add w pass (suc m.there.0.k) m.there.0.entry).1 party d.0 (d.2 ∙ b) None rest d.1 later left p (λ text e. no_text text e) (front ++ e ∷ []) goal (same_list (add w pass (suc m.there.0.k) m.there.0.entry).1 d.3 ∙ one_more front e rest) (g ∙ one_more front e left),
+                ready (add w pass (suc m.there.0.k) m.there.0.entry).1 party d.0 (d.2 ∙ b) None rest d.1 later left p (λ text e. absurd (none-some text e)) (front ++ e ∷ []) goal (same_list (add w pass (suc m.there.0.k) m.there.0.entry).1 d.3 ∙ one_more front e rest) (g ∙ one_more front e left),
                 no_more None rest left later (add w pass (suc m.there.0.k) m.there.0.entry).1 goal p,
               ),
             )
@@ -183,7 +178,7 @@ module _ (bucket : ℕ) (begun : Option (List ℕ)) where
               dying_old _ f,
               (To_unlink d.0 wanted e rest th.died any_reply later front left d.1 (λ _. d.4) refl p of (λ _. refl) (λ _. inr d.4) (d.2 ∙ b) (same_list (add w pass (suc m.there.0.k) m.there.0.entry).1 d.3) g, λ none. absurd (let clash : ◌≡◌ {A = List Planned} (planned (Unlink e.number) any_reply ∷ later) [] = none in cc)),
             )
-            | inr d ↦ differ (sym d.4 ∙ f)
+            | inr d ↦ false_is_true (sym d.4 ∙ f)
           ])
 
       -- what was found dying has no holder
@@ -221,7 +216,7 @@ module _ (bucket : ℕ) (begun : Option (List ℕ)) where
                   no_more wanted rest left later (unlink w pass (suc m.there.0.k) m.there.0.entry).1 goal p,
                 ),
               )
-              | inr found ↦ differ (sym u.2 ∙ dead_now found)
+              | inr found ↦ false_is_true (sym u.2 ∙ dead_now found)
             ]
           ])
 
@@ -241,8 +236,8 @@ module _ (bucket : ℕ) (begun : Option (List ℕ)) where
         subst (λ (p : List Planned). Next p goal) (sym is) (next_decided pass wanted e rest m of b front list later left is_full full_old t p goal g)
     ready_own plan goal (To_add pass wanted e rest th.died later front left m a t is p of b list g) =
         subst (λ (p : List Planned). Next p goal) (sym is) (next_dying pass wanted e rest m of b front list later left t p goal g)
-    ready_own plan goal (To_add pass wanted e rest th.gone later front left m a t is p of b list g) = differ a
-    ready_own plan goal (To_add pass wanted e rest th.stays later front left m a t is p of b list g) = differ a
+    ready_own plan goal (To_add pass wanted e rest th.gone later front left m a t is p of b list g) = false_is_true a
+    ready_own plan goal (To_add pass wanted e rest th.stays later front left m a t is p of b list g) = false_is_true a
     ready_own plan goal (To_unlink pass wanted e rest told fits later front left m d is p of u k b list g) =
         subst (λ (p : List Planned). Next p goal) (sym is) (next_unlink pass wanted e rest m of b front list later left told fits d p u k goal g)
 
@@ -289,7 +284,7 @@ module _ (tables : Tables) (party bucket : ℕ) (begun : Option (List ℕ)) wher
       (λ yes. own_first (eqb-true e.party party yes) (λ plan goal r before is follows. gone_on leads.0 held' plan goal r events v leads.2 before after is follows) before is)
       (λ other. gone_on leads.0 held' plan goal
       (subst (λ (o : StepReply × World). Ready o.1 party bucket begun plan goal) leads.1
-      (ready_other bucket begun tables w held party plan goal r e.party (λ same. differ (sym other ∙ eq-eqb e.party party same)) e.does))
+      (ready_other bucket begun tables w held party plan goal r e.party (λ same. false_is_true (sym other ∙ eq-eqb e.party party same)) e.does))
       events v leads.2 before after is)
       follows
     where

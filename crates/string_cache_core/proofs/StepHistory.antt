@@ -1,12 +1,13 @@
 -- Each step keeps what worlds keep, and what it decides is a call of the map.
 use Rattle.std.proofs.Common.{◌≡◌, ℕ, ◌+◌, ◌-◌, ◌<◌, ◌≤◌, ◌≢◌, ◌⊎◌, inl, inr, Bool, true, false, cond, not, List, [], ◌∷◌, ◌++◌, length, Option, None, Some, refl, sym, ap, ◌∙◌, subst, arith, zero, suc, get_or-set_same, get_or-set_other}
-use Rattle.std.specs.Prelude.{Err, slice_get, slice_set, slice_index, nat_lt, ◌==◌, ◌&&◌, ◌||◌, is_none, if◌then◌else◌}
+use Rattle.std.specs.Prelude.{Err, slice_get, slice_set, slice_index, nat_lt, ◌==◌, ◌&&◌, is_none, if◌then◌else◌}
 use Rattle.std.specs.List.{AllByRecursion}
 use Rattle.std.specs.Option.{option_map, option_map_or, unwrap_or}
 use Rattle.std.specs.Str.{bytes_eq}
 use Rattle.std.specs.String.{string_bytes}
 use Rattle.std.proofs.lemmas.Bool.{and_parts, and_from, and_right, or_cases, cases_eq, false_from_ne_true, eqb-true, eq-eqb, ltb-false, lt-ltb}
 use Rattle.std.proofs.lemmas.Nat.{mod_below}
+use Rattle.std.proofs.lemmas.Option.{none-some}
 use Rattle.std.proofs.lemmas.Slice.Eq.{bytes_eq-Decides}
 use borrow.Author.Tests.{ltb-true}
 use Rattle.string_cache_core.specs.declared.steps.entry.Place.{Place}
@@ -15,17 +16,19 @@ use Rattle.string_cache_core.specs.declared.steps.Step.{Step}
 use Rattle.string_cache_core.specs.declared.steps.Step.TheVariants.{TakeIntern, TakeSweep, Add, Link, Clone, Give, Unlink, Free, Leave}
 use Rattle.string_cache_core.specs.declared.steps.StepReply.{StepReply}
 use Rattle.string_cache_core.specs.declared.steps.StepReply.TheVariants as reply
-use Rattle.string_cache_core.specs.Steps.{bucket_of, ◌>>=◌, has, replaced, last_of, pass_of, is_linked_in, wants, with_entry, with_pass, with_ticket, with_one, without_one, finds_dying, looks_at, decides, take_bucket, add, all_found_dying, is_found_dying, link, clone, give, unlink, all_looked_at, step}
+use Rattle.string_cache_core.specs.Steps.{◌>>=◌, has, replaced, last_of, pass_of, is_linked_in, wants, with_entry, with_pass, with_ticket, with_one, without_one, finds_dying, looks_at, decides, take_bucket, add, all_found_dying, dying_if_linked, link, clone, give, unlink, all_looked_at, step}
 use Rattle.string_cache_core.specs.Word.{ticket_of}
 use Rattle.string_cache_core.specs.World.{Entry, Pass, World, is_linked, is_unlinked_by}
-use Rattle.string_cache_core.specs.Sound.{is_living, At, times, Sound, SoundTable, SoundPass}
+use Rattle.string_cache_core.specs.Sound.{is_living, At, Sound, SoundTable, SoundPass}
+use Rattle.string_cache_core.specs.Times.{times}
 use Rattle.string_cache_core.specs.Runs.{holding, living_at, live_map, wanted_by, ticket_at, call_of, Made, ReplaysHistory}
-use Rattle.string_cache_core.specs.Map.{InternMap, Holding, MapCall, MapReply, MayReply, MayIntern, MayAdd, MayLink, IsHeldTicket, unless_given_up, with_held, with_last, empty_map}
+use Rattle.string_cache_core.specs.Map.{InternMap, Holding, MapReply, MayReply, MayIntern, IsHeldTicket, unless_given_up, with_held, with_last}
 use Rattle.string_cache_core.specs.Map as map
 use Rattle.string_cache_core.specs.declared.faults.Fault.TheVariants as fault
-use Rattle.string_cache_core.proofs.StepLists.{at_push_new, at_one, bind_case, guard_case, if_case, find-all, all_push, numbered_at, times-with_one_same, times-with_one_other, times-without_one_same, times-without_one_other, has-times}
+use Rattle.string_cache_core.proofs.StepLists.{at_push_new, at_one, bind_case, guard_case, if_case, find-all, all_push, numbered_at, times-with_one_same, times-with_one_other, times-without_one_same, times-without_one_other, has_then}
+use Rattle.string_cache_core.proofs.StepBag.{held_counts}
 use Rattle.string_cache_core.proofs.StepSound.{same_length, Changes, table-set, dead-set, passes-weaker, all_replaced, all_without_party, table-push, dead-push, same_map, same_text, living_at-is, living_at-changed, living_at-dead, living_at-none, living_at-push_other, holding_of}
-use Rattle.string_cache_core.specs.Tables.{Tables, entry_hash}
+use Rattle.string_cache_core.specs.Tables.{Tables, entry_hash, bucket_of}
 
 bucket_of-below : (tables : Tables) (n : ℕ) (text : List ℕ) → 0 < n → bucket_of tables n text < n
 bucket_of-below tables n text some = mod_below (entry_hash tables text) n some
@@ -34,12 +37,8 @@ pub has-push : (xs : List ℕ) (x y : ℕ) → has (xs ++ x ∷ []) y ≡ true �
 has-push [] x y h = elim (or_cases (x == y) false h) [ inl e ↦ inr (sym (eqb-true x y e)) | inr e ↦ inl e ]
 has-push (z ∷ xs) x y h = elim (or_cases (z == y) (has (xs ++ x ∷ []) y) h) [
   | inl e ↦ inl (rw e refl)
-  | inr e ↦ elim (has-push xs x y e) [ inl f ↦ inl (or_second (z == y) (has xs y) f) | inr f ↦ inr f ]
+  | inr e ↦ elim (has-push xs x y e) [ inl f ↦ inl (has_then (z == y) (has xs y) f) | inr f ↦ inr f ]
 ]
-  where
-    or_second : (a b : Bool) → b ≡ true → (a || b) ≡ true
-    or_second true b e = refl
-    or_second false b e = e
 
 pub wants_is : (o : Option (List ℕ)) (text : List ℕ) → option_map_or (λ wanted. bytes_eq wanted text) o false ≡ true → o ≡ Some text
 wants_is None text h = absurd (let e : false ≡ true = h in cc)
@@ -94,9 +93,6 @@ module _ (tables : Tables) where
       right = λ text h. b ∙ s.right text (wanted text h);
       dead = λ e h. s.dead e (sym (ap (λ (xs : List ℕ). has xs e) d) ∙ h);
     }
-
-    never : (text : List ℕ) {P : Type 0} → ◌≡◌ {A = Option (List ℕ)} None (Some text) → P
-    never text e = absurd cc
 
     -- an entry counts one more holder
     module _ (k : ℕ) (x : Entry) (at : At w.entries k x) (linked : is_linked x.place ≡ true) (some : 0 < x.count) where
@@ -167,7 +163,7 @@ module _ (tables : Tables) where
           sound = record {
             table = more_table k x at linked some_now;
             each = all_replaced (SoundPass tables (length w.lasts) (slice_set w.entries k (more k x at linked some_now))) w.passes _ (more_each k x at linked some_now)
-                (pass_kept _ pass _ refl refl (λ text e. never text e)
+                (pass_kept _ pass _ refl refl (λ text e. absurd (none-some text e))
                 (find-all (λ (q : Pass). q.party == party) (SoundPass tables (length w.lasts) (slice_set w.entries k (more k x at linked some_now))) w.passes pass p (more_each k x at linked some_now)));
           };
           limits = refl;
@@ -182,7 +178,7 @@ module _ (tables : Tables) where
         (λ full. record {
           sound = record {
             table = sound.table;
-            each = all_replaced (SoundPass tables (length w.lasts) w.entries) w.passes _ sound.each (pass_kept w.entries pass _ refl refl (λ text e. never text e) sp);
+            each = all_replaced (SoundPass tables (length w.lasts) w.entries) w.passes _ sound.each (pass_kept w.entries pass _ refl refl (λ text e. absurd (none-some text e)) sp);
           };
           limits = refl;
           buckets = refl;
@@ -199,7 +195,7 @@ module _ (tables : Tables) where
     none_living pass text sp all k x at living e =
         let parts = and_parts (is_linked x.place) (nat_lt 0 x.count) living in
         let same : bytes_eq x.text text ≡ true = (bytes_eq-Decides x.text text).1 e in
-        let test = numbered_at (is_found_dying pass.dying text) w.entries 1 k x all at in
+        let test = numbered_at (dying_if_linked pass.dying text) w.entries 1 k x all at in
         elim (or_cases (not (is_linked x.place && bytes_eq x.text text)) (has pass.dying (1 + k)) test) [
           | inl no_such ↦
               let yes : (is_linked x.place && bytes_eq x.text text) ≡ true = and_from (is_linked x.place) (bytes_eq x.text text) parts.0 same in
@@ -220,7 +216,7 @@ module _ (tables : Tables) where
         let right : pass.bucket ≡ bucket_of tables (length w.lasts) text = sp.right text wanted in
         let alone = none_living pass text sp all in
         let absent : living_at w.entries text ≡ None = living_at-none w.entries w.lasts w.bag sound.table text alone in
-        let each' = all_replaced (SoundPass tables (length w.lasts) w.entries) w.passes (decides pass) sound.each (pass_kept w.entries pass (decides pass) refl refl (λ text e. never text e) sp) in
+        let each' = all_replaced (SoundPass tables (length w.lasts) w.entries) w.passes (decides pass) sound.each (pass_kept w.entries pass (decides pass) refl refl (λ text e. absurd (none-some text e)) sp) in
         if_case (Keeps w party (Link room)) (nat_lt (last_of w pass.bucket) w.limits.serials) _ _
         (λ serial. if_case (Keeps w party (Link room)) room _ _
         (λ _.
@@ -246,7 +242,7 @@ module _ (tables : Tables) where
             table = table';
             each = subst (λ (n : ℕ). AllByRecursion (SoundPass tables n (w.entries ++ y ∷ [])) (replaced w.passes pass')) (sym longer)
                 (all_replaced (SoundPass tables (length w.lasts) (w.entries ++ y ∷ [])) w.passes pass' each''
-                (pass_kept (w.entries ++ y ∷ []) pass pass' refl refl (λ text e. never text e)
+                (pass_kept (w.entries ++ y ∷ []) pass pass' refl refl (λ text e. absurd (none-some text e))
                 (find-all (λ (q : Pass). q.party == party) (SoundPass tables (length w.lasts) (w.entries ++ y ∷ [])) w.passes pass p each'')));
           };
           limits = refl;
@@ -288,16 +284,13 @@ module _ (tables : Tables) where
     ticket_at-is : (k : ℕ) (x : Entry) → At w.entries k x → ticket_at w (suc k) ≡ x.ticket
     ticket_at-is k x at = ap (λ (o : Option Entry). unwrap_or (option_map (λ (z : Entry). z.ticket) o) 0) at
 
-    held_counts : (k : ℕ) (x : Entry) → At w.entries k x → has w.bag x.ticket ≡ true → 0 < x.count
-    held_counts k x at h = let c = sound.table.counted k x at in let t = has-times x.ticket w.bag h in omega (arith, c, t)
-
     abbrev held_ticket : (k : ℕ) (x : Entry) → At w.entries k x → is_linked x.place ≡ true → 0 < x.count → IsHeldTicket (live_map w) x.ticket
     held_ticket k x at linked some = record { text = x.text; holders = x.count; held = held_now k x at linked some }
 
     clone_keeps : (k : ℕ) (x : Entry) → At w.entries k x → has w.bag x.ticket ≡ true → Keeps w party (Clone (suc k)) (clone w (suc k) x)
     unfolding clone more
     clone_keeps k x at h =
-        let some = held_counts k x at h in
+        let some = held_counts w.entries w.lasts w.bag sound.table k x at h in
         let linked = sound.table.linked k x at some in
         let is = ticket_at-is k x at in
         if_case (Keeps w party (Clone (suc k))) (nat_lt x.count w.limits.holders) _ _
@@ -329,7 +322,7 @@ module _ (tables : Tables) where
     give_keeps : (k : ℕ) (x : Entry) → At w.entries k x → has w.bag x.ticket ≡ true → Keeps w party (Give (suc k)) (give w (suc k) x)
     unfolding give
     give_keeps k x at h =
-        let some = held_counts k x at h in
+        let some = held_counts w.entries w.lasts w.bag sound.table k x at h in
         let linked = sound.table.linked k x at some in
         let is = ticket_at-is k x at in
         let living = lives x linked some in
@@ -439,7 +432,7 @@ module _ (tables : Tables) where
         (λ ok.
         let first = and_parts (is_none (pass_of w party) && nat_lt bucket (length w.lasts)) _ ok in
         let second = and_parts (is_none (pass_of w party)) (nat_lt bucket (length w.lasts)) first.0 in
-        take_keeps (TakeSweep bucket) bucket None refl (ltb-true bucket (length w.lasts) second.1) (λ text e. never text e))
+        take_keeps (TakeSweep bucket) bucket None refl (ltb-true bucket (length w.lasts) second.1) (λ text e. absurd (none-some text e)))
     keeps (Add zero) = bind_case (Keeps w party (Add zero)) (pass_of w party) _ _ (nothing (Add zero) refl) (λ pass p. nothing (Add zero) refl)
     keeps (Add (suc k)) =
         let none = nothing (Add (suc k)) refl in

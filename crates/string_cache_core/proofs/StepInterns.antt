@@ -3,18 +3,19 @@ use Rattle.std.proofs.Common.{◌≡◌, ℕ, ◌⊎◌, inl, inr, Bool, true, f
 use Rattle.std.specs.Prelude.{◌==◌}
 use Rattle.std.specs.List.{filter}
 use Rattle.std.proofs.lemmas.Bool.{cases_eq}
+use Rattle.std.proofs.lemmas.Option.{same_Some}
 use Rattle.string_cache_core.specs.declared.steps.Step.{Step}
 use Rattle.string_cache_core.specs.declared.steps.Step.TheVariants.{Leave}
 use Rattle.string_cache_core.specs.declared.steps.StepReply.{StepReply}
 use Rattle.string_cache_core.specs.declared.steps.StepReply.TheVariants as reply
 use Rattle.string_cache_core.specs.World.{Pass, World}
-use Rattle.string_cache_core.specs.Steps.{pass_of, step, bucket_of}
+use Rattle.string_cache_core.specs.Steps.{pass_of, step}
 use Rattle.string_cache_core.specs.Runs.{Made, Event, Leads, call_of, history_of}
 use Rattle.string_cache_core.specs.Theorem.{Stays, event, interned_by, texts_in, text_taken, made_by, own_calls}
 use Rattle.string_cache_core.proofs.StepLists.{if_case}
-use Rattle.string_cache_core.proofs.StepPasses.{GoesOn, Leaves, Decided, Took, own_event, other_event, took_event, bucket_of_text, leads-append, others_intern_nothing, by_own}
+use Rattle.string_cache_core.proofs.StepPasses.{Decided, own_event, other_event, took_event, bucket_of_text, leads-append, others_intern_nothing, by_own}
 use Rattle.string_cache_core.proofs.StepPasses as passes
-use Rattle.string_cache_core.specs.Tables.{Tables}
+use Rattle.string_cache_core.specs.Tables.{Tables, bucket_of}
 
 interned_by-append : (party : ℕ) (xs ys : List Made) → interned_by party (xs ++ ys) ≡ interned_by party xs ++ interned_by party ys
 interned_by-append party [] ys = refl
@@ -87,11 +88,8 @@ module _ (tables : Tables) where
         let start = silently leads.0 since leads.1 in
         elim went.decided [
           | passes.NotNow e f ↦ inl (start ∙ e)
-          | passes.Now u g h i ↦ inr (let same : Some u ≡ Some text = sym g ∙ t.wanted ∙ is_text in start ∙ i ∙ ap (λ (x : List ℕ). x ∷ []) (some_same u text same))
+          | passes.Now u g h i ↦ inr (let same : Some u ≡ Some text = sym g ∙ t.wanted ∙ is_text in start ∙ i ∙ ap (λ (x : List ℕ). x ∷ []) (same_Some u text same))
         ]
-      where
-        some_same : (a b : List ℕ) → Some a ≡ Some b → a ≡ b
-        some_same a b e = cc
 
     pub interns_once : (middle : List Event) → Leads tables w (event party take reply.Taken ∷ middle ++ event party Leave reply.Left ∷ []) v → Stays party middle
         → interned_by party (history_of tables w (event party take reply.Taken ∷ middle ++ event party Leave reply.Left ∷ [])) ≡ text ∷ []
@@ -110,12 +108,9 @@ module _ (tables : Tables) where
           | inr out ↦ elim went.decided [
             | passes.NotNow e f ↦ absurd (let clash : None ≡ Some text = sym out.decided ∙ f ∙ t.wanted ∙ is_text in cc)
             | passes.Now u g h i ↦ (let same : Some u ≡ Some text = sym g ∙ t.wanted ∙ is_text in
-                start ∙ ap (λ (ts : List (List ℕ)). ts ++ []) i ∙ ap (λ (x : List ℕ). x ∷ []) (some_is u text same))
+                start ∙ ap (λ (ts : List (List ℕ)). ts ++ []) i ∙ ap (λ (x : List ℕ). x ∷ []) (same_Some u text same))
           ]
         ]
-      where
-        some_is : (a b : List ℕ) → Some a ≡ Some b → a ≡ b
-        some_is a b e = cc
 
   -- ---- the order of calls
 

@@ -1,22 +1,17 @@
 -- A bucket's list, as the items of its entries.
-use Rattle.std.proofs.Common.{◌≡◌, ℕ, ◌+◌, ◌<◌, ◌≤◌, ◌≢◌, inl, inr, Bool, true, false, cond, not, List, [], ◌∷◌, ◌++◌, length, map, reverse, Option, None, Some, refl, sym, ap, ◌∙◌, subst, arith, zero, suc}
+use Rattle.std.proofs.Common.{◌≡◌, ℕ, ◌+◌, ◌<◌, ◌≤◌, inl, inr, Bool, true, false, cond, not, List, [], ◌∷◌, ◌++◌, length, map, reverse, Option, None, Some, refl, sym, ap, ◌∙◌, subst, arith, zero, suc}
 use Rattle.std.specs.Prelude.{slice_set, ◌==◌}
 use Rattle.std.specs.List.{filter, enumerate_from, AllByRecursion}
-use Rattle.std.proofs.lemmas.Bool.{eqb-true, eq-eqb, or_cases, false_from_ne_true, cases_Bool}
+use Rattle.std.proofs.lemmas.Bool.{eq-eqb, or_cases, false_from_ne_true, cases_Bool, ne_eqb}
 use Rattle.std.proofs.lemmas.List.{reverse-append}
 use Rattle.std.proofs.lemmas.List.Elements.{filter-append}
+use Rattle.std.proofs.lemmas.Option.{none-some}
 use Rattle.string_cache_core.specs.World.{Entry}
 use Rattle.string_cache_core.specs.Steps.{has, is_linked_in}
 use Rattle.string_cache_core.specs.Sound.{At}
 use Rattle.string_cache_core.specs.PassSteps.{Item, item}
-use Rattle.string_cache_core.proofs.StepLists.{has_first, has_then, if_case}
+use Rattle.string_cache_core.proofs.StepLists.{has_first, has_then, if_case, false_is_true}
 use Rattle.string_cache_core.proofs.StepApart.{SameIn}
-
-no : {P : Type 0} → ◌≡◌ {A = Bool} false true → P
-no e = absurd cc
-
-nothing : {x : Entry} {P : Type 0} → ◌≡◌ {A = Option Entry} None (Some x) → P
-nothing e = absurd cc
 
 abbrev pub numbers : List Item → List ℕ
 numbers [] = []
@@ -49,13 +44,13 @@ item_is n x y text ticket = λ i. record { number = n; ticket = sym ticket i; te
 pub items_same : (bucket n : ℕ) (es es' : List Entry) → SameIn bucket es es' → items bucket n es ≡ items bucket n es'
 items_same bucket n [] [] same = refl
 items_same bucket n [] (y ∷ ys) same =
-    let out : is_linked_in bucket y ≡ false = false_from_ne_true (is_linked_in bucket y) (λ h. nothing (same.back zero y refl h).1) in
-    items_same bucket (n + 1) [] ys (record { forth = λ k x at h. nothing at; back = λ k z at h. nothing (same.back (suc k) z at h).1 })
+    let out : is_linked_in bucket y ≡ false = false_from_ne_true (is_linked_in bucket y) (λ h. absurd (none-some _ (same.back zero y refl h).1)) in
+    items_same bucket (n + 1) [] ys (record { forth = λ k x at h. absurd (none-some x at); back = λ k z at h. absurd (none-some _ (same.back (suc k) z at h).1) })
     ∙ sym (items_out bucket n y ys out)
 items_same bucket n (x ∷ xs) [] same =
-    let out : is_linked_in bucket x ≡ false = false_from_ne_true (is_linked_in bucket x) (λ h. nothing (same.forth zero x refl h).1) in
+    let out : is_linked_in bucket x ≡ false = false_from_ne_true (is_linked_in bucket x) (λ h. absurd (none-some _ (same.forth zero x refl h).1)) in
     items_out bucket n x xs out
-    ∙ items_same bucket (n + 1) xs [] (record { forth = λ k z at h. nothing (same.forth (suc k) z at h).1; back = λ k y at h. nothing at })
+    ∙ items_same bucket (n + 1) xs [] (record { forth = λ k z at h. absurd (none-some _ (same.forth (suc k) z at h).1); back = λ k y at h. absurd (none-some y at) })
 items_same bucket n (x ∷ xs) (y ∷ ys) same =
     let rest = items_same bucket (n + 1) xs ys (record { forth = λ k z at h. same.forth (suc k) z at h; back = λ k z at h. same.back (suc k) z at h }) in
     elim (cases_Bool (is_linked_in bucket x)) [
@@ -68,7 +63,7 @@ items_same bucket n (x ∷ xs) (y ∷ ys) same =
           let out' : is_linked_in bucket y ≡ false = false_from_ne_true (is_linked_in bucket y) (λ h.
           let b = same.back zero y refl h in
           let is : x ≡ b.0 = (let e : Some x ≡ Some b.0 = b.1 in cc) in
-          no (sym out ∙ ap (is_linked_in bucket) is ∙ b.2)) in
+          false_is_true (sym out ∙ ap (is_linked_in bucket) is ∙ b.2)) in
           items_out bucket n x xs out ∙ rest ∙ sym (items_out bucket n y ys out')
     ]
 
@@ -92,9 +87,6 @@ items_push bucket n (x ∷ xs) y inside =
 abbrev pub is_other : ℕ → Item → Bool
 is_other number e = not (e.number == number)
 
-differs : (a b : ℕ) → a ≢ b → not (a == b) ≡ true
-differs a b n = ap not (false_from_ne_true (a == b) (λ e. n (eqb-true a b e)))
-
 filter_in : (p : Item → Bool) (x : Item) (xs : List Item) → p x ≡ true → filter p (x ∷ xs) ≡ x ∷ filter p xs
 filter_in p x xs e = ap (λ (c : Bool). cond c (x ∷ filter p xs) (filter p xs)) e
 
@@ -109,7 +101,7 @@ none_below bucket n (x ∷ xs) number below =
     elim (cases_Bool (is_linked_in bucket x)) [
       | inl inside ↦
           ap (filter (is_other number)) (items_in bucket n x xs inside)
-          ∙ filter_in (is_other number) (item (n, x)) (items bucket (n + 1) xs) (differs n number (omega (arith, below)))
+          ∙ filter_in (is_other number) (item (n, x)) (items bucket (n + 1) xs) (ap not (ne_eqb n number (omega (arith, below))))
           ∙ ap (λ (is : List Item). item (n, x) ∷ is) rest ∙ sym (items_in bucket n x xs inside)
       | inr out ↦ ap (filter (is_other number)) (items_out bucket n x xs out) ∙ rest ∙ sym (items_out bucket n x xs out)
     ]
@@ -117,7 +109,7 @@ none_below bucket n (x ∷ xs) number below =
 -- an entry that stands in the list no more is missing, and all else stays
 pub items_cut : (bucket n : ℕ) (es : List Entry) (k : ℕ) (x y : Entry) → At es k x → is_linked_in bucket y ≡ false
     → items bucket n (slice_set es k y) ≡ filter (is_other (n + k)) (items bucket n es)
-items_cut bucket n [] k x y at out = nothing at
+items_cut bucket n [] k x y at out = absurd (none-some x at)
 items_cut bucket n (z ∷ zs) zero x y at out =
     let e : n ≡ n + 0 = omega arith in
     let rest : filter (is_other n) (items bucket (n + 1) zs) ≡ items bucket (n + 1) zs = none_below bucket (n + 1) zs n (omega arith) in
@@ -135,7 +127,7 @@ items_cut bucket n (z ∷ zs) (suc k) x y at out =
     elim (cases_Bool (is_linked_in bucket z)) [
       | inl here ↦
           items_in bucket n z (slice_set zs k y) here ∙ ap (λ (is : List Item). item (n, z) ∷ is) rest
-          ∙ sym (filter_in (is_other (n + suc k)) (item (n, z)) (items bucket (n + 1) zs) (differs n (n + suc k) (omega arith)))
+          ∙ sym (filter_in (is_other (n + suc k)) (item (n, z)) (items bucket (n + 1) zs) (ap not (ne_eqb n (n + suc k) (omega arith))))
           ∙ sym (ap (filter (is_other (n + suc k))) (items_in bucket n z zs here))
       | inr out' ↦
           items_out bucket n z (slice_set zs k y) out' ∙ rest ∙ sym (ap (filter (is_other (n + suc k))) (items_out bucket n z zs out'))
@@ -164,7 +156,7 @@ filter_reverse p (e ∷ es) =
 none_above : (n top : ℕ) (es : List Item) → top ≤ n → Falls top es → filter (is_other n) es ≡ es
 none_above n top [] le falls = refl
 none_above n top (e ∷ es) le falls =
-    filter_in (is_other n) e es (differs e.number n (let h = falls.0 in omega (arith, h, le)))
+    filter_in (is_other n) e es (ap not (ne_eqb e.number n (let h = falls.0 in omega (arith, h, le))))
     ∙ ap (λ (is : List Item). e ∷ is) (none_above n e.number es (let h = falls.0 in omega (arith, h, le)) falls.1)
 
 later_below : (top : ℕ) (front : List Item) (e : Item) (rest : List Item) → Falls top (front ++ e ∷ rest) → e.number < top
@@ -175,7 +167,7 @@ pub cut_out : (top : ℕ) (front : List Item) (e : Item) (rest : List Item) → 
 cut_out top [] e rest falls =
     filter_out (is_other e.number) e rest (ap not (eq-eqb e.number e.number refl)) ∙ none_above e.number e.number rest (omega arith) falls.1
 cut_out top (f ∷ front) e rest falls =
-    filter_in (is_other e.number) f (front ++ e ∷ rest) (differs f.number e.number (let h = later_below f.number front e rest falls.1 in omega (arith, h)))
+    filter_in (is_other e.number) f (front ++ e ∷ rest) (ap not (ne_eqb f.number e.number (let h = later_below f.number front e rest falls.1 in omega (arith, h))))
     ∙ ap (λ (is : List Item). f ∷ is) (cut_out f.number front e rest falls.1)
 
 -- ---- where its items stand
@@ -205,7 +197,7 @@ has_last [] e n is = has_first (e.number == n) false (eq-eqb e.number n is)
 has_last (x ∷ l) e n is = has_then (x.number == n) (has (numbers (l ++ e ∷ [])) n) (has_last l e n is)
 
 has_before : (l : List Item) (e : Item) (n : ℕ) → has (numbers l) n ≡ true → has (numbers (l ++ e ∷ [])) n ≡ true
-has_before [] e n h = no h
+has_before [] e n h = false_is_true h
 has_before (x ∷ l) e n h = elim (or_cases (x.number == n) (has (numbers l) n) h) [
   | inl i ↦ has_first (x.number == n) (has (numbers (l ++ e ∷ [])) n) i
   | inr i ↦ has_then (x.number == n) (has (numbers (l ++ e ∷ [])) n) (has_before l e n i)

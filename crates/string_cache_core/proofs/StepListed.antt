@@ -6,20 +6,17 @@ use Rattle.std.specs.Option.{option_map_or}
 use Rattle.std.specs.Str.{bytes_eq}
 use Rattle.std.proofs.lemmas.Bool.{eqb-true, and_parts, and_from, or_cases, cases_Bool, ltb-true, ltb-false}
 use Rattle.string_cache_core.specs.World.{Entry, Pass, World, is_linked}
-use Rattle.string_cache_core.specs.Steps.{has, without_one, is_linked_in, is_looked_at, all_looked_at, is_found_dying, all_found_dying}
+use Rattle.string_cache_core.specs.Steps.{entry_at, has, without_one, is_linked_in, looked_at_if_linked, all_looked_at, dying_if_linked, all_found_dying}
 use Rattle.string_cache_core.specs.Sound.{At}
-use Rattle.string_cache_core.specs.Listed.{entry_in, is_seen, is_dying, AreListed, AreListsKept, AreWithin}
-use Rattle.string_cache_core.proofs.StepLists.{get_or_at, at_one, at_set_same, at_set_cases, at_push_cases, if_case, numbered_at, numbered_all, implied, has_first, has_then, has_old, has_new}
+use Rattle.string_cache_core.specs.Listed.{passes_at, AreListed, AreListsKept, AreWithin}
+use Rattle.string_cache_core.proofs.StepLists.{get_or_at, at_one, at_set_same, at_set_cases, at_push_cases, if_case, numbered_at, numbered_all, implied, has_first, has_then, has_old, has_new, false_is_true}
 use Rattle.string_cache_core.proofs.StepSound.{same_text}
 use Rattle.string_cache_core.proofs.StepPlaces.{there_is}
-
-clash : {P : Type 0} → ◌≡◌ {A = Bool} false true → P
-clash e = absurd cc
 
 -- ---- tests
 
 all_by : (p : ℕ → Bool) (numbers : List ℕ) (n : ℕ) → list_all p numbers ≡ true → has numbers n ≡ true → p n ≡ true
-all_by p [] n all h = clash h
+all_by p [] n all h = false_is_true h
 all_by p (m ∷ numbers) n all h =
     let parts = and_parts (p m) (list_all p numbers) all in
     elim (or_cases (m == n) (has numbers n) h) [
@@ -38,14 +35,14 @@ same_test false false forth back = refl
 
 then : (a b : Bool) → (not a || b) ≡ true → a ≡ true → b ≡ true
 then true b h e = h
-then false b h e = clash e
+then false b h e = false_is_true e
 
 -- what a test of a number says where the entry is there
-at_entry : (f : Entry → Bool) (es : List Entry) (k : ℕ) (x : Entry) → At es k x → option_map_or f (entry_in es (suc k)) true ≡ f x
+at_entry : (f : Entry → Bool) (es : List Entry) (k : ℕ) (x : Entry) → At es k x → option_map_or f (entry_at es (suc k)) true ≡ f x
 at_entry f es k x at = ap (λ (o : Option Entry). option_map_or f o true) at
 
 -- a test that holds of each entry holds of each number
-of_number : (f : ℕ → Entry → Bool) (es : List Entry) → ((k : ℕ) (x : Entry) → At es k x → f (suc k) x ≡ true) → (n : ℕ) → option_map_or (f n) (entry_in es n) true ≡ true
+of_number : (f : ℕ → Entry → Bool) (es : List Entry) → ((k : ℕ) (x : Entry) → At es k x → f (suc k) x ≡ true) → (n : ℕ) → option_map_or (f n) (entry_at es n) true ≡ true
 of_number f es h zero = refl
 of_number f es h (suc k) = by_entry (slice_get es k) refl
   where
@@ -57,37 +54,37 @@ module _ (w : World) (pass : Pass) (lists : List (List ℕ)) (numbers : List ℕ
   in_list : (k : ℕ) (x : Entry) → At w.entries k x → is_linked x.place ≡ true → x.bucket ≡ pass.bucket → has numbers (suc k) ≡ true
   in_list k x at linked bucket = listed k x numbers at linked (subst (λ (b : ℕ). At lists b numbers) (sym bucket) here)
 
-  pub seen_same : list_all (is_seen w.entries pass.bucket pass.looked) numbers ≡ all_looked_at w pass
+  pub seen_same : list_all (passes_at (looked_at_if_linked pass.bucket pass.looked) w.entries) numbers ≡ all_looked_at w pass
   seen_same = same_test _ _
-      (λ all. numbered_all (is_looked_at pass.bucket pass.looked) w.entries 1 (λ k x at.
+      (λ all. numbered_all (looked_at_if_linked pass.bucket pass.looked) w.entries 1 (λ k x at.
       implied (is_linked_in pass.bucket x) (has pass.looked (1 + k)) (λ inside.
       let parts = and_parts (is_linked x.place) (x.bucket == pass.bucket) inside in
-      let tested = all_by (is_seen w.entries pass.bucket pass.looked) numbers (suc k) all (in_list k x at parts.0 (eqb-true x.bucket pass.bucket parts.1)) in
+      let tested = all_by (passes_at (looked_at_if_linked pass.bucket pass.looked) w.entries) numbers (suc k) all (in_list k x at parts.0 (eqb-true x.bucket pass.bucket parts.1)) in
       let looked = then (is_linked_in pass.bucket x) (has pass.looked (suc k)) (sym (at_entry (λ entry. not (is_linked_in pass.bucket entry) || has pass.looked (suc k)) w.entries k x at) ∙ tested) inside in
       let e : 1 + k ≡ suc k = omega arith in ap (has pass.looked) e ∙ looked)))
-      (λ all. all_from (is_seen w.entries pass.bucket pass.looked) numbers
+      (λ all. all_from (passes_at (looked_at_if_linked pass.bucket pass.looked) w.entries) numbers
       (of_number (λ n entry. not (is_linked_in pass.bucket entry) || has pass.looked n) w.entries (λ k x at.
-      let test = numbered_at (is_looked_at pass.bucket pass.looked) w.entries 1 k x all at in
+      let test = numbered_at (looked_at_if_linked pass.bucket pass.looked) w.entries 1 k x all at in
       let e : suc k ≡ 1 + k = omega arith in ap (λ (n : ℕ). not (is_linked_in pass.bucket x) || has pass.looked n) e ∙ test)))
 
   pub dying_same : (text : List ℕ) → ((k : ℕ) (x : Entry) → At w.entries k x → x.text ≡ text → x.bucket ≡ pass.bucket)
-      → list_all (is_dying w.entries text pass.dying) numbers ≡ all_found_dying w pass text
+      → list_all (passes_at (dying_if_linked pass.dying text) w.entries) numbers ≡ all_found_dying w pass text
   dying_same text placed = same_test _ _
-      (λ all. numbered_all (is_found_dying pass.dying text) w.entries 1 (λ k x at.
+      (λ all. numbered_all (dying_if_linked pass.dying text) w.entries 1 (λ k x at.
       implied (is_linked x.place && bytes_eq x.text text) (has pass.dying (1 + k)) (λ of_text.
       let parts = and_parts (is_linked x.place) (bytes_eq x.text text) of_text in
-      let tested = all_by (is_dying w.entries text pass.dying) numbers (suc k) all (in_list k x at parts.0 (placed k x at (same_text x.text text parts.1))) in
+      let tested = all_by (passes_at (dying_if_linked pass.dying text) w.entries) numbers (suc k) all (in_list k x at parts.0 (placed k x at (same_text x.text text parts.1))) in
       let found = then (is_linked x.place && bytes_eq x.text text) (has pass.dying (suc k)) (sym (at_entry (λ entry. not (is_linked entry.place && bytes_eq entry.text text) || has pass.dying (suc k)) w.entries k x at) ∙ tested) of_text in
       let e : 1 + k ≡ suc k = omega arith in ap (has pass.dying) e ∙ found)))
-      (λ all. all_from (is_dying w.entries text pass.dying) numbers
+      (λ all. all_from (passes_at (dying_if_linked pass.dying text) w.entries) numbers
       (of_number (λ n entry. not (is_linked entry.place && bytes_eq entry.text text) || has pass.dying n) w.entries (λ k x at.
-      let test = numbered_at (is_found_dying pass.dying text) w.entries 1 k x all at in
+      let test = numbered_at (dying_if_linked pass.dying text) w.entries 1 k x all at in
       let e : suc k ≡ 1 + k = omega arith in ap (λ (n : ℕ). not (is_linked x.place && bytes_eq x.text text) || has pass.dying n) e ∙ test)))
 
 -- ---- changes
 
 without_keeps : (n m : ℕ) (numbers : List ℕ) → m ≢ n → has numbers m ≡ true → has (without_one n numbers) m ≡ true
-without_keeps n m [] other h = clash h
+without_keeps n m [] other h = false_is_true h
 without_keeps n m (x ∷ numbers) other h =
     if_case (λ (ys : List ℕ). has ys m ≡ true) (x == n) numbers (x ∷ without_one n numbers)
     (λ goes. elim (or_cases (x == m) (has numbers m) h) [
@@ -150,7 +147,7 @@ module _ (es : List Entry) (lists : List (List ℕ)) (listed : AreListed es list
   pub listed_out : (k : ℕ) (x y : Entry) (b : ℕ) (numbers : List ℕ) → At es k x → is_linked y.place ≡ false → At lists b numbers
       → AreListed (slice_set es k y) (slice_set lists b (without_one (k + 1) numbers))
   listed_out k x y b numbers at gone list j z ns there linked here = elim (at_set_cases es k y j z there) [
-    | inl (e, f) ↦ clash (sym gone ∙ sym (ap (λ (v : Entry). is_linked v.place) f) ∙ linked)
+    | inl (e, f) ↦ false_is_true (sym gone ∙ sym (ap (λ (v : Entry). is_linked v.place) f) ∙ linked)
     | inr (n, old) ↦ elim (at_set_cases lists b (without_one (k + 1) numbers) z.bucket ns here) [
       | inl (e, f) ↦
           let had = listed j z numbers old linked (subst (λ (i : ℕ). At lists i numbers) (sym e) list) in
@@ -226,10 +223,10 @@ module _ {bits : ℕ} (w : World) (pass : Pass) (lasts : List ℕ) (lists : List
   there : At lists pass.bucket numbers
   there = at_place lists pass.bucket numbers e (let n = kept.lists in let m = kept.buckets in omega (arith, n, m, below)) list
 
-  pub seen_by_list : list_all (is_seen w.entries pass.bucket pass.looked) numbers ≡ all_looked_at w pass
+  pub seen_by_list : list_all (passes_at (looked_at_if_linked pass.bucket pass.looked) w.entries) numbers ≡ all_looked_at w pass
   seen_by_list = seen_same w pass lists numbers kept.listed there
 
-  pub dying_by_list : (text : List ℕ) → ((k : ℕ) (x : Entry) → At w.entries k x → x.text ≡ text → x.bucket ≡ pass.bucket) → list_all (is_dying w.entries text pass.dying) numbers ≡ all_found_dying w pass text
+  pub dying_by_list : (text : List ℕ) → ((k : ℕ) (x : Entry) → At w.entries k x → x.text ≡ text → x.bucket ≡ pass.bucket) → list_all (passes_at (dying_if_linked pass.dying text) w.entries) numbers ≡ all_found_dying w pass text
   dying_by_list text placed = dying_same w pass lists numbers kept.listed there text placed
 
 -- ---- as the code reads it
@@ -245,15 +242,15 @@ within_read old w same within at h mine read d is view =
 
 module _ {bits : ℕ} (old w : World) (same : old ≡ w) (mine pass : Pass) (is : mine ≡ pass) (lasts : List ℕ) (lists : List (List ℕ)) (kept : AreListsKept bits old.entries lasts lists) (below : mine.bucket < length lasts)
     (numbers e : List ℕ) (list : numbers ≡ get_or lists mine.bucket e) (es : List Entry) (entries : es ≡ old.entries) where
-  pub seen_in : (looked : List ℕ) → looked ≡ mine.looked → (result : Bool) → result ≡ list_all (is_seen es mine.bucket looked) numbers → result ≡ all_looked_at w pass
+  pub seen_in : (looked : List ℕ) → looked ≡ mine.looked → (result : Bool) → result ≡ list_all (passes_at (looked_at_if_linked mine.bucket looked) es) numbers → result ≡ all_looked_at w pass
   seen_in looked looks result r =
-      r ∙ ap (λ (xs : List Entry). list_all (is_seen xs mine.bucket looked) numbers) entries ∙ ap (λ (ns : List ℕ). list_all (is_seen old.entries mine.bucket ns) numbers) looks
+      r ∙ ap (λ (xs : List Entry). list_all (passes_at (looked_at_if_linked mine.bucket looked) xs) numbers) entries ∙ ap (λ (ns : List ℕ). list_all (passes_at (looked_at_if_linked mine.bucket ns) old.entries) numbers) looks
       ∙ seen_by_list old mine lasts lists kept below numbers e list ∙ (λ i. all_looked_at (same i) (is i))
 
   pub dying_in : (text dying : List ℕ) → ((k : ℕ) (x : Entry) → At w.entries k x → x.text ≡ text → x.bucket ≡ pass.bucket) → dying ≡ mine.dying
-      → (result : Bool) → result ≡ list_all (is_dying es text dying) numbers → result ≡ all_found_dying w pass text
+      → (result : Bool) → result ≡ list_all (passes_at (dying_if_linked dying text) es) numbers → result ≡ all_found_dying w pass text
   dying_in text dying placed dies result r =
-      r ∙ ap (λ (xs : List Entry). list_all (is_dying xs text dying) numbers) entries ∙ ap (λ (ns : List ℕ). list_all (is_dying old.entries text ns) numbers) dies
+      r ∙ ap (λ (xs : List Entry). list_all (passes_at (dying_if_linked dying text) xs) numbers) entries ∙ ap (λ (ns : List ℕ). list_all (passes_at (dying_if_linked ns text) old.entries) numbers) dies
       ∙ dying_by_list old mine lasts lists kept below numbers e list text
       (λ k x at t. placed k x (ap (λ (v : World). slice_get v.entries k) (sym same) ∙ at) t ∙ ap (λ (p : Pass). p.bucket) (sym is))
       ∙ (λ i. all_found_dying (same i) (is i) text)

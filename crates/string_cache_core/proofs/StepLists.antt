@@ -3,16 +3,20 @@ use Rattle.std.proofs.Common.{◌≡◌, ℕ, ◌+◌, ◌<◌, ◌≢◌, ◌�
 use Rattle.std.specs.Prelude.{slice_set, ◌==◌, ◌||◌}
 use Rattle.std.specs.List.{find, list_all, enumerate_from, AllByRecursion}
 use Rattle.std.specs.Option.{unwrap_or}
-use Rattle.std.proofs.lemmas.Bool.{and_parts, and_from, or_cases, false_from_ne_true, eqb-true, eq-eqb, cases_Bool}
-use Rattle.std.proofs.lemmas.List.Sums.{sum_by-cons}
+use Rattle.std.proofs.lemmas.Bool.{and_parts, and_from, or_cases, false_from_ne_true, eqb-true, eq-eqb, cases_Bool, ne_eqb}
 use Rattle.string_cache_core.specs.Steps.{◌>>=◌, only_if, has, with_one, without_one}
-use Rattle.string_cache_core.specs.Sound.{At, times}
+use Rattle.string_cache_core.specs.Sound.{At}
+use Rattle.string_cache_core.specs.Times.{times}
 use Rattle.string_cache_core.specs.declared.steps.StepReply.{StepReply}
 use Rattle.string_cache_core.specs.World.{World}
+use Rattle.string_cache_core.proofs.TimesLemmas.{times-cons}
 
 or_right_only : (a b : Bool) → a ≡ false → (a || b) ≡ true → b ≡ true
 or_right_only true b e h = absurd cc
 or_right_only false b e h = h
+
+pub false_is_true : {P : Type 0} → ◌≡◌ {A = Bool} false true → P
+false_is_true e = absurd cc
 
 -- ---- an outcome, case by case
 
@@ -43,6 +47,13 @@ module _ {X : Type 0} where
   at_set_cases (x ∷ xs) (suc k) y zero z h = inr (omega arith, h)
   at_set_cases (x ∷ xs) (suc k) y (suc j) z h =
       elim (at_set_cases xs k y j z h) [ inl (e, f) ↦ inl (ap suc e, f) | inr (n, a) ↦ inr (omega arith, a) ]
+
+  pub at_set_other : (xs : List X) (k : ℕ) (y : X) (j : ℕ) (z : X) → j ≢ k → At xs j z → At (slice_set xs k y) j z
+  at_set_other [] k y j z n a = a
+  at_set_other (x ∷ xs) zero y zero z n a = absurd (n refl)
+  at_set_other (x ∷ xs) zero y (suc j) z n a = a
+  at_set_other (x ∷ xs) (suc k) y zero z n a = a
+  at_set_other (x ∷ xs) (suc k) y (suc j) z n a = at_set_other xs k y j z (λ e. n (ap suc e)) a
 
   pub at_push_old : (xs : List X) (y : X) (k : ℕ) (x : X) → At xs k x → At (xs ++ y ∷ []) k x
   at_push_old [] y k x h = absurd (let e : None ≡ Some x = h in cc)
@@ -133,9 +144,6 @@ module _ {X : Type 0} where
 
 -- ---- the bag
 
-pub times-cons : (t x : ℕ) (xs : List ℕ) → times t (x ∷ xs) ≡ cond (x == t) 1 0 + times t xs
-times-cons t x xs = sum_by-cons (λ y. cond (y == t) 1 0) x xs
-
 pub times-without_one_same : (x : ℕ) (xs : List ℕ) → has xs x ≡ true → times x xs ≡ times x (without_one x xs) + 1
 times-without_one_same x [] h = absurd (let e : false ≡ true = h in cc)
 times-without_one_same x (y ∷ xs) h =
@@ -168,11 +176,11 @@ times-with_one_same x (y ∷ xs) =
 
 pub times-with_one_other : (x t : ℕ) (xs : List ℕ) → x ≢ t → times t (with_one x xs) ≡ times t xs
 times-with_one_other x t [] h =
-    let miss : (x == t) ≡ false = false_from_ne_true (x == t) (λ e. h (eqb-true x t e)) in
+    let miss : (x == t) ≡ false = ne_eqb x t h in
     rw (times-cons t x [], miss) refl
 times-with_one_other x t (y ∷ xs) h =
     if_case (λ ys. times t ys ≡ times t (y ∷ xs)) (y == x) (x ∷ y ∷ xs) (y ∷ with_one x xs)
-    (λ e. let miss : (x == t) ≡ false = false_from_ne_true (x == t) (λ i. h (eqb-true x t i)) in rw (times-cons t x (y ∷ xs), miss) (omega arith))
+    (λ e. let miss : (x == t) ≡ false = ne_eqb x t h in rw (times-cons t x (y ∷ xs), miss) (omega arith))
     (λ e. rw (times-cons t y (with_one x xs), times-cons t y xs, times-with_one_other x t xs h) refl)
 
 -- a number that stands in it is one that it has
@@ -202,6 +210,9 @@ test_holds b x d e = ap (λ c. unwrap_or (only_if c x) d) e
 
 pub replied : (r : StepReply) (w v : World) → w ≡ v → ◌≡◌ {A = StepReply × World} (r, w) (r, v)
 replied r w v e = λ i. (r, e i)
+
+pub replied_both : {r r' : StepReply} {u v : World} → r ≡ r' → u ≡ v → ◌≡◌ {A = StepReply × World} (r, u) (r', v)
+replied_both f g i = (f i, g i)
 
 pub get_or_at : {X : Type 0} (xs : List X) (k : ℕ) (d x : X) → At xs k x → get_or xs k d ≡ x
 get_or_at {X} [] k d x at = absurd (let e : ◌≡◌ {A = Option X} None (Some x) = at in cc)

@@ -28,7 +28,7 @@ module _ (tables : Tables) where
   sound_step w party s reply new sound does = held_by tables w sound (record { party = party; does = s; reply = reply }) new does
 
   -- what isn't linked has no holder
-  pub unlinked_zero : (w : World) → SoundWorld tables w → (number : ℕ) (x : Entry) → entry_at w number ≡ Some x → is_linked x.place ≡ false → x.count ≡ 0
+  pub unlinked_zero : (w : World) → SoundWorld tables w → (number : ℕ) (x : Entry) → entry_at w.entries number ≡ Some x → is_linked x.place ≡ false → x.count ≡ 0
   unlinked_zero w sound zero x at gone = absurd (let e : ◌≡◌ {A = Option Entry} None (Some x) = at in cc)
   unlinked_zero w sound (suc k) x at gone = elim (cases_eq x.count 0) [
     | inl e ↦ e

@@ -4,27 +4,24 @@ use Rattle.std.specs.Prelude.{slice_get, nat_lt, ◌==◌, ◌&&◌, is_none}
 use Rattle.std.specs.List.{find, AllByRecursion}
 use Rattle.std.specs.Option.{unwrap_or}
 use Rattle.std.specs.String.{string_bytes}
-use Rattle.std.proofs.lemmas.Bool.{eqb-true, eq-eqb, and_parts, false_from_ne_true}
+use Rattle.std.proofs.lemmas.Bool.{eqb-true, eq-eqb, and_parts, ne_eqb}
 use Rattle.string_cache_core.specs.declared.steps.Step.{Step}
 use Rattle.string_cache_core.specs.declared.steps.Step.TheVariants.{TakeIntern, TakeSweep, Add, Link, Clone, Give, Unlink, Free, Leave}
 use Rattle.string_cache_core.specs.declared.steps.StepReply.{StepReply}
 use Rattle.string_cache_core.specs.declared.steps.StepReply.TheVariants as reply
 use Rattle.string_cache_core.specs.World.{Entry, Pass, World, is_unlinked_by}
-use Rattle.string_cache_core.specs.Steps.{◌>>=◌, pass_of, is_free, is_linked_in, wants, has, take_bucket, add, link, clone, give, unlink, all_found_dying, all_looked_at, replaced, without_party, finds_dying, looks_at, decides, last_of, step, bucket_of}
+use Rattle.string_cache_core.specs.Steps.{◌>>=◌, pass_of, is_free, is_linked_in, wants, has, take_bucket, add, link, clone, give, unlink, all_found_dying, all_looked_at, replaced, without_party, finds_dying, looks_at, decides, last_of, step}
 use Rattle.string_cache_core.specs.Runs.{Made, Event, Leads, wanted_by, call_of}
 use Rattle.string_cache_core.specs.Theorem.{interned_by, texts_in, bucket_taken, text_taken}
 use Rattle.string_cache_core.specs.Sound.{At}
 use Rattle.string_cache_core.proofs.StepLists.{at_one, bind_case, guard_case, if_case, some_then}
 use Rattle.string_cache_core.proofs.StepHistory.{has-push, wants_is, wanted_by-is}
-use Rattle.string_cache_core.specs.Tables.{Tables, is_dynamic}
+use Rattle.string_cache_core.specs.Tables.{Tables, is_dynamic, bucket_of}
 
 -- ---- the list of passes
 
 abbrev pub of_party : ℕ → Pass → Bool
 of_party party pass = pass.party == party
-
-differs : (a b : ℕ) → a ≢ b → (a == b) ≡ false
-differs a b n = false_from_ne_true (a == b) (λ e. n (eqb-true a b e))
 
 pub find_passes : {X : Type 0} (p : X → Bool) (xs : List X) (x : X) → find p xs ≡ Some x → p x ≡ true
 find_passes {X} p [] x h = absurd (let e : ◌≡◌ {A = Option X} None (Some x) = h in cc)
@@ -44,7 +41,7 @@ pub replaced_other : (ps : List Pass) (new : Pass) (party : ℕ) → new.party �
 replaced_other [] new party n = refl
 replaced_other (q ∷ ps) new party n =
     if_case (λ qs. find (of_party party) qs ≡ find (of_party party) (q ∷ ps)) (q.party == new.party) (new ∷ ps) (q ∷ replaced ps new)
-    (λ e. let a : (new.party == party) ≡ false = differs new.party party n in
+    (λ e. let a : (new.party == party) ≡ false = ne_eqb new.party party n in
     let b : (q.party == party) ≡ false = ap (λ (m : ℕ). m == party) (eqb-true q.party new.party e) ∙ a in
     ap (λ (c : Bool). cond c (Some new) (find (of_party party) ps)) a ∙ sym (ap (λ (c : Bool). cond c (Some q) (find (of_party party) ps)) b))
     (λ e. ap (cond (q.party == party) (Some q)) (replaced_other ps new party n))
@@ -66,7 +63,7 @@ pub without_other : (ps : List Pass) (q party : ℕ) → q ≢ party → find (o
 without_other [] q party n = refl
 without_other (p ∷ ps) q party n =
     if_case (λ qs. find (of_party party) qs ≡ find (of_party party) (p ∷ ps)) (p.party == q) ps (p ∷ without_party ps q)
-    (λ e. let a : (p.party == party) ≡ false = ap (λ (m : ℕ). m == party) (eqb-true p.party q e) ∙ differs q party n in
+    (λ e. let a : (p.party == party) ≡ false = ap (λ (m : ℕ). m == party) (eqb-true p.party q e) ∙ ne_eqb q party n in
     sym (ap (λ (c : Bool). cond c (Some p) (find (of_party party) ps)) a))
     (λ e. ap (cond (p.party == party) (Some p)) (without_other ps q party n))
 
@@ -101,15 +98,15 @@ by_own w q s r = tt
 texts_of_other : (q party : ℕ) → q ≢ party → (calls : List Made) → AllBy q calls → interned_by party calls ≡ []
 texts_of_other q party n [] all = refl
 texts_of_other q party n (made ∷ calls) all =
-    let a : (made.by == party) ≡ false = ap (λ (m : ℕ). m == party) all.0 ∙ differs q party n in
+    let a : (made.by == party) ≡ false = ap (λ (m : ℕ). m == party) all.0 ∙ ne_eqb q party n in
     ap (λ (c : Bool). cond c (texts_in made.call) [] ++ interned_by party calls) a ∙ texts_of_other q party n calls all.1
 
 pub others_intern_nothing : (w : World) (q party : ℕ) → q ≢ party → (s : Step) (r : StepReply) → interned_by party (call_of w q s r) ≡ []
 others_intern_nothing w q party n s r = texts_of_other q party n (call_of w q s r) (by_own w q s r)
 
-no_text : (b : Bool) → cond {A = List (List ℕ)} b [] [] ++ [] ≡ []
-no_text true = refl
-no_text false = refl
+no_texts : (b : Bool) → cond {A = List (List ℕ)} b [] [] ++ [] ≡ []
+no_texts true = refl
+no_texts false = refl
 
 -- ---- a step of another party leaves the pass as it is
 
@@ -279,12 +276,12 @@ module _ (tables : Tables) where
     unfolding clone
     clone_own k x =
         if_case (Own (Clone (suc k))) (nat_lt x.count w.limits.holders) _ _
-        (λ r. still (Clone (suc k)) _ refl (λ l. absurd cc) (no_text (party == party)))
-        (λ r. still (Clone (suc k)) _ refl (λ l. absurd cc) (no_text (party == party)))
+        (λ r. still (Clone (suc k)) _ refl (λ l. absurd cc) (no_texts (party == party)))
+        (λ r. still (Clone (suc k)) _ refl (λ l. absurd cc) (no_texts (party == party)))
 
     give_own : (k : ℕ) (x : Entry) → Own (Give (suc k)) (give w (suc k) x)
     unfolding give
-    give_own k x = still (Give (suc k)) _ refl (λ l. absurd cc) (no_text (party == party))
+    give_own k x = still (Give (suc k)) _ refl (λ l. absurd cc) (no_texts (party == party))
 
     unlink_own : (k : ℕ) (x : Entry) → At w.entries k x → Own (Unlink (suc k)) (unlink w pass (suc k) x)
     unfolding unlink

@@ -23,8 +23,11 @@ past (x ∷ xs) (suc k) h = past xs k (omega arith)
 pub entry_at-found : (w : World) (n k : ℕ) → n ≡ suc k → k < length w.entries → EntryAt w n k
 entry_at-found w n k e h = let found = there_is w.entries k h in record { entry = found.0; numbered = e; there = found.1 }
 
-pub entry_at-past : (w : World) (n k : ℕ) → n ≡ suc k → length w.entries ≤ k → entry_at w n ≡ None
-entry_at-past w n k e h = ap (entry_at w) e ∙ past w.entries k h
+pub entry_at-past : (w : World) (n k : ℕ) → n ≡ suc k → length w.entries ≤ k → entry_at w.entries n ≡ None
+entry_at-past w n k e h = ap (entry_at w.entries) e ∙ past w.entries k h
+
+pub entry_is : (w : World) (n k : ℕ) (e : EntryAt w n k) → entry_at w.entries n ≡ Some e.entry
+entry_is w n k e = ap (entry_at w.entries) e.numbered ∙ e.there
 
 -- the first pass of the party, and what replacing it does
 pub record Place (passes : List Pass) (party at : ℕ) : Type 0 where

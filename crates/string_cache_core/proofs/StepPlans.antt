@@ -6,25 +6,25 @@ use Rattle.std.specs.Option.{option_map_or}
 use Rattle.std.specs.Str.{bytes_eq}
 use Rattle.std.proofs.lemmas.Bool.{eqb-true, eq-eqb, and_parts, and_from, or_cases}
 use Rattle.std.proofs.lemmas.List.{reverse-append}
+use Rattle.std.proofs.lemmas.Option.{none-some}
 use Rattle.std.proofs.lemmas.Slice.Eq.{bytes_eq-Decides}
 use Rattle.string_cache_core.specs.declared.steps.entry.Place.TheVariants as place
 use Rattle.string_cache_core.specs.declared.steps.Step.{Step}
 use Rattle.string_cache_core.specs.declared.steps.Step.TheVariants.{Add, Link, Unlink, Leave}
 use Rattle.string_cache_core.specs.declared.steps.StepReply.{StepReply}
 use Rattle.string_cache_core.specs.declared.steps.StepReply.TheVariants as reply
-use Rattle.string_cache_core.specs.Steps.{bucket_of, ◌>>=◌, only_if, pass_of, is_linked_in, wants, has, add, link, unlink, is_found_dying, all_looked_at, is_looked_at, replaced, without_party, with_pass, finds_dying, looks_at, decides, last_of, step_if, step}
+use Rattle.string_cache_core.specs.Steps.{◌>>=◌, only_if, pass_of, is_linked_in, wants, has, add, link, unlink, dying_if_linked, all_looked_at, looked_at_if_linked, replaced, without_party, with_pass, finds_dying, looks_at, decides, last_of, step_if, step}
 use Rattle.string_cache_core.specs.Word.{ticket_of}
 use Rattle.string_cache_core.specs.World.{Entry, Pass, World, is_linked}
 use Rattle.string_cache_core.specs.Pass as th
 use Rattle.string_cache_core.specs.PassSteps.{Item, item, list_of, steps_of_all, end_of, plan_of, Planned, planned, any_reply, is_dying, steps_of, linked_by}
 use Rattle.string_cache_core.specs.Sound.{At, SoundPass, SoundWorld}
-use Rattle.string_cache_core.proofs.StepLists.{implied, has_old, has_new, numbered_all, at_set_cases, at_push_cases, at_one, if_case, find-all}
+use Rattle.string_cache_core.proofs.StepLists.{implied, has_old, has_new, numbered_all, at_set_cases, at_push_cases, at_one, if_case, find-all, at_set_other, false_is_true}
 use Rattle.string_cache_core.proofs.StepSound.{same_text}
-use Rattle.string_cache_core.proofs.StepEntries.{set_other}
 use Rattle.string_cache_core.proofs.StepPasses.{of_party, replaced_same, others_keep, is_party}
 use Rattle.string_cache_core.proofs.StepApart.{SameIn, same_in, same_change, others_leave}
 use Rattle.string_cache_core.proofs.StepItems.{numbers, Falls, items, items_same, items_push, items_cut, is_other, filter_reverse}
-use Rattle.string_cache_core.specs.Tables.{Tables}
+use Rattle.string_cache_core.specs.Tables.{Tables, bucket_of}
 
 -- ---- a plan, entry by entry
 
@@ -74,9 +74,6 @@ IsPlan wanted [] plan left = IsEnd wanted plan × (left ≡ [])
 IsPlan wanted (e ∷ items) plan left = (told : Told) × (rest : List Planned) × (later : List Item)
     × Asks told wanted e.text × (plan ≡ steps_of e.number told ++ rest) × (left ≡ keeps told e later) × IsPlan (still_wanted told wanted) items rest later
 
-none_asked : (text : List ℕ) {P : Type 0} → ◌≡◌ {A = Option (List ℕ)} None (Some text) → P
-none_asked text e = absurd cc
-
 end_found : {S : Type 0} (room : Bool) (wanted : Option (List ℕ)) (s : S) → end_of room wanted (th.found s) ≡ leaving
 end_found room None s = refl
 end_found room (Some text) s = refl
@@ -95,9 +92,9 @@ module _ {S : Type 0} where
   plan_without [] [] asked = (refl, refl)
   plan_without [] (r ∷ rs) asked = absurd asked
   plan_without (e ∷ es) [] asked = absurd asked
-  plan_without (e ∷ es) (th.added s ∷ rs) asked = none_asked e.text asked.0
-  plan_without (e ∷ es) (th.full ∷ rs) asked = none_asked e.text asked.0
-  plan_without (e ∷ es) (th.died ∷ rs) asked = none_asked e.text asked.0
+  plan_without (e ∷ es) (th.added s ∷ rs) asked = absurd (none-some e.text asked.0)
+  plan_without (e ∷ es) (th.full ∷ rs) asked = absurd (none-some e.text asked.0)
+  plan_without (e ∷ es) (th.died ∷ rs) asked = absurd (none-some e.text asked.0)
   plan_without (e ∷ es) (th.gone ∷ rs) asked =
       (th.gone, steps_of_all es rs ++ leaving, th.kept es rs, asked.0, append_assoc (steps_of {S = S} e.number th.gone) (steps_of_all es rs) leaving, refl, plan_without es rs asked.1)
   plan_without (e ∷ es) (th.stays ∷ rs) asked =
@@ -224,12 +221,6 @@ module _ (tables : Tables) where
   only : {B : Type 0} (b : Bool) (x : B) → b ≡ true → only_if b x ≡ Some x
   only b x e = ap (λ c. only_if c x) e
 
-  no_text : (text : List ℕ) {P : Type 0} → ◌≡◌ {A = Option (List ℕ)} None (Some text) → P
-  no_text text e = absurd cc
-
-  not_linked : {P : Type 0} → ◌≡◌ {A = Bool} false true → P
-  not_linked e = absurd cc
-
   module _ (w : World) (held : SoundWorld tables w) (party : ℕ) (pass : Pass) (wanted : Option (List ℕ)) (e : Item) (rest : List Item) (m : Midway w party pass wanted (e ∷ rest)) where
     here : Stands w.entries pass.bucket e
     here = m.there.0
@@ -275,9 +266,9 @@ module _ (tables : Tables) where
         let next = decides (looks_at pass (suc m.there.0.k)) in
         passes_on v party next None e rest
         (goes_on w party pass wanted (e ∷ rest) m v None (pass.looked ++ suc m.there.0.k ∷ []) pass.dying (ap (find (of_party party)) ps ∙ put next refl) same
-        (λ n h. has_old pass.looked (suc m.there.0.k) n h) (λ n h. h) (λ t h. no_text t h))
+        (λ n h. has_old pass.looked (suc m.there.0.k) n h) (λ n h. h) (λ t h. absurd (none-some t h)))
         (λ j x at h n. looked_at v next refl j n)
-        (λ j x at h t n. no_text x.text t)
+        (λ j x at h t n. absurd (none-some x.text t))
 
     pub after_add : AfterAdd (add w pass (suc m.there.0.k) m.there.0.entry)
     unfolding add
@@ -310,7 +301,7 @@ module _ (tables : Tables) where
     there_set k n y (x ∷ es) le falls all =
         let s = all.0 in
         let other : s.k ≢ k = (let a = s.number in let b = falls.0 in omega (arith, a, b, le)) in (
-          record { k = s.k; entry = s.entry; number = s.number; at = set_other w.entries k y s.k s.entry other s.at; inside = s.inside; text = s.text },
+          record { k = s.k; entry = s.entry; number = s.number; at = at_set_other w.entries k y s.k s.entry other s.at; inside = s.inside; text = s.text },
           there_set k x.number y es (let b = falls.0 in omega (arith, b, le)) falls.1 all.1,
         )
 
@@ -331,11 +322,11 @@ module _ (tables : Tables) where
             top = e.number;
             falls = m.falls.1;
             covered = λ j v at h. elim (at_set_cases w.entries k y j v at) [
-              | inl (i, f) ↦ not_linked (sym (ap (is_linked_in pass.bucket) f) ∙ h)
+              | inl (i, f) ↦ false_is_true (sym (ap (is_linked_in pass.bucket) f) ∙ h)
               | inr (n, old) ↦ elim (m.covered j v old h) [ inl i ↦ inl (not_first j n i) | inr i ↦ inr i ]
             ];
             dying = λ j v at h t. elim (at_set_cases w.entries k y j v at) [
-              | inl (i, f) ↦ not_linked (sym (ap (is_linked_in pass.bucket) f) ∙ h)
+              | inl (i, f) ↦ false_is_true (sym (ap (is_linked_in pass.bucket) f) ∙ h)
               | inr (n, old) ↦ elim (m.dying j v old h t) [ inl i ↦ inl (not_first j n i) | inr i ↦ inr i ]
             ];
           },
@@ -379,13 +370,13 @@ module _ (tables : Tables) where
 
   module _ (w : World) (held : SoundWorld tables w) (party : ℕ) (pass : Pass) where
     none_left : (n : ℕ) {P : Type 0} → has [] n ≡ true → P
-    none_left n h = not_linked h
+    none_left n h = false_is_true h
 
     pub leave_enabled : Midway w party pass None [] → step_if tables w party Leave ≡ Some (reply.Left, record w { passes = without_party w.passes party })
     leave_enabled m =
         some_to (pass_of w party) _ pass m.found
         ∙ only _ _ (and_from (is_none pass.wanted) (all_looked_at w pass) (ap is_none m.wants)
-        (numbered_all (is_looked_at pass.bucket pass.looked) w.entries 1 (λ k x at.
+        (numbered_all (looked_at_if_linked pass.bucket pass.looked) w.entries 1 (λ k x at.
         implied (is_linked_in pass.bucket x) (has pass.looked (1 + k)) (λ h.
         elim (m.covered k x at h) [
           | inl i ↦ none_left (suc k) i
@@ -396,7 +387,7 @@ module _ (tables : Tables) where
       pub link_enabled : (room : Bool) → step_if tables w party (Link room) ≡ Some (link w pass room text)
       link_enabled room =
           some_to (pass_of w party) _ pass m.found ∙ some_to pass.wanted _ text m.wants
-          ∙ only _ _ (numbered_all (is_found_dying pass.dying text) w.entries 1 (λ k x at.
+          ∙ only _ _ (numbered_all (dying_if_linked pass.dying text) w.entries 1 (λ k x at.
           implied (is_linked x.place && bytes_eq x.text text) (has pass.dying (1 + k)) (λ h.
           let parts = and_parts (is_linked x.place) (bytes_eq x.text text) h in
           let is : x.text ≡ text = same_text x.text text parts.1 in
@@ -417,7 +408,7 @@ module _ (tables : Tables) where
       unfolding link
       after_link room =
           let undone : Midway (with_pass w (decides pass)) party (decides pass) None [] =
-          goes_on w party pass (Some text) [] m (with_pass w (decides pass)) None pass.looked pass.dying (put_last (decides pass) refl) (same_in pass.bucket w.entries) (λ n h. h) (λ n h. h) (λ t h. no_text t h) in
+          goes_on w party pass (Some text) [] m (with_pass w (decides pass)) None pass.looked pass.dying (put_last (decides pass) refl) (same_in pass.bucket w.entries) (λ n h. h) (λ n h. h) (λ t h. absurd (none-some t h)) in
           if_case AfterLink (nat_lt (last_of w pass.bucket) w.limits.serials) _ _
           (λ r. if_case AfterLink room _ _
           (λ q.
@@ -431,7 +422,7 @@ module _ (tables : Tables) where
               top = 0;
               falls = tt;
               covered = λ k x at h. inr (looked_new pass.bucket pass.looked w.entries new (λ j y a i. elim (m.covered j y a i) [ inl q ↦ none_left (suc j) q | inr q ↦ q ]) k x at h);
-              dying = λ k x at h t. no_text x.text t;
+              dying = λ k x at h t. absurd (none-some x.text t);
             },
             refl,
             ap reverse (items_push pass.bucket 1 w.entries new (eq-eqb pass.bucket pass.bucket refl)) ∙ reverse-append (items pass.bucket 1 w.entries) (item (1 + length w.entries, new) ∷ [])

@@ -1,6 +1,6 @@
 -- Every run from the opening world.
-use Rattle.std.proofs.Common.{◌≡◌, ℕ, ◌<◌, ◌≤◌, ◌≢◌, true, List, [], ◌∷◌, ◌++◌, Option, None, Some, refl, ap, subst, zero, suc}
-use Rattle.std.specs.List.{AllByRecursion}
+use Rattle.std.proofs.Common.{◌≡◌, ℕ, ◌<◌, ◌≤◌, ◌≢◌, true, List, [], ◌∷◌, ◌++◌, Some, refl, ap, subst, zero, suc}
+use Rattle.std.proofs.lemmas.Option.{none-some}
 use Rattle.string_cache_core.specs.declared.steps.Step.TheVariants.{Free}
 use Rattle.string_cache_core.specs.declared.steps.StepReply.TheVariants as reply
 use Rattle.string_cache_core.specs.Tables.{Tables}
@@ -9,39 +9,30 @@ use Rattle.string_cache_core.specs.Layout.{most_buckets}
 use Rattle.string_cache_core.specs.World.{Entry, World}
 use Rattle.string_cache_core.specs.Steps.{entry_at, opening}
 use Rattle.string_cache_core.specs.Sound.{At, Sound, is_living}
+use Rattle.string_cache_core.specs.Times.{times}
 use Rattle.string_cache_core.specs.Runs.{Event, Leads}
-use Rattle.string_cache_core.specs.Theorem.{event, places_in_bag, IsSoundRun}
+use Rattle.string_cache_core.specs.Theorem.{event, IsSoundRun}
+use Rattle.string_cache_core.proofs.StepLists.{all_at}
 use Rattle.string_cache_core.proofs.StepOpening.{keeps_all, opening_sound, one_map}
 use Rattle.string_cache_core.proofs.StepEntries.{frees_soundly, sound_by}
 use Rattle.string_cache_core.proofs.StepZeros.{zeros_go_all}
 use Rattle.string_cache_core.proofs.StepSweeps.{only_held}
 use Rattle.string_cache_core.proofs.StepInterns.{interns_at_most, interns_once, calls_in_order}
 
-no_entry : {x : Entry} {P : Type 0} → ◌≡◌ {A = Option Entry} None (Some x) → P
-no_entry e = absurd cc
-
-no_event : {x : Event} {P : Type 0} → ◌≡◌ {A = Option Event} None (Some x) → P
-no_event e = absurd cc
-
-all_at : {X : Type 0} (P : X → Type 0) (xs : List X) (k : ℕ) (x : X) → AllByRecursion P xs → At xs k x → P x
-all_at {X} P [] k x all at = absurd (let e : ◌≡◌ {A = Option X} None (Some x) = at in cc)
-all_at P (y ∷ xs) zero x all at = let is : y ≡ x = cc in subst P is all.0
-all_at P (y ∷ xs) (suc k) x all at = all_at P xs k x all.1 at
-
 module _ (tables : Tables) where
-  tickets_apart : (w : World) → Sound tables w → (j k : ℕ) (x y : Entry) → entry_at w j ≡ Some x → entry_at w k ≡ Some y → x.ticket ≡ y.ticket → j ≡ k
-  tickets_apart w sound zero k x y a b e = no_entry a
-  tickets_apart w sound (suc j) zero x y a b e = no_entry b
+  tickets_apart : (w : World) → Sound tables w → (j k : ℕ) (x y : Entry) → entry_at w.entries j ≡ Some x → entry_at w.entries k ≡ Some y → x.ticket ≡ y.ticket → j ≡ k
+  tickets_apart w sound zero k x y a b e = absurd (none-some x a)
+  tickets_apart w sound (suc j) zero x y a b e = absurd (none-some y b)
   tickets_apart w sound (suc j) (suc k) x y a b e = ap suc (sound.table.apart j k x y a b e)
 
-  texts_apart : (w : World) → Sound tables w → (j k : ℕ) (x y : Entry) → entry_at w j ≡ Some x → entry_at w k ≡ Some y → is_living x ≡ true → is_living y ≡ true → x.text ≡ y.text → j ≡ k
-  texts_apart w sound zero k x y a b lx ly e = no_entry a
-  texts_apart w sound (suc j) zero x y a b lx ly e = no_entry b
+  texts_apart : (w : World) → Sound tables w → (j k : ℕ) (x y : Entry) → entry_at w.entries j ≡ Some x → entry_at w.entries k ≡ Some y → is_living x ≡ true → is_living y ≡ true → x.text ≡ y.text → j ≡ k
+  texts_apart w sound zero k x y a b lx ly e = absurd (none-some x a)
+  texts_apart w sound (suc j) zero x y a b lx ly e = absurd (none-some y b)
   texts_apart w sound (suc j) (suc k) x y a b lx ly e = ap suc (sound.table.one j k x y a b lx ly e)
 
-  counts_places : (w : World) → Sound tables w → (e : ℕ) (x : Entry) → entry_at w e ≡ Some x → x.count ≡ places_in_bag w x.ticket
-  counts_places w sound zero x a = no_entry a
-  counts_places w sound (suc k) x a = sound.table.counted k x a
+  counts_held : (w : World) → Sound tables w → (e : ℕ) (x : Entry) → entry_at w.entries e ≡ Some x → x.count ≡ times x.ticket w.bag
+  counts_held w sound zero x a = absurd (none-some x a)
+  counts_held w sound (suc k) x a = sound.table.counted k x a
 
   -- Once an entry was freed, no later event frees it.
   freed_before : (w : World) → Sound tables w → (first : Event) (events : List Event) (new : World) → Leads tables w (first ∷ events) new
@@ -49,11 +40,11 @@ module _ (tables : Tables) where
   freed_before w sound first events new leads j p q e is later =
       let leads' : Leads tables w (event p (Free e) reply.Freed ∷ events) new = subst (λ (x : Event). Leads tables w (x ∷ events) new) is leads in
       let frees = frees_soundly tables w sound p e events leads'.0 new leads'.1 leads'.2 in
-      all_at (λ (x : Event). x.does ≡ Free e → x.reply ≢ reply.Freed) events j (event q (Free e) reply.Freed) frees.once later refl refl
+      all_at (λ (x : Event). x.does ≡ Free e → x.reply ≢ reply.Freed) events j (event q (Free e) reply.Freed) later frees.once refl refl
 
   freed_apart : (w : World) → Sound tables w → (events : List Event) (new : World) → Leads tables w events new
       → (i j p q e : ℕ) → At events i (event p (Free e) reply.Freed) → At events j (event q (Free e) reply.Freed) → i ≡ j
-  freed_apart w sound [] new leads i j p q e a b = no_event a
+  freed_apart w sound [] new leads i j p q e a b = absurd (none-some _ a)
   freed_apart w sound (x ∷ events) new leads zero zero p q e a b = refl
   freed_apart w sound (x ∷ events) new leads zero (suc j) p q e a b =
       absurd (freed_before w sound x events new leads j p q e (let is : x ≡ event p (Free e) reply.Freed = cc in is) b)
@@ -74,7 +65,7 @@ module _ (tables : Tables) where
         one_map = one_map tables limits n some few events new leads;
         distinct_tickets = tickets_apart new all;
         distinct_texts = texts_apart new all;
-        counts = counts_places new all;
+        counts = counts_held new all;
         frees = λ w v party e later part. frees_soundly tables w (at part.before w part.came) party e later part.leads.0 v part.leads.1 part.leads.2;
         freed_once = freed_apart (opening limits n) first events new leads;
         in_order = λ party. calls_in_order tables party (opening limits n) events;

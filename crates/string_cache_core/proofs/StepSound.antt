@@ -1,5 +1,5 @@
 -- What every reached world keeps.
-use Rattle.std.proofs.Common.{◌≡◌, ℕ, ◌+◌, ◌<◌, ◌≤◌, ◌≢◌, inl, inr, Bool, true, false, cond, List, [], ◌∷◌, ◌++◌, length, None, Some, refl, sym, ap, ◌∙◌, subst, arith, zero, suc, get_or-set_same, get_or-set_other, length-set}
+use Rattle.std.proofs.Common.{◌≡◌, ℕ, ◌+◌, ◌<◌, ◌≤◌, ◌≢◌, inl, inr, Bool, true, false, cond, List, [], ◌∷◌, ◌++◌, length, None, Some, refl, sym, ap, ◌∙◌, subst, arith, suc, get_or-set_same, get_or-set_other, length-set}
 use Rattle.std.specs.Prelude.{slice_set, slice_index, ◌==◌, ◌&&◌}
 use Rattle.std.specs.List.{AllByRecursion}
 use Rattle.std.specs.Option.{option_map}
@@ -10,11 +10,12 @@ use Rattle.string_cache_core.specs.Layout.{most_buckets}
 use Rattle.string_cache_core.specs.Steps.{replaced, without_party, with_one}
 use Rattle.string_cache_core.specs.Word.{ticket_of}
 use Rattle.string_cache_core.specs.World.{Entry, Pass, is_linked}
-use Rattle.string_cache_core.specs.Sound.{is_living, At, times, IsNumbered, SoundTable, IsDead, SoundPass}
+use Rattle.string_cache_core.specs.Sound.{is_living, At, IsNumbered, SoundTable, IsDead, SoundPass}
+use Rattle.string_cache_core.specs.Times.{times}
 use Rattle.string_cache_core.specs.Runs.{living_at}
 use Rattle.string_cache_core.specs.Map.{InternMap, Holding}
 use Rattle.string_cache_core.proofs.Tickets.{ticket_of-same}
-use Rattle.string_cache_core.proofs.StepLists.{at_set_same, at_set_cases, at_push_old, at_push_cases, at_push_new, at_one, find-set, find-push, find-is, find-none, all_weaker, times-with_one_same, times-with_one_other, if_case}
+use Rattle.string_cache_core.proofs.StepLists.{at_set_same, at_set_cases, at_push_old, at_push_cases, at_push_new, at_one, find-set, find-push, find-is, find-none, all_weaker, times-with_one_same, times-with_one_other, if_case, at_set_other}
 use Rattle.string_cache_core.specs.Tables.{Tables}
 
 -- ---- one entry changes
@@ -52,13 +53,6 @@ numbered_as : (lasts : List ℕ) (x z : Entry) → Changes x z → IsNumbered la
 numbered_as lasts x z ch n =
     let same : x.bucket ≡ z.bucket = sym ch.bucket in
     (n.0, ch.ticket ∙ n.1 ∙ ap (λ b. ticket_of n.0 b) same, subst (λ (b : ℕ). n.0 ≤ slice_index lasts b) same n.2, subst (λ (b : ℕ). b < length lasts) same n.3)
-
-at_set_other : (es : List Entry) (k : ℕ) (y : Entry) (j : ℕ) (z : Entry) → j ≢ k → At es j z → At (slice_set es k y) j z
-at_set_other [] k y j z n a = a
-at_set_other (x ∷ es) zero y zero z n a = absurd (n refl)
-at_set_other (x ∷ es) zero y (suc j) z n a = a
-at_set_other (x ∷ es) (suc k) y zero z n a = a
-at_set_other (x ∷ es) (suc k) y (suc j) z n a = at_set_other es k y j z (λ e. n (ap suc e)) a
 
 module _ (es : List Entry) (lasts bag bag' : List ℕ) (k : ℕ) (x y : Entry) (table : SoundTable es lasts bag) (at : At es k x) (ch : Changes x y) where
   pub table-set : y.count ≡ times y.ticket bag' → ((t : ℕ) → x.ticket ≢ t → times t bag' ≡ times t bag) → (0 < y.count → is_linked y.place ≡ true) → SoundTable (slice_set es k y) lasts bag'

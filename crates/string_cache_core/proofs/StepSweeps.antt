@@ -11,9 +11,10 @@ use Rattle.string_cache_core.specs.declared.steps.StepReply.TheVariants as reply
 use Rattle.string_cache_core.specs.World.{Entry, Pass, World, is_linked, is_unlinked_by}
 use Rattle.string_cache_core.specs.Steps.{pass_of, is_linked_in, wants, has, take_bucket, add, link, clone, unlink, all_found_dying, all_looked_at, step}
 use Rattle.string_cache_core.specs.Runs.{Event, Leads}
-use Rattle.string_cache_core.specs.Theorem.{event, IsAlone, Sweeps, OnlyHeldLinked, places_in_bag}
+use Rattle.string_cache_core.specs.Theorem.{event, IsAlone, Sweeps, OnlyHeldLinked}
 use Rattle.string_cache_core.specs.Sound.{At, Sound}
-use Rattle.string_cache_core.proofs.StepLists.{at_one, at_set_cases, at_push_cases, bind_case, guard_case, if_case}
+use Rattle.string_cache_core.specs.Times.{times}
+use Rattle.string_cache_core.proofs.StepLists.{at_one, at_set_cases, at_push_cases, bind_case, guard_case, if_case, false_is_true}
 use Rattle.string_cache_core.proofs.StepOpening.{keeps_all}
 use Rattle.string_cache_core.proofs.StepEntries.{sound_by, all_sound, stays_gone}
 use Rattle.string_cache_core.proofs.StepPasses.{leads-append}
@@ -53,9 +54,6 @@ came_set es j x y at zero_was bucket linked k z b zero_now = elim (at_set_cases 
   | inr (n, old) ↦ came_same es k z old zero_now
 ]
 
-not_linked : {P : Type 0} → ◌≡◌ {A = Bool} false true → P
-not_linked e = absurd cc
-
 module _ (tables : Tables) where
   module _ (w : World) (party : ℕ) where
     abbrev From : StepReply × World → Type 0
@@ -87,7 +85,7 @@ module _ (tables : Tables) where
     unfolding unlink
     unlink_came k pass x at =
         if_case From (x.count == 0) _ _
-        (λ e. came_set w.entries k x (record x { place = place.UnlinkedBy pass.party }) at (λ h. h) refl (λ h. not_linked h))
+        (λ e. came_set w.entries k x (record x { place = place.UnlinkedBy pass.party }) at (λ h. h) refl (λ h. false_is_true h))
         (λ e. came_same w.entries)
 
     take_came : (bucket : ℕ) (wanted : Option (List ℕ)) → From (take_bucket w party bucket wanted)
@@ -117,7 +115,7 @@ module _ (tables : Tables) where
     came (Free zero) n = came_same w.entries
     came (Free (suc k)) n =
         bind_case From (slice_get w.entries k) _ _ (came_same w.entries) (λ x at.
-        guard_case From (is_unlinked_by party x.place) _ _ (came_same w.entries) (λ ok. came_set w.entries k x (record x { place = place.Freed }) at (λ h. h) refl (λ h. not_linked h)))
+        guard_case From (is_unlinked_by party x.place) _ _ (came_same w.entries) (λ ok. came_set w.entries k x (record x { place = place.Freed }) at (λ h. h) refl (λ h. false_is_true h)))
     came Leave n =
         bind_case From (pass_of w party) _ _ (came_same w.entries) (λ pass p. guard_case From (is_none pass.wanted && all_looked_at w pass) _ _ (came_same w.entries) (λ ok. came_same w.entries))
 
@@ -136,7 +134,7 @@ module _ (tables : Tables) where
   unlinked_is : (es : List Entry) (k : ℕ) (x y : Entry) → At es k x → At es k y → is_linked x.place ≡ false → is_linked y.place ≡ true → ⊥
   unlinked_is es k x y a b out l =
       let clash : false ≡ true = sym out ∙ ap (λ (z : Entry). is_linked z.place) (at_one es k x y a b) ∙ l in
-      not_linked clash
+      false_is_true clash
 
   -- What was at zero in a bucket that the party held isn't linked once the party has left.
   left_gone : (u : World) → Sound tables u → (party bucket k : ℕ) → AtZero u party bucket k → (after : List Event) (v : World) → Leads tables u (event party Leave reply.Left ∷ after) v
@@ -176,7 +174,7 @@ module _ (tables : Tables) where
       sound' : Sound tables v
       sound' = all_sound tables w sound part v leads
 
-      linked : 0 < places_in_bag v y.ticket → is_linked y.place ≡ true
+      linked : 0 < times y.ticket v.bag → is_linked y.place ≡ true
       linked h = sound'.table.linked k y at (let c = sound'.table.counted k y at in omega (arith, h, c))
 
       below : y.bucket < length w.lasts
@@ -188,7 +186,7 @@ module _ (tables : Tables) where
           swept_gone w sound party y.bucket s.0 s.1 s.2 v
           (subst (λ (es : List Event). Leads tables w es v) is leads) (subst (IsAlone party) is alone) k y at zero_now refl l
 
-      held : is_linked y.place ≡ true → 0 < places_in_bag v y.ticket
+      held : is_linked y.place ≡ true → 0 < times y.ticket v.bag
       held l = elim (cases_eq y.count 0) [
         | inl z ↦ absurd (gone z l (sweeps y.bucket below))
         | inr n ↦ (let c = sound'.table.counted k y at in omega (arith, c, n))

@@ -6,7 +6,7 @@ use Rattle.string_cache_core.specs.declared.steps.Step.{Step}
 use Rattle.string_cache_core.specs.declared.steps.Step.TheVariants.{Leave}
 use Rattle.string_cache_core.specs.declared.steps.StepReply.TheVariants as reply
 use Rattle.string_cache_core.specs.World.{Entry, Pass, World, is_linked}
-use Rattle.string_cache_core.specs.Steps.{pass_of, is_linked_in, has, all_looked_at, is_looked_at, step}
+use Rattle.string_cache_core.specs.Steps.{pass_of, is_linked_in, has, all_looked_at, looked_at_if_linked, step}
 use Rattle.string_cache_core.specs.Runs.{Event, Leads}
 use Rattle.string_cache_core.specs.Theorem.{ZerosGo, event, bucket_taken}
 use Rattle.string_cache_core.specs.Sound.{At, Sound}
@@ -42,7 +42,7 @@ module _ (tables : Tables) where
   -- A party that leaves has looked at each linked entry.
   seen_all : (w : World) (party bucket k : ℕ) (u : Unseen w party bucket k) (x : Entry) → At w.entries k x → x.bucket ≡ bucket → all_looked_at w u.pass ≡ true → is_linked x.place ≡ false
   seen_all w party bucket k u x at right all =
-      let test = numbered_at (is_looked_at u.pass.bucket u.pass.looked) w.entries 1 k x all at in
+      let test = numbered_at (looked_at_if_linked u.pass.bucket u.pass.looked) w.entries 1 k x all at in
       let number : 1 + k ≡ suc k = omega arith in
       let not_in : has u.pass.looked (1 + k) ≡ false = ap (has u.pass.looked) number ∙ u.not_looked in
       elim (or_cases (not (is_linked_in u.pass.bucket x)) (has u.pass.looked (1 + k)) test) [

@@ -1,12 +1,12 @@
 -- What a table keeps, and the map that it shows.
-use Rattle.std.specs.Prelude.{◌≡◌, ℕ, ◌%◌, ◌^◌, ◌<◌, ◌≤◌, List, map, length, slice_get, slice_index, None, Some, String, string_bytes}
+use Rattle.std.specs.Prelude.{◌≡◌, ℕ, ◌^◌, ◌<◌, ◌≤◌, List, map, length, slice_get, slice_index, None, Some, String, string_bytes}
 use Rattle.std.specs.List.{sum_by}
 use Rattle.std.specs.Map.{lookup}
 use Rattle.std.specs.Str.{bytes_eq}
 use Rattle.string_cache_core.specs.Bounds.{Bounds}
 use Rattle.string_cache_core.specs.Layout.{most_buckets}
 use Rattle.string_cache_core.specs.Map.{Holding, InternMap}
-use Rattle.string_cache_core.specs.Tables.{Tables, entry_hash, form_of_text, fixed_word}
+use Rattle.string_cache_core.specs.Tables.{Tables, bucket_of, form_of_text, fixed_word}
 use Rattle.string_cache_core.specs.Word.{ticket_of, IsTicket}
 
 -- a dynamic text, with its ticket and its holders
@@ -34,9 +34,9 @@ tickets_of pairs = map (λ pair. pair.1.ticket) pairs
 pub record IsGiven (t : Tables) (buckets : ℕ) (last : ℕ → ℕ) (text : List ℕ) (had : Holding) : Type 0 where
   pub dynamic : fixed_word (form_of_text t text) ≡ None
   pub serial : ℕ
-  pub right : IsTicket serial (entry_hash t text % buckets)
-  pub given : serial ≤ last (entry_hash t text % buckets)
-  pub is : had.ticket ≡ ticket_of serial (entry_hash t text % buckets)
+  pub right : IsTicket serial (bucket_of t buckets text)
+  pub given : serial ≤ last (bucket_of t buckets text)
+  pub is : had.ticket ≡ ticket_of serial (bucket_of t buckets text)
   pub held : 0 < had.holders
 
 -- There are 2 ^ bits buckets. The tickets stand in a list of their own, each at the place of its text, and the bytes of the

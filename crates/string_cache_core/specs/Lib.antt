@@ -20,5 +20,6 @@ pub mod Steps
 pub mod Table
 pub mod Tables
 pub mod Theorem
+pub mod Times
 pub mod Word
 pub mod World

@@ -1,23 +1,13 @@
 -- Words of private contracts of steps: the numbers of each bucket's entries.
-use Rattle.std.specs.Prelude.{◌≡◌, ℕ, ◌^◌, ◌<◌, ◌&&◌, ◌||◌, not, Bool, true, zero, suc, List, length, Option, None, slice_get}
+use Rattle.std.specs.Prelude.{◌≡◌, ℕ, ◌^◌, ◌<◌, Bool, true, suc, List, length}
 use Rattle.std.specs.Option.{option_map_or}
-use Rattle.std.specs.Str.{bytes_eq}
 use Rattle.string_cache_core.specs.World.{Entry, Pass, World, is_linked}
-use Rattle.string_cache_core.specs.Steps.{has, is_linked_in}
+use Rattle.string_cache_core.specs.Steps.{entry_at, has}
 use Rattle.string_cache_core.specs.Sound.{At}
 
--- the entry of that number, counted from 1
-abbrev pub entry_in : List Entry → ℕ → Option Entry
-entry_in entries zero = None
-entry_in entries (suc k) = slice_get entries k
-
--- the entry isn't linked in the bucket, or was looked at
-abbrev pub is_seen : List Entry → ℕ → List ℕ → ℕ → Bool
-is_seen entries bucket looked number = option_map_or (λ entry. not (is_linked_in bucket entry) || has looked number) (entry_in entries number) true
-
--- the entry isn't linked with the text, or was found dying
-abbrev pub is_dying : List Entry → List ℕ → List ℕ → ℕ → Bool
-is_dying entries text dying number = option_map_or (λ entry. not (is_linked entry.place && bytes_eq entry.text text) || has dying number) (entry_in entries number) true
+-- the entry of that number passes the test, or there is none
+abbrev pub passes_at : (ℕ × Entry → Bool) → List Entry → ℕ → Bool
+passes_at test entries number = option_map_or (λ entry. test (number, entry)) (entry_at entries number) true
 
 -- Each linked entry's number stands in its bucket's list.
 abbrev pub AreListed : List Entry → List (List ℕ) → Type 0

@@ -1,12 +1,12 @@
 -- The map that interning is: from dynamic texts to a ticket and a number of holders, with each bucket's last serial.
 -- It has no locks, links, dying entries or counts: those are the code's.
-use Rattle.std.specs.Prelude.{◌≡◌, ℕ, ◌+◌, ◌-◌, ◌%◌, ◌<◌, ◌≤◌, ◌⊎◌, List, Option, None, Some, Result, Ok, Err, ◌==◌, if◌then◌else◌}
+use Rattle.std.specs.Prelude.{◌≡◌, ℕ, ◌+◌, ◌-◌, ◌<◌, ◌≤◌, ◌⊎◌, List, Option, None, Some, Result, Ok, Err, ◌==◌, if◌then◌else◌}
 use Rattle.std.specs.Map.{update}
 use Rattle.std.specs.Str.{bytes_eq}
 use Rattle.string_cache_core.specs.Bounds.{Bounds}
 use Rattle.string_cache_core.specs.declared.faults.Fault.{Fault}
 use Rattle.string_cache_core.specs.declared.faults.Fault.TheVariants as fault
-use Rattle.string_cache_core.specs.Tables.{Tables, entry_hash}
+use Rattle.string_cache_core.specs.Tables.{Tables, bucket_of}
 use Rattle.string_cache_core.specs.Word.{ticket_of}
 
 -- a ticket, and how many hold it
@@ -30,10 +30,6 @@ with_held m text holding = record { buckets = m.buckets; held = update bytes_eq 
 -- the map with this last serial of the bucket
 abbrev pub with_last : InternMap → ℕ → ℕ → InternMap
 with_last m bucket serial = record { buckets = m.buckets; held = m.held; last = λ other. if other == bucket then serial else m.last other }
-
--- the bucket of a dynamic text
-abbrev pub bucket_in : Tables → InternMap → List ℕ → ℕ
-bucket_in t m text = entry_hash t text % m.buckets
 
 -- the map holds the ticket, of this text
 pub record IsHeldTicket (m : InternMap) (ticket : ℕ) : Type 0 where
@@ -70,7 +66,7 @@ MayAdd limits m text had reply new =
 -- exactly where its last serial is at the limit.
 abbrev pub MayLink : Tables → Bounds → InternMap → List ℕ → MapReply → InternMap → Type 0
 MayLink t limits m text reply new =
-    let bucket = bucket_in t m text in
+    let bucket = bucket_of t m.buckets text in
     let serial = m.last bucket + 1 in
     let first : Holding = record { ticket = ticket_of serial bucket; holders = 1 } in
     ((m.last bucket < limits.serials) × (reply ≡ Ok first) × (new ≡ with_last (with_held m text (Some first)) bucket serial))

@@ -55,7 +55,7 @@ wanted_by w party = unwrap_or (pass_of w party >>= λ pass. pass.wanted) []
 
 -- The ticket of entry e. (There is one at each step that is read so.)
 abbrev pub ticket_at : World → ℕ → ℕ
-ticket_at w e = unwrap_or (option_map (λ entry. entry.ticket) (entry_at w e)) 0
+ticket_at w e = unwrap_or (option_map (λ entry. entry.ticket) (entry_at w.entries e)) 0
 
 -- A call of the map that a party made, and the reply to it.
 pub record Made : Type 0 where

@@ -1,19 +1,16 @@
 -- What every world keeps that steps lead to.
-use Rattle.std.specs.Prelude.{◌≡◌, ◌≢◌, ℕ, ◌<◌, ◌≤◌, ◌==◌, ◌&&◌, nat_lt, Bool, true, List, [], ◌∷◌, length, count_by, Some, slice_get, slice_index, suc}
+use Rattle.std.specs.Prelude.{◌≡◌, ◌≢◌, ℕ, ◌<◌, ◌≤◌, ◌&&◌, nat_lt, Bool, true, List, [], ◌∷◌, length, Some, slice_get, slice_index, suc}
 use Rattle.std.specs.List.{AllByRecursion}
 use Rattle.string_cache_core.specs.Layout.{most_buckets}
-use Rattle.string_cache_core.specs.Tables.{Tables}
+use Rattle.string_cache_core.specs.Tables.{Tables, bucket_of}
+use Rattle.string_cache_core.specs.Times.{times}
 use Rattle.string_cache_core.specs.Word.{ticket_of}
 use Rattle.string_cache_core.specs.World.{Entry, Pass, World, is_linked}
-use Rattle.string_cache_core.specs.Steps.{bucket_of, has}
+use Rattle.string_cache_core.specs.Steps.{has}
 
 -- x stands at place k
 abbrev pub At : {X : Type 0} → List X → ℕ → X → Type 0
 At xs k x = slice_get xs k ≡ Some x
-
--- how often a list has a number
-abbrev pub times : ℕ → List ℕ → ℕ
-times x xs = count_by (λ y. y == x) xs
 
 -- the entry is found, and has a holder
 abbrev pub is_living : Entry → Bool

@@ -1,5 +1,5 @@
 -- The table of steps: the reply and the new world where a step is enabled. Elsewhere the reply is No.
-use Rattle.std.specs.Prelude.{◌≡◌, ℕ, ◌+◌, ◌-◌, ◌%◌, ◌==◌, nat_lt, Bool, false, not, ◌&&◌, ◌||◌, if◌then◌else◌, List, [], ◌∷◌, ◌++◌, length, replicate, Option, None, Some, is_none, slice_get, slice_set, slice_index, zero, suc}
+use Rattle.std.specs.Prelude.{◌≡◌, ℕ, ◌+◌, ◌-◌, ◌==◌, nat_lt, Bool, false, not, ◌&&◌, ◌||◌, if◌then◌else◌, List, [], ◌∷◌, ◌++◌, length, replicate, Option, None, Some, is_none, slice_get, slice_set, slice_index, zero, suc}
 use Rattle.std.specs.List.{find, list_any, list_all, enumerate_from}
 use Rattle.std.specs.Option.{unwrap_or, option_map_or}
 use Rattle.std.specs.Str.{bytes_eq}
@@ -10,7 +10,7 @@ use Rattle.string_cache_core.specs.declared.steps.Step.{Step}
 use Rattle.string_cache_core.specs.declared.steps.Step.TheVariants.{TakeIntern, TakeSweep, Add, Link, Clone, Give, Unlink, Free, Leave}
 use Rattle.string_cache_core.specs.declared.steps.StepReply.{StepReply}
 use Rattle.string_cache_core.specs.declared.steps.StepReply.TheVariants as reply
-use Rattle.string_cache_core.specs.Tables.{Tables, entry_hash, is_dynamic}
+use Rattle.string_cache_core.specs.Tables.{Tables, bucket_of, is_dynamic}
 use Rattle.string_cache_core.specs.Word.{ticket_of}
 use Rattle.string_cache_core.specs.World.{Entry, Pass, World, is_linked, is_unlinked_by}
 
@@ -23,12 +23,6 @@ None >>= f = None
 abbrev pub only_if : {A : Type 0} → Bool → A → Option A
 only_if test x = if test then Some x else None
 
--- ---- texts
-
--- of so many buckets the one that a dynamic text belongs to
-abbrev pub bucket_of : Tables → ℕ → List ℕ → ℕ
-bucket_of t buckets text = entry_hash t text % buckets
-
 -- ---- what a world shows
 
 -- what the party does, where it isn't idle
@@ -40,9 +34,9 @@ abbrev pub is_free : World → ℕ → Bool
 is_free w bucket = list_all (λ pass. not (pass.bucket == bucket)) w.passes
 
 -- entries are numbered from 1
-abbrev pub entry_at : World → ℕ → Option Entry
-entry_at w zero = None
-entry_at w (suc k) = slice_get w.entries k
+abbrev pub entry_at : List Entry → ℕ → Option Entry
+entry_at entries zero = None
+entry_at entries (suc k) = slice_get entries k
 
 -- the number stands in the list
 abbrev pub has : List ℕ → ℕ → Bool
@@ -120,12 +114,13 @@ add w pass e entry =
     )
     else (reply.Full, with_pass w (decides (looks_at pass e)))
 
--- Each linked entry of the text was found dying in this pass.
-abbrev pub is_found_dying : List ℕ → List ℕ → ℕ × Entry → Bool
-is_found_dying dying text e = not (is_linked e.1.place && bytes_eq e.1.text text) || has dying e.0
+-- Where the entry is linked with the text, its number is one that was found dying.
+abbrev pub dying_if_linked : List ℕ → List ℕ → ℕ × Entry → Bool
+dying_if_linked dying text e = not (is_linked e.1.place && bytes_eq e.1.text text) || has dying e.0
 
+-- Each linked entry of the text was found dying in this pass.
 abbrev pub all_found_dying : World → Pass → List ℕ → Bool
-all_found_dying w pass text = list_all (is_found_dying pass.dying text) (enumerate_from 1 w.entries)
+all_found_dying w pass text = list_all (dying_if_linked pass.dying text) (enumerate_from 1 w.entries)
 
 -- A new entry with the bucket's next serial and one holder, where a serial is left and there is room. It decides, also
 -- where it refuses.
@@ -168,12 +163,13 @@ unlink w pass e entry =
     if entry.count == 0 then (reply.Unlinked, with_entry w e (record entry { place = place.UnlinkedBy pass.party }))
     else (reply.Kept, with_pass w (looks_at pass e))
 
--- Each linked entry of the bucket was looked at or linked in this pass.
-abbrev pub is_looked_at : ℕ → List ℕ → ℕ × Entry → Bool
-is_looked_at bucket looked e = not (is_linked_in bucket e.1) || has looked e.0
+-- Where the entry is linked in the bucket, its number is one that was looked at.
+abbrev pub looked_at_if_linked : ℕ → List ℕ → ℕ × Entry → Bool
+looked_at_if_linked bucket looked e = not (is_linked_in bucket e.1) || has looked e.0
 
+-- Each linked entry of the bucket was looked at or linked in this pass.
 abbrev pub all_looked_at : World → Pass → Bool
-all_looked_at w pass = list_all (is_looked_at pass.bucket pass.looked) (enumerate_from 1 w.entries)
+all_looked_at w pass = list_all (looked_at_if_linked pass.bucket pass.looked) (enumerate_from 1 w.entries)
 
 -- ---- where each step is enabled
 
@@ -189,24 +185,24 @@ step_if t w party (TakeSweep bucket) =
     only_if (is_none (pass_of w party) && nat_lt bucket (length w.lasts) && is_free w bucket) (take_bucket w party bucket None)
 step_if t w party (Add e) = do
   pass ← pass_of w party
-  entry ← entry_at w e
+  entry ← entry_at w.entries e
   only_if (is_linked_in pass.bucket entry && wants pass entry.text) (add w pass e entry)
 step_if t w party (Link room) = do
   pass ← pass_of w party
   text ← pass.wanted
   only_if (all_found_dying w pass text) (link w pass room text)
 step_if t w party (Clone e) = do
-  entry ← entry_at w e
+  entry ← entry_at w.entries e
   only_if (has w.bag entry.ticket) (clone w e entry)
 step_if t w party (Give e) = do
-  entry ← entry_at w e
+  entry ← entry_at w.entries e
   only_if (has w.bag entry.ticket) (give w e entry)
 step_if t w party (Unlink e) = do
   pass ← pass_of w party
-  entry ← entry_at w e
+  entry ← entry_at w.entries e
   only_if (is_linked_in pass.bucket entry) (unlink w pass e entry)
 step_if t w party (Free e) = do
-  entry ← entry_at w e
+  entry ← entry_at w.entries e
   only_if (is_unlinked_by party entry.place) (reply.Freed, with_entry w e (record entry { place = place.Freed }))
 step_if t w party Leave = do
   pass ← pass_of w party

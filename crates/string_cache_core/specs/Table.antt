@@ -1,11 +1,12 @@
 -- What the calls of a table do, as calls of the map that it is.
-use Rattle.std.specs.Prelude.{◌≡◌, ℕ, ◌<◌, ◌≤◌, ◌==◌, ◌⊎◌, ◌↔◌, List, count_by, Option, None, Some, Result, Ok, Err}
+use Rattle.std.specs.Prelude.{◌≡◌, ℕ, ◌<◌, ◌≤◌, ◌⊎◌, ◌↔◌, List, Option, None, Some, Result, Ok, Err}
 use Rattle.std.specs.Str.{IsUtf8}
 use Rattle.string_cache_core.specs.Bounds.{Bounds}
 use Rattle.string_cache_core.specs.declared.faults.Fault.{Fault}
 use Rattle.string_cache_core.specs.declared.static_sets.TextForm.TheVariants as form
 use Rattle.string_cache_core.specs.Map.{Holding, InternMap, IsHeldTicket, MapReply, Intern, Clone, Give, MayReply, MayAdd}
 use Rattle.string_cache_core.specs.Tables.{Tables, form_of_text, fixed_word, IsStaticTextWord}
+use Rattle.string_cache_core.specs.Times.{times}
 use Rattle.string_cache_core.specs.Word.{static_word, ticket_of, IsInlineWord, IsTicket}
 
 -- the word that the map's reply gives
@@ -49,7 +50,7 @@ IsHeldBy t m word n =
 
 -- Each word can be given as often as it is listed. A caller lists what it interned and cloned, and has not given.
 abbrev pub AreHeld : Tables → InternMap → List ℕ → Type 0
-AreHeld t m words = (word : ℕ) → IsHeldBy t m word (count_by (λ own. own == word) words)
+AreHeld t m words = (word : ℕ) → IsHeldBy t m word (times word words)
 
 -- cloning a word that is held: nothing changes at a fixed word, and a ticket is the map's call
 abbrev pub Clones : Tables → Bounds → InternMap → ℕ → Result ℕ Fault → InternMap → Type 0

@@ -1,5 +1,5 @@
 -- Static tables, and the form, the hash number and the words that they give.
-use Rattle.std.specs.Prelude.{◌≡◌, ℕ, ◌^◌, ◌<◌, Bool, true, false, List, [], ◌∷◌, length, nat_lt, if◌then◌else◌, slice_index, slice_index_or, Option, Some, None}
+use Rattle.std.specs.Prelude.{◌≡◌, ℕ, ◌%◌, ◌^◌, ◌<◌, Bool, true, false, List, [], ◌∷◌, length, nat_lt, if◌then◌else◌, slice_index, slice_index_or, Option, Some, None}
 use Rattle.std.specs.Str.{bytes_eq}
 use Rattle.string_cache_core.specs.declared.static_sets.TextForm.{TextForm}
 use Rattle.string_cache_core.specs.declared.static_sets.TextForm.TheVariants.{Inline, Static, Dynamic}
@@ -38,6 +38,10 @@ pub record IsPerfectTable (t : Tables) : Type 0 where
 -- the hash of an entry, of which the low bits are its bucket
 unfoldable pub entry_hash : Tables → List ℕ → ℕ
 entry_hash t text = hash_of_hashes (hashes_of text t.key)
+
+-- of so many buckets the one that a dynamic text belongs to
+abbrev pub bucket_of : Tables → ℕ → List ℕ → ℕ
+bucket_of t buckets text = entry_hash t text % buckets
 
 -- The form of a text. Up to 7 bytes it is inline, with that word. A longer text is static if it stands at its place, with
 -- that place. Any other is dynamic, with the hash of its entry.

@@ -174,8 +174,8 @@ impl<S: StaticAtomSet> World<S> {
 
     /// How many hold the entry, 0 once it is unlinked or freed. `None` where no entry has the number.
     pub fn count(&self, entry: u64) -> Option<u64>
-        ensures value { result ≡ option_map (λ entry. entry.count) (entry_at self.now entry) }
-        ensures unlinked { (gone : world.Entry) → entry_at self.now entry ≡ Some gone → is_linked gone.place ≡ false → result ≡ Some 0 }
+        ensures value { result ≡ option_map (λ entry. entry.count) (entry_at self.now.entries entry) }
+        ensures unlinked { (gone : world.Entry) → entry_at self.now.entries entry ≡ Some gone → is_linked gone.place ≡ false → result ≡ Some 0 }
     {
         self.state.count(entry)
     }

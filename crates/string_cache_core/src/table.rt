@@ -10,9 +10,9 @@ ghost use Rattle.std.specs.List.{IsDistinct, sum_by};
 ghost use Rattle.std.specs.Map.{keys_of};
 ghost use Rattle.std.specs.Str.{bytes_eq};
 ghost use Rattle.string_cache_core.specs.Layout.{holder_bound, serial_bound, usual_buckets};
-ghost use Rattle.string_cache_core.specs.Map.{Holding, InternMap, IsHeldTicket, Intern, MapReply, MayReply, empty_map, with_held, with_last, bucket_in};
+ghost use Rattle.string_cache_core.specs.Map.{Holding, InternMap, IsHeldTicket, Intern, MapReply, MayReply, empty_map, with_held, with_last};
 ghost use Rattle.string_cache_core.specs.Table.{Adds, Interns, Clones, Gives, AreHeld, GivesOnce, HasOneTextEach, HasWord, IsFixedWord, IsHeld, IsTextOf, KeepsWord, as_word};
-ghost use Rattle.string_cache_core.specs.Tables.{form_of_text, fixed_word, entry_hash};
+ghost use Rattle.string_cache_core.specs.Tables.{bucket_of, form_of_text, fixed_word, entry_hash};
 ghost use Rattle.string_cache_core.specs.Word.{inline_word, ticket_of};
 ghost use Rattle.string_cache_core.specs.declared.static_sets.TextForm.TheVariants.{Dynamic};
 
@@ -340,7 +340,7 @@ impl<S: StaticAtomSet> Table<S> {
     /// Adds a text that isn't held, with its bucket's next ticket.
     fn add(&mut self, text: &str, bucket: u16, serial: u64) -> Result<u64, Fault>
         requires dynamic { fixed_word (form_of_text S.tables text.now) ≡ None }
-        requires bucket { bucket ≡ bucket_in S.tables (map_of self.old) text.now }
+        requires bucket { bucket ≡ bucket_of S.tables (map_of self.old).buckets text.now }
         requires serial { serial ≡ (map_of self.old).last bucket + 1 }
         requires range { serial < serial_bound }
         requires absent { (map_of self.old).held text.now ≡ None }

@@ -5,8 +5,8 @@ ghost use Rattle.std.specs.Prelude.{◌≡◌, ◌<◌, ◌==◌, ◌++◌, ◌�
 ghost use Rattle.std.specs.List.{list_all, position, remove};
 ghost use Rattle.std.specs.Option.{option_map};
 ghost use Rattle.string_cache_core.specs.Faults.{RefusesUnchanged};
-ghost use Rattle.string_cache_core.specs.Steps.{has, without_one};
-ghost use Rattle.string_cache_core.specs.Listed.{entry_in, is_seen, is_dying};
+ghost use Rattle.string_cache_core.specs.Steps.{dying_if_linked, entry_at, has, looked_at_if_linked, without_one};
+ghost use Rattle.string_cache_core.specs.Listed.{passes_at};
 
 use super::entry::Entry;
 use crate::faults::Fault;
@@ -34,14 +34,14 @@ fn spot_of(numbers: &[u64], number: u64) -> Option<usize>
 
 // The entry of that number, counted from 1.
 fn entry_of(entries: &[Entry], number: u64) -> Option<&Entry>
-    ensures { option_map (λ entry. entry.now) result ≡ entry_in entries.now number }
+    ensures { option_map (λ entry. entry.now) result ≡ entry_at entries.now number }
 {
     entries.get(number.checked_sub(1)? as usize)
 }
 
-// Whether the entry isn't linked in the bucket, or was looked at.
-fn is_seen(entries: &[Entry], number: u64, bucket: u16, looked: &[u64]) -> bool
-    ensures { result ≡ is_seen entries.now bucket looked.now number }
+// Whether the entry was looked at, if it is linked in the bucket.
+fn looked_at_if_linked(entries: &[Entry], number: u64, bucket: u16, looked: &[u64]) -> bool
+    ensures { result ≡ passes_at (looked_at_if_linked bucket looked.now) entries.now number }
 {
     match entry_of(entries, number) {
         None => true,
@@ -49,9 +49,9 @@ fn is_seen(entries: &[Entry], number: u64, bucket: u16, looked: &[u64]) -> bool
     }
 }
 
-// Whether the entry isn't linked with the text, or was found dying.
-fn is_dying(entries: &[Entry], number: u64, text: &str, dying: &[u64]) -> bool
-    ensures { result ≡ is_dying entries.now text.now dying.now number }
+// Whether the entry was found dying, if it is linked with the text.
+fn dying_if_linked(entries: &[Entry], number: u64, text: &str, dying: &[u64]) -> bool
+    ensures { result ≡ passes_at (dying_if_linked dying.now text.now) entries.now number }
 {
     match entry_of(entries, number) {
         None => true,
@@ -101,19 +101,19 @@ impl Listed {
 
     // Whether each entry that is linked in the bucket was looked at.
     pub fn all_seen(&self, entries: &[Entry], bucket: u16, looked: &[u64]) -> bool
-        ensures { result ≡ list_all (is_seen entries.now bucket looked.now) self.now }
+        ensures { result ≡ list_all (passes_at (looked_at_if_linked bucket looked.now) entries.now) self.now }
     {
         self.numbers
             .iter()
-            .all(|number| is_seen(entries, *number, bucket, looked))
+            .all(|number| looked_at_if_linked(entries, *number, bucket, looked))
     }
 
     // Whether each entry that is linked with the text was found dying.
     pub fn all_dying(&self, entries: &[Entry], text: &str, dying: &[u64]) -> bool
-        ensures { result ≡ list_all (is_dying entries.now text.now dying.now) self.now }
+        ensures { result ≡ list_all (passes_at (dying_if_linked dying.now text.now) entries.now) self.now }
     {
         self.numbers
             .iter()
-            .all(|number| is_dying(entries, *number, text, dying))
+            .all(|number| dying_if_linked(entries, *number, text, dying))
     }
 }

@@ -99,7 +99,7 @@ impl State {
     }
 
     fn entry_place(&self, number: u64) -> Option<usize>
-        ensures { MatchOption result (entry_at self.now number ≡ None) (λ k. EntryAt self.now number k) }
+        ensures { MatchOption result (entry_at self.now.entries number ≡ None) (λ k. EntryAt self.now number k) }
     {
         let k = number.checked_sub(1)? as usize;
         if k < self.entries.len() {
@@ -162,7 +162,7 @@ impl State {
 
     /// How many hold the entry. `None` where no entry has the number.
     pub fn count(&self, entry: u64) -> Option<u64>
-        ensures { result ≡ option_map (λ entry. entry.count) (entry_at self.now entry) }
+        ensures { result ≡ option_map (λ entry. entry.count) (entry_at self.now.entries entry) }
     {
         let k = self.entry_place(entry)?;
         Some(self.count_at(k))

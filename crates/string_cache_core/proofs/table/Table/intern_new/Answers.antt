@@ -1,6 +1,6 @@
 use Rattle.std.proofs.Common.{◌≡◌, ◌∙◌, ap, arith, ℕ, ◌%◌}
-use Rattle.string_cache_core.specs.Map.{bucket_in}
 use Rattle.string_cache_core.specs.Kept.{Kept, map_of}
+use Rattle.string_cache_core.specs.Tables.{bucket_of}
 use Rattle.string_cache_core.proofs.HeldWords.{dynamic-hash}
 use Rattle.string_cache_core.proofs.Replies.{interned-spent, added}
 use Rattle.string_cache_core.proofs.table.Table.intern_new.Goals as goal
@@ -12,7 +12,7 @@ returns-then-last-serials-clause-replies g c =
     let last = c.bucket_and_last-bucket.ensures.last in
     let read = c.serials.ensures.value in
     let limit = ap (λ (kept : Kept). kept.limits.serials) c.self.view_is in
-    let own : c.bucket_and_last-bucket.result.0 ≡ bucket_in g.S.StaticAtomSet.tables m c.args.text.now =
+    let own : c.bucket_and_last-bucket.result.0 ≡ bucket_of g.S.StaticAtomSet.tables m.buckets c.args.text.now =
     c.bucket_and_last-bucket.ensures.bucket ∙ ap (λ (h : ℕ). h % m.buckets) (dynamic-hash g.S.StaticAtomSet.tables c.args.text.now c.args.hash c.requires.dynamic) in
     interned-spent g.S.StaticAtomSet.tables c.args.self.now.limits m c.args.text.now c.bucket_and_last-bucket.result.0 own c.requires.absent (omega (arith, test, last, limit, read))
 
@@ -24,7 +24,7 @@ returns-clause-replies g c =
     let read = c.serials.ensures.value in
     let limit = ap (λ (kept : Kept). kept.limits.serials) c.self.view_is in
     let bucket = c.bucket_and_last-bucket.result.0 in
-    let own : bucket ≡ bucket_in g.S.StaticAtomSet.tables m c.args.text.now =
+    let own : bucket ≡ bucket_of g.S.StaticAtomSet.tables m.buckets c.args.text.now =
     c.bucket_and_last-bucket.ensures.bucket ∙ ap (λ (h : ℕ). h % m.buckets) (dynamic-hash g.S.StaticAtomSet.tables c.args.text.now c.args.hash c.requires.dynamic) in
     added g.S.StaticAtomSet.tables c.args.self.now c.add.new.self c.args.text.now bucket c.bucket_and_last-bucket.result.1 c.add.result own c.requires.absent last (omega (arith, test, limit, read))
     c.add.ensures.word c.add.ensures.ok c.add.ensures.err c.add.ensures.fault
