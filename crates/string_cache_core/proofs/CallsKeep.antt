@@ -4,6 +4,7 @@ use Rattle.std.specs.Prelude.{◌==◌, IfOk, string_bytes}
 use Rattle.std.specs.Str.{IsUtf8, bytes_eq}
 use Rattle.std.proofs.lemmas.Bool.{cases_Bool, eqb-true, eq-eqb, le-ltb, ltb-false}
 use Rattle.std.proofs.lemmas.Slice.Eq.{bytes_eq-Decides}
+use Rattle.std.proofs.lemmas.Option.{same_Some, none-some}
 use Rattle.string_cache_core.specs.Bounds.{Bounds}
 use Rattle.string_cache_core.specs.declared.faults.Fault.{Fault}
 use Rattle.string_cache_core.specs.declared.static_sets.TextForm.{TextForm}
@@ -19,7 +20,6 @@ use Rattle.string_cache_core.specs.Tables.{Tables, form_of_text, fixed_word, ent
 use Rattle.string_cache_core.specs.Times.{times}
 use Rattle.string_cache_core.specs.Word.{inline_word, static_word, ticket_of}
 use Rattle.string_cache_core.proofs.HeldWords.{static-text, not-fixed-if-ticket}
-use Rattle.string_cache_core.proofs.KeptPairs.{the_same, none_some}
 use Rattle.string_cache_core.proofs.Replies.{some_left}
 use Rattle.string_cache_core.proofs.TimesLemmas.{times-same, times-other}
 use Rattle.string_cache_core.proofs.WordsApart.{has, inline_by}
@@ -29,10 +29,10 @@ held_by ticket holders = Some (record { ticket = ticket; holders = holders })
 
 -- one text is held once
 same-ticket : (a b : Option Holding) (t u n k : ℕ) → a ≡ b → a ≡ held_by t n → b ≡ held_by u k → t ≡ u
-same-ticket a b t u n k e x y = ap (λ (v : Holding). v.ticket) (the_same _ _ (sym x ∙ e ∙ y))
+same-ticket a b t u n k e x y = ap (λ (v : Holding). v.ticket) (same_Some _ _ (sym x ∙ e ∙ y))
 
 same-holders : (a b : Option Holding) (t u n k : ℕ) → a ≡ b → a ≡ held_by t n → b ≡ held_by u k → n ≡ k
-same-holders a b t u n k e x y = ap (λ (v : Holding). v.holders) (the_same _ _ (sym x ∙ e ∙ y))
+same-holders a b t u n k e x y = ap (λ (v : Holding). v.holders) (same_Some _ _ (sym x ∙ e ∙ y))
 
 -- ---- the word of a text
 
@@ -70,9 +70,9 @@ fixed-of-form t text word utf8 fixed = by (form_of_text t text) refl fixed
     by : (f : TextForm) → form_of_text t text ≡ f → fixed_word f ≡ Some word → IsFixedWord t word
     by (form.Inline own) e is =
         let parts = inline_by (nat_lt 7 (length text)) (bytes_eq (text_at t (place_in t text)) text) (place_in t text) (entry_hash t text) (inline_word text) own e in
-        inl (text, (utf8, ltb-false 7 (length text) parts.0), parts.1 ∙ the_same own word is)
-    by (form.Static index) e is = fixed_if_static t text index word e (sym (the_same (static_word index) word is))
-    by (form.Dynamic hash) e is = absurd (none_some is)
+        inl (text, (utf8, ltb-false 7 (length text) parts.0), parts.1 ∙ same_Some own word is)
+    by (form.Static index) e is = fixed_if_static t text index word e (sym (same_Some (static_word index) word is))
+    by (form.Dynamic hash) e is = absurd (none-some _ is)
 
 -- ---- one text's holding is written
 
@@ -118,7 +118,7 @@ grows-more m new text own holders had is ticket other n h = elim (written-cases 
 -- a text that nobody held
 pub grows-new : (m new : InternMap) (text : List ℕ) (w : Option Holding) → m.held text ≡ None → IsWritten m new text w → (ticket : ℕ) → Grows m new ticket
 grows-new m new text w none is ticket other n h = elim (written-cases m new text w is other) [
-  | inl same ↦ absurd (none_some (sym none ∙ ap m.held same ∙ h))
+  | inl same ↦ absurd (none-some _ (sym none ∙ ap m.held same ∙ h))
   | inr stays ↦ (n, stays ∙ h, omega arith)
 ]
 
@@ -320,10 +320,10 @@ module _ (t : Tables) (limits : Bounds) (m new : InternMap) (text : List ℕ) (w
       | inl zeroed ↦ inr (inr (text, 1, written-there m new text (held_by word 1) x.3, omega (arith, zeroed)))
       | inr (inl fixed) ↦ inr (inl fixed)
       | inr (inr b) ↦ elim (written-cases m new text (held_by word 1) x.3 b.0) [
-        | inl same ↦ absurd (none_some (sym x.1 ∙ ap m.held same ∙ b.2))
+        | inl same ↦ absurd (none-some _ (sym x.1 ∙ ap m.held same ∙ b.2))
         | inr stays ↦
             let same : b.0 ≡ text = now.apart b.0 text (record { ticket = word; holders = b.1 }) (record { ticket = word; holders = 1 }) (stays ∙ b.2) (written-there m new text (held_by word 1) x.3) refl in
-            absurd (none_some (sym x.1 ∙ ap m.held (sym same) ∙ b.2))
+            absurd (none-some _ (sym x.1 ∙ ap m.held (sym same) ∙ b.2))
       ]
     ]
   ]
@@ -464,7 +464,7 @@ module _ (t : Tables) (limits : Bounds) (m new : InternMap) (word : ℕ) where
   clones-fresh result (inl x) = fresh-same m new x.2
   clones-fresh result (inr x) = elim x.1.1 [
     | inl y ↦ fresh-written m new x.1.0.text word x.1.0.holders (held_by word (x.1.0.holders + 1)) x.1.0.held (written m new x.1.0.text _ y.2)
-        (λ ticket n e. sym (ap (λ (v : Holding). v.ticket) (the_same _ _ e)))
+        (λ ticket n e. sym (ap (λ (v : Holding). v.ticket) (same_Some _ _ e)))
     | inr y ↦ fresh-same m new y.2
   ]
 
@@ -476,8 +476,8 @@ module _ (t : Tables) (limits : Bounds) (m new : InternMap) (word : ℕ) where
     where
       left-ticket : (left : Holding) (ticket n : ℕ) → unless_given_up left ≡ held_by ticket n → ticket ≡ left.ticket
       left-ticket left ticket n e = elim (cases_Bool (left.holders == 0)) [
-        | inl gone ↦ absurd (none_some (sym (ap (λ b. cond b None (Some left)) gone) ∙ e))
-        | inr stays ↦ sym (ap (λ (v : Holding). v.ticket) (the_same _ _ (sym (ap (λ b. cond b None (Some left)) stays) ∙ e)))
+        | inl gone ↦ absurd (none-some _ (sym (ap (λ b. cond b None (Some left)) gone) ∙ e))
+        | inr stays ↦ sym (ap (λ (v : Holding). v.ticket) (same_Some _ _ (sym (ap (λ b. cond b None (Some left)) stays) ∙ e)))
       ]
 
 pub answers-fresh : (t : Tables) (limits : Bounds) (m new : InternMap) (c : Call) (answer : TableReply) → IsSoundMap t new → Answers t limits m c answer new → IsFresh m new

@@ -3,11 +3,12 @@ use Rattle.std.proofs.Common.{◌≡◌, ◌∙◌, ap, sym, subst, refl, ℕ, �
 use Rattle.std.specs.Prelude.{slice_index, String}
 use Rattle.std.specs.HashMap.{HashMap}
 use Rattle.std.proofs.lemmas.List.{length-replicate}
+use Rattle.std.proofs.lemmas.Option.{none-some}
 use Rattle.string_cache_core.specs.Layout.{most_buckets}
 use Rattle.string_cache_core.specs.Map.{Holding, empty_map}
 use Rattle.string_cache_core.specs.Tables.{Tables}
 use Rattle.string_cache_core.specs.Kept.{pairs_of, IsKeptTable}
-use Rattle.string_cache_core.proofs.KeptPairs.{none_some, shows}
+use Rattle.string_cache_core.proofs.KeptPairs.{shows}
 
 zeros-at : (n i : ℕ) → slice_index (replicate n zero) i ≡ zero
 zeros-at zero i = refl
@@ -19,8 +20,8 @@ module _ {Y S : Type 0} (t : Tables) (bits : ℕ) (lasts : List ℕ) (m : HashMa
   new-kept = subst (λ (es : List (String Y × Holding)). IsKeptTable t bits lasts (pairs_of es) tickets 0) (sym none) (record {
     buckets = ap length zeros ∙ length-replicate (2 ^ bits) zero;
     few = subst (λ (n : ℕ). n ≤ most_buckets) (sym (ap length zeros ∙ length-replicate (2 ^ bits) zero)) few;
-    given = λ at pair h. absurd (none_some h);
-    short = λ at pair h. absurd (none_some h);
+    given = λ at pair h. absurd (none-some _ h);
+    short = λ at pair h. absurd (none-some _ h);
     index = no_ticket;
     counted = refl;
   })

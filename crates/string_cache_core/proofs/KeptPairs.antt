@@ -1,5 +1,5 @@
 -- The pairs of a table as a map of texts.
-use Rattle.std.proofs.Common.{◌≡◌, ◌∙◌, ap, sym, subst, refl, arith, ℕ, suc, zero, ◌%◌, ◌^◌, ◌<◌, ◌≤◌, ◌⊎◌, inl, inr, true, false, cond, List, [], ◌∷◌, length, map, Option, None, Some, true≢false, is_some, unwrap_or, get_or, set}
+use Rattle.std.proofs.Common.{◌≡◌, ◌∙◌, ap, sym, subst, refl, arith, ℕ, suc, zero, ◌%◌, ◌^◌, ◌<◌, ◌≤◌, ◌⊎◌, inl, inr, true, false, cond, List, [], ◌∷◌, length, map, Option, Some, true≢false, get_or, set}
 use Rattle.std.specs.Prelude.{slice_get, slice_set, slice_index, String, string_bytes, ◌==◌, if◌then◌else◌}
 use Rattle.std.specs.Map.{lookup, update, keys_of, lookup_key}
 use Rattle.std.specs.Str.{bytes_eq}
@@ -12,6 +12,7 @@ use Rattle.std.proofs.lemmas.Map.Entries.{place_from_lookup, lookup_from_place}
 use Rattle.std.proofs.lemmas.Map.Made.{lookup_key_passes}
 use Rattle.std.proofs.lemmas.Slice.Eq.{bytes_eq-Decides}
 use Rattle.std.proofs.lemmas.Map.Text.{hash_map_updates_text}
+use Rattle.std.proofs.lemmas.Option.{same_Some, none-some}
 use Rattle.indexmap.specs.Layout.{set_value_at}
 use Rattle.indexmap.specs.IndexMap.{with_value_at, values, IsUnique}
 use Rattle.indexmap.proofs.CallerLemmas.{updates-with_value_at}
@@ -22,12 +23,6 @@ use Rattle.string_cache_core.specs.Places.{IsFound}
 use Rattle.string_cache_core.specs.Tables.{Tables, entry_hash}
 use Rattle.string_cache_core.proofs.KeptBytes.{bytes-set}
 
-pub the_same : {X : Type 0} (x y : X) → Some x ≡ Some y → x ≡ y
-the_same x y e = ap (λ o. unwrap_or o x) e
-
-pub none_some : {X : Type 0} {x : X} → None ≡ Some x → ⊥
-none_some e = true≢false (sym (ap is_some e))
-
 -- ---- look-ups
 
 module _ {Y : Type 0} where
@@ -37,15 +32,15 @@ module _ {Y : Type 0} where
   lookup-pairs text (e ∷ es) = ap (λ o. cond (bytes_eq text (string_bytes e.0)) (Some e.1) o) (lookup-pairs text es)
 
   pub at-pairs : (es : List (String Y × Holding)) (at : ℕ) (key : String Y) (v : Holding) → slice_get es at ≡ Some (key, v) → slice_get (pairs_of es) at ≡ Some (string_bytes key, v)
-  at-pairs [] at key v h = absurd (none_some h)
-  at-pairs (e ∷ es) zero key v h = ap (λ x. Some (string_bytes x.0, x.1)) (the_same _ _ h)
+  at-pairs [] at key v h = absurd (none-some _ h)
+  at-pairs (e ∷ es) zero key v h = ap (λ x. Some (string_bytes x.0, x.1)) (same_Some _ _ h)
   at-pairs (e ∷ es) (suc at) key v h = at-pairs es at key v h
 
   -- where a pair stands, an entry stands
   pub entry-at : (es : List (String Y × Holding)) (at : ℕ) (pair : Pair) → slice_get (pairs_of es) at ≡ Some pair
       → (key : String Y) × (slice_get es at ≡ Some (key, pair.1)) × (string_bytes key ≡ pair.0)
-  entry-at [] at pair h = absurd (none_some h)
-  entry-at (e ∷ es) zero pair h = let same = the_same _ _ h in (e.0, ap (λ (v : Holding). Some (e.0, v)) (ap (λ (x : Pair). x.1) same), ap (λ (x : Pair). x.0) same)
+  entry-at [] at pair h = absurd (none-some _ h)
+  entry-at (e ∷ es) zero pair h = let same = same_Some _ _ h in (e.0, ap (λ (v : Holding). Some (e.0, v)) (ap (λ (x : Pair). x.1) same), ap (λ (x : Pair). x.0) same)
   entry-at (e ∷ es) (suc at) pair h = entry-at es at pair h
 
   -- what stands at a place is found by its text
@@ -66,7 +61,7 @@ module _ {Y : Type 0} where
   pub tickets-set : (es : List (String Y × Holding)) (at : ℕ) (pair : Pair) (w : Holding) → w.ticket ≡ pair.1.ticket → slice_get (pairs_of es) at ≡ Some pair
       → tickets_of (pairs_of (set_value_at es at w)) ≡ tickets_of (pairs_of es)
   tickets-set [] at pair w same h = refl
-  tickets-set (e ∷ es) zero pair w same h = ap (λ (t : ℕ). t ∷ tickets_of (pairs_of es)) (same ∙ sym (ap (λ (x : Pair). x.1.ticket) (the_same _ _ h)))
+  tickets-set (e ∷ es) zero pair w same h = ap (λ (t : ℕ). t ∷ tickets_of (pairs_of es)) (same ∙ sym (ap (λ (x : Pair). x.1.ticket) (same_Some _ _ h)))
   tickets-set (e ∷ es) (suc at) pair w same h = ap (λ ts. e.1.ticket ∷ ts) (tickets-set es at pair w same h)
 
   -- what holds of all pairs, and of the new one, holds of all afterwards
@@ -74,15 +69,15 @@ module _ {Y : Type 0} where
       → ((pair : Pair) → slice_get (pairs_of es) at ≡ Some pair → P (pair.0, w))
       → ((j : ℕ) (pair : Pair) → slice_get (pairs_of es) j ≡ Some pair → P pair)
       → (j : ℕ) (pair : Pair) → slice_get (pairs_of (set_value_at es at w)) j ≡ Some pair → P pair
-  all-set P [] at w new old j pair h = absurd (none_some h)
-  all-set P (e ∷ es) zero w new old zero pair h = subst P (the_same _ _ h) (new (string_bytes e.0, e.1) refl)
+  all-set P [] at w new old j pair h = absurd (none-some _ h)
+  all-set P (e ∷ es) zero w new old zero pair h = subst P (same_Some _ _ h) (new (string_bytes e.0, e.1) refl)
   all-set P (e ∷ es) zero w new old (suc j) pair h = old (suc j) pair h
   all-set P (e ∷ es) (suc at) w new old zero pair h = old zero pair h
   all-set P (e ∷ es) (suc at) w new old (suc j) pair h = all-set P es at w new (λ k. old (suc k)) j pair h
 
 pub ticket-there : (pairs : List Pair) (at : ℕ) (pair : Pair) → slice_get pairs at ≡ Some pair → slice_get (tickets_of pairs) at ≡ Some pair.1.ticket
-ticket-there [] at pair h = absurd (none_some h)
-ticket-there (x ∷ xs) zero pair h = ap (λ (x : Pair). Some x.1.ticket) (the_same _ _ h)
+ticket-there [] at pair h = absurd (none-some _ h)
+ticket-there (x ∷ xs) zero pair h = ap (λ (x : Pair). Some x.1.ticket) (same_Some _ _ h)
 ticket-there (x ∷ xs) (suc at) pair h = ticket-there xs at pair h
 
 -- where a text is found, it stands
@@ -94,8 +89,8 @@ stands pairs text v h =
 -- where a ticket stands, a pair of it stands
 pub pair_of_ticket : (pairs : List Pair) (at ticket : ℕ) → slice_get (tickets_of pairs) at ≡ Some ticket
     → (text : List ℕ) × (holders : ℕ) × (slice_get pairs at ≡ Some (text, record { ticket = ticket; holders = holders }))
-pair_of_ticket [] at ticket h = absurd (none_some h)
-pair_of_ticket (x ∷ xs) zero ticket h = (x.0, x.1.holders, ap (λ (t : ℕ). let v : Holding = record { ticket = t; holders = x.1.holders } in Some (x.0, v)) (the_same _ _ h))
+pair_of_ticket [] at ticket h = absurd (none-some _ h)
+pair_of_ticket (x ∷ xs) zero ticket h = (x.0, x.1.holders, ap (λ (t : ℕ). let v : Holding = record { ticket = t; holders = x.1.holders } in Some (x.0, v)) (same_Some _ _ h))
 pair_of_ticket (x ∷ xs) (suc at) ticket h = pair_of_ticket xs at ticket h
 
 -- ---- last serials
@@ -143,8 +138,8 @@ some-pair (x ∷ xs) zero h = (x, refl)
 some-pair (x ∷ xs) (suc at) h = some-pair xs at (omega arith)
 
 pub value-at : {Y : Type 0} (es : List (String Y × Holding)) (j : ℕ) (pair : Pair) → slice_get (pairs_of es) j ≡ Some pair → slice_get (map (λ e. e.1) es) j ≡ Some pair.1
-value-at [] j pair h = absurd (none_some h)
-value-at (e ∷ es) zero pair h = ap (λ (x : Pair). Some x.1) (the_same _ _ h)
+value-at [] j pair h = absurd (none-some _ h)
+value-at (e ∷ es) zero pair h = ap (λ (x : Pair). Some x.1) (same_Some _ _ h)
 value-at (e ∷ es) (suc j) pair h = value-at es j pair h
 
 abbrev pub holds_now : Holding → ℕ → Holding
@@ -161,7 +156,7 @@ module _ {Y S : Type 0} (t : Tables) (lasts : List ℕ) (m n : HashMap (String Y
       buckets = kept.buckets;
       few = kept.few;
       given = all-set (λ pair. IsGiven t (length lasts) (slice_index lasts) pair.0 pair.1) m.entries at (holds_now pair.1 holders)
-          (λ own h. given-held t (length lasts) (slice_index lasts) own.0 own.1 (holds_now pair.1 holders) (ap (λ (p : Pair). p.1.ticket) (the_same _ _ (sym h ∙ there))) some (kept.given at own h)) kept.given;
+          (λ own h. given-held t (length lasts) (slice_index lasts) own.0 own.1 (holds_now pair.1 holders) (ap (λ (p : Pair). p.1.ticket) (same_Some _ _ (sym h ∙ there))) some (kept.given at own h)) kept.given;
       short = all-set (λ pair. length pair.0 < 2 ^ 64) m.entries at (holds_now pair.1 holders) (λ own h. kept.short at own h) kept.short;
       index = kept.index ∙ sym (tickets-set m.entries at pair (holds_now pair.1 holders) refl there);
       counted = kept.counted ∙ sym (bytes-set m.entries at (holds_now pair.1 holders));

@@ -10,13 +10,13 @@ use Rattle.std.specs.HashMap.{HashMap, Updates}
 use Rattle.std.proofs.lemmas.Bool.{eqb-true, eq-eqb, cases_Bool}
 use Rattle.std.proofs.lemmas.List.{length-take, length-map}
 use Rattle.std.proofs.lemmas.List.Sums.{sum_by-swap_remove}
-use Rattle.std.proofs.lemmas.Option.{slice_get-map, slice_get-get_or, slice_get_past, slice_get_within, get_or_from_slice_get}
+use Rattle.std.proofs.lemmas.Option.{slice_get-map, slice_get-get_or, slice_get_past, slice_get_within, get_or_from_slice_get, same_Some, none-some}
 use Rattle.indexmap.proofs.MapLemmas.{swap_remove-default}
 use Rattle.indexmap.proofs.SetLemmas.{map-swap_remove}
 use Rattle.string_cache_core.specs.Map.{Holding}
 use Rattle.string_cache_core.specs.Tables.{Tables}
 use Rattle.string_cache_core.specs.Kept.{Pair, pairs_of, tickets_of, IsGiven, IsKeptTable}
-use Rattle.string_cache_core.proofs.KeptPairs.{the_same, none_some, at-pairs, updates-pairs}
+use Rattle.string_cache_core.proofs.KeptPairs.{at-pairs, updates-pairs}
 
 -- ys is xs, whose last element, at n, came to the place `at` and left its own
 pub record Swapped {X : Type 0} (xs ys : List X) (at n : ℕ) : Type 0 where
@@ -74,7 +74,7 @@ from-where xs ys at n s j x h = (
     inside : j < n
     inside = elim (below j n) [
       | inl less ↦ less
-      | inr more ↦ absurd (none_some (sym (s.past j more) ∙ h))
+      | inr more ↦ absurd (none-some _ (sym (s.past j more) ∙ h))
     ]
       where
         below : (a b : ℕ) → (a < b) ⊎ (b ≤ a)
@@ -143,4 +143,4 @@ pub taken-map : {Y S : Type 0} (m n : HashMap (String Y) Holding S) (at : ℕ) (
     → Updates string_eq m n taken.0 None → (q : List ℕ) → lookup (bytes_eq q) (pairs_of n.entries) ≡ update bytes_eq (λ t. lookup (bytes_eq t) (pairs_of m.entries)) pair.0 None q
 taken-map m n at taken pair entry there updates q =
     updates-pairs m n (string_bytes taken.0) None updates q
-    ∙ ap (λ t. update bytes_eq (λ t. lookup (bytes_eq t) (pairs_of m.entries)) t None q) (ap (λ (x : Pair). x.0) (the_same _ _ (sym (at-pairs m.entries at taken.0 taken.1 entry) ∙ there)))
+    ∙ ap (λ t. update bytes_eq (λ t. lookup (bytes_eq t) (pairs_of m.entries)) t None q) (ap (λ (x : Pair). x.0) (same_Some _ _ (sym (at-pairs m.entries at taken.0 taken.1 entry) ∙ there)))

@@ -7,19 +7,19 @@ use Rattle.std.specs.Map.{lookup, keys_of}
 use Rattle.std.specs.Str.{bytes_eq}
 use Rattle.std.specs.String.{string_eq}
 use Rattle.std.proofs.lemmas.Bool.{eqb-true, eq-eqb, cases_Bool}
-use Rattle.std.proofs.lemmas.Option.{slice_get_within, get_or_from_slice_get}
+use Rattle.std.proofs.lemmas.Option.{slice_get_within, get_or_from_slice_get, same_Some, none-some}
 use Rattle.std.proofs.lemmas.List.Folds.{list_any_at}
 use Rattle.string_cache_core.specs.Bounds.{Bounds}
 use Rattle.string_cache_core.specs.Map.{Holding}
 use Rattle.string_cache_core.specs.Tables.{Tables}
 use Rattle.string_cache_core.specs.Kept.{Pair, pairs_of, IsKeptTable, IsSoundMap}
 use Rattle.string_cache_core.specs.Places.{IsPlace}
-use Rattle.string_cache_core.proofs.KeptPairs.{the_same, none_some, ticket-there, stands, pair_of_ticket, found_at, shows}
+use Rattle.string_cache_core.proofs.KeptPairs.{ticket-there, stands, pair_of_ticket, found_at, shows}
 
 -- an element of a list with one more is an old one or the new one
 pub at-push : {X : Type 0} (xs : List X) (y : X) (at : ℕ) (x : X) → slice_get (xs ++ y ∷ []) at ≡ Some x → (slice_get xs at ≡ Some x) ⊎ ((at ≡ length xs) × (y ≡ x))
-at-push [] y zero x h = inr (refl, the_same _ _ h)
-at-push [] y (suc at) x h = absurd (none_some h)
+at-push [] y zero x h = inr (refl, same_Some _ _ h)
+at-push [] y (suc at) x h = absurd (none-some _ h)
 at-push (z ∷ zs) y zero x h = inl h
 at-push (z ∷ zs) y (suc at) x h = elim (at-push zs y at x h) [
   | inl old ↦ inl old
@@ -41,21 +41,21 @@ is-nowhere (x ∷ xs) ticket none = elim (cases_Bool (nat_eq ticket x)) [
 
 -- the ticket that a look-up finds is the one that was looked for
 found-ticket : (tickets : List ℕ) (ticket stored : ℕ) → find (nat_eq ticket) tickets ≡ Some stored → stored ≡ ticket
-found-ticket [] ticket stored e = absurd (none_some e)
+found-ticket [] ticket stored e = absurd (none-some _ e)
 found-ticket (x ∷ xs) ticket stored e = elim (cases_Bool (nat_eq ticket x)) [
-  | inl same ↦ sym (the_same _ _ (sym (ap (λ b. cond b (Some x) (find (nat_eq ticket) xs)) same) ∙ e)) ∙ sym (eqb-true ticket x same)
+  | inl same ↦ sym (same_Some _ _ (sym (ap (λ b. cond b (Some x) (find (nat_eq ticket) xs)) same) ∙ e)) ∙ sym (eqb-true ticket x same)
   | inr apart ↦ found-ticket xs ticket stored (sym (ap (λ b. cond b (Some x) (find (nat_eq ticket) xs)) apart) ∙ e)
 ]
 
 apart-from : (x : ℕ) (xs : List ℕ) → AllByRecursion (λ y. nat_eq x y ≡ false) xs → (at : ℕ) → slice_get xs at ≡ Some x → ⊥
-apart-from x [] all at h = none_some h
-apart-from x (y ∷ ys) all zero h = true≢false (sym (eq-eqb x y (sym (the_same _ _ h))) ∙ all.0)
+apart-from x [] all at h = none-some _ h
+apart-from x (y ∷ ys) all zero h = true≢false (sym (eq-eqb x y (sym (same_Some _ _ h))) ∙ all.0)
 apart-from x (y ∷ ys) all (suc at) h = apart-from x ys all.1 at h
 
 -- a ticket has one place
 pub one-place : (tickets : List ℕ) (at other ticket : ℕ) → IsDistinct nat_eq tickets → slice_get tickets at ≡ Some ticket → slice_get tickets other ≡ Some ticket → at ≡ other
 unfolding IsDistinct
-one-place [] at other ticket d h k = absurd (none_some h)
+one-place [] at other ticket d h k = absurd (none-some _ h)
 one-place (x ∷ xs) zero zero ticket d h k = refl
 one-place (x ∷ xs) zero (suc other) ticket d h k = absurd (apart-from x xs d.0 other (k ∙ sym h))
 one-place (x ∷ xs) (suc at) zero ticket d h k = absurd (apart-from x xs d.0 at (h ∙ sym k))
@@ -81,7 +81,7 @@ module _ (t : Tables) (lasts : List ℕ) (pairs : List Pair) (tickets : List ℕ
         let b = stands pairs other also k in
         let at : a.0 ≡ b.0 =
         one-place tickets a.0 b.0 had.ticket distinct (ticket-at a.0 (text, had) a.1) (ticket-at b.0 (other, also) b.1 ∙ ap (λ (x : ℕ). Some x) (sym same)) in
-        ap (λ (x : Pair). x.0) (the_same _ _ (sym a.1 ∙ ap (slice_get pairs) at ∙ b.1));
+        ap (λ (x : Pair). x.0) (same_Some _ _ (sym a.1 ∙ ap (slice_get pairs) at ∙ b.1));
   }
 
 module _ {Y : Type 0} (t : Tables) (limits : Bounds) (lasts : List ℕ) (es : List (String Y × Holding)) (tickets : List ℕ) (bytes : ℕ) {bits : ℕ} (kept : IsKeptTable t bits lasts (pairs_of es) tickets bytes) (distinct : IsDistinct string_eq (keys_of es)) where

@@ -16,7 +16,7 @@ use Rattle.string_cache_core.specs.Sound.{At, SoundPass, DiffersFrom, Apart, Sou
 use Rattle.string_cache_core.proofs.StepLists.{at_set_cases, at_push_cases, at_set_same, at_push_old, at_one, bind_case, guard_case, if_case, find-all, all_at, at_set_other, false_is_true}
 use Rattle.string_cache_core.proofs.StepSound.{all_replaced, all_without_party}
 use Rattle.string_cache_core.proofs.StepEntries.{sound_by}
-use Rattle.string_cache_core.proofs.StepHistory.{keeps}
+use Rattle.string_cache_core.proofs.StepHistory.{keeps, not_both}
 use Rattle.string_cache_core.proofs.StepPasses.{of_party, find_passes, none_is}
 use Rattle.string_cache_core.specs.Tables.{Tables, is_dynamic, bucket_of}
 
@@ -194,14 +194,6 @@ module _ (tables : Tables) where
         (λ e. record { entries = Change k x (record x { place = place.UnlinkedBy pass.party }) at refl refl refl (λ l. false_is_true l) (λ l. inr (pass, p, b)) refl; passes = As_they_are refl })
         (λ e. record { entries = Stay refl; passes = Next pass (looks_at pass (suc k)) p refl refl refl })
 
-    own_unlinked : (x : Entry) → is_unlinked_by q x.place ≡ true → is_linked x.place ≡ true → ⊥
-    own_unlinked x u l = clash x.place u l
-      where
-        clash : (at : place.the_data) → is_unlinked_by q at ≡ true → is_linked at ≡ true → ⊥
-        clash place.Linked u l = let f : false ≡ true = u in cc
-        clash (place.UnlinkedBy other) u l = let f : false ≡ true = l in cc
-        clash place.Freed u l = let f : false ≡ true = l in cc
-
     pub goes : (s : Step) → G (step tables w q s)
     goes (TakeIntern t) =
         guard_case G (is_none (pass_of w q) && _ && _) _ _ (nothing _) (λ ok.
@@ -233,7 +225,7 @@ module _ (tables : Tables) where
     goes (Free (suc k)) =
         bind_case G (slice_get w.entries k) _ _ (nothing _) (λ x at.
         guard_case G (is_unlinked_by q x.place) _ _ (nothing _) (λ ok.
-        record { entries = Change k x (record x { place = place.Freed }) at refl refl refl (λ l. false_is_true l) (λ l. absurd (own_unlinked x ok l)) refl; passes = As_they_are refl }))
+        record { entries = Change k x (record x { place = place.Freed }) at refl refl refl (λ l. false_is_true l) (λ l. absurd (not_both q x.place l ok)) refl; passes = As_they_are refl }))
     goes Leave =
         bind_case G (pass_of w q) _ _ (nothing _) (λ pass p.
         guard_case G (is_none pass.wanted && all_looked_at w pass) _ _ (nothing _) (λ ok. record { entries = Stay refl; passes = One_less refl }))

@@ -48,6 +48,12 @@ pub wanted_by-is : (w : World) (party : ℕ) (pass : Pass) (text : List ℕ) →
 wanted_by-is w party pass text p e =
     ap (λ (o : Option Pass). unwrap_or (o >>= λ (q : Pass). q.wanted) []) p ∙ ap (λ (o : Option (List ℕ)). unwrap_or o []) e
 
+-- what a party unlinked isn't linked
+pub not_both : (party : ℕ) (at : Place) → is_linked at ≡ true → is_unlinked_by party at ≡ true → ⊥
+not_both party place.Linked l u = let f : false ≡ true = u in cc
+not_both party (place.UnlinkedBy other) l u = let f : false ≡ true = l in cc
+not_both party place.Freed l u = let f : false ≡ true = l in cc
+
 above : (n : ℕ) → (n == 0) ≡ false → 0 < n
 above zero e = absurd (let f : true ≡ false = e in cc)
 above (suc n) e = omega arith
@@ -407,13 +413,8 @@ module _ (tables : Tables) where
     pub unlinked_counts_zero : (k : ℕ) (x : Entry) → At w.entries k x → is_unlinked_by party x.place ≡ true → x.count ≡ 0
     unlinked_counts_zero k x at u = elim (cases_eq x.count 0) [
       | inl e ↦ e
-      | inr n ↦ absurd (clash x.place (sound.table.linked k x at (omega arith)) u)
+      | inr n ↦ absurd (not_both party x.place (sound.table.linked k x at (omega arith)) u)
     ]
-      where
-        clash : (at : Place) → is_linked at ≡ true → is_unlinked_by party at ≡ true → ⊥
-        clash place.Linked l u = let f : false ≡ true = u in cc
-        clash (place.UnlinkedBy other) l u = let f : false ≡ true = l in cc
-        clash place.Freed l u = let f : false ≡ true = l in cc
 
     free_keeps : (k : ℕ) (x : Entry) → At w.entries k x → is_unlinked_by party x.place ≡ true → Keeps w party (Free (suc k)) (reply.Freed, with_entry w (suc k) (record x { place = place.Freed }))
     unfolding moved

@@ -1,8 +1,8 @@
 -- A pass interns its text once.
 use Rattle.std.proofs.Common.{◌≡◌, ℕ, ◌⊎◌, inl, inr, Bool, true, false, cond, List, [], ◌∷◌, ◌++◌, length, Option, None, Some, refl, sym, ap, ◌∙◌, subst, append_assoc}
 use Rattle.std.specs.Prelude.{◌==◌}
-use Rattle.std.specs.List.{filter}
 use Rattle.std.proofs.lemmas.Bool.{cases_eq}
+use Rattle.std.proofs.lemmas.List.Elements.{filter-append}
 use Rattle.std.proofs.lemmas.Option.{same_Some}
 use Rattle.string_cache_core.specs.declared.steps.Step.{Step}
 use Rattle.string_cache_core.specs.declared.steps.Step.TheVariants.{Leave}
@@ -12,7 +12,6 @@ use Rattle.string_cache_core.specs.World.{Pass, World}
 use Rattle.string_cache_core.specs.Steps.{pass_of, step}
 use Rattle.string_cache_core.specs.Runs.{Made, Event, Leads, call_of, history_of}
 use Rattle.string_cache_core.specs.Theorem.{Stays, event, interned_by, texts_in, text_taken, made_by, own_calls}
-use Rattle.string_cache_core.proofs.StepLists.{if_case}
 use Rattle.string_cache_core.proofs.StepPasses.{Decided, own_event, other_event, took_event, bucket_of_text, leads-append, others_intern_nothing, by_own}
 use Rattle.string_cache_core.proofs.StepPasses as passes
 use Rattle.string_cache_core.specs.Tables.{Tables, bucket_of}
@@ -113,13 +112,6 @@ module _ (tables : Tables) where
         ]
 
   -- ---- the order of calls
-
-  filter-append : (p : Made → Bool) (xs ys : List Made) → filter p (xs ++ ys) ≡ filter p xs ++ filter p ys
-  filter-append p [] ys = refl
-  filter-append p (x ∷ xs) ys =
-      if_case (λ zs. cond (p x) (x ∷ filter p (xs ++ ys)) (filter p (xs ++ ys)) ≡ zs ++ filter p ys) (p x) (x ∷ filter p xs) (filter p xs)
-      (λ e. ap (λ (b : Bool). cond b (x ∷ filter p (xs ++ ys)) (filter p (xs ++ ys))) e ∙ ap (λ (zs : List Made). x ∷ zs) (filter-append p xs ys))
-      (λ e. ap (λ (b : Bool). cond b (x ∷ filter p (xs ++ ys)) (filter p (xs ++ ys))) e ∙ filter-append p xs ys)
 
   made_by-own : (q party : ℕ) (b : Bool) → (q == party) ≡ b → (calls : List Made) → passes.AllBy q calls → made_by party calls ≡ cond b calls []
   made_by-own q party true t [] all = refl
