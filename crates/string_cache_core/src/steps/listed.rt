@@ -103,9 +103,7 @@ impl Listed {
     pub fn all_seen(&self, entries: &[Entry], bucket: u16, looked: &[u64]) -> bool
         ensures { result ≡ list_all (passes_at (looked_at_if_linked bucket looked.now) entries.now) self.now }
     {
-        self.numbers
-            .iter()
-            .all(|number| looked_at_if_linked(entries, *number, bucket, looked))
+        self.numbers.iter().all(|number| looked_at_if_linked(entries, *number, bucket, looked))
     }
 
     // Whether each entry that is linked with the text was found dying.
