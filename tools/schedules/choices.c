@@ -9,7 +9,7 @@ typedef struct {
 } Choice;
 
 static Choice choices[MOST_CHOICES];
-static int given; // so many of them are fixed in the coming run
+static int given; // how many of them are fixed in the coming run
 
 // A choice of one of `of`: the given one, or else the first.
 int choose(int of, Choosing kind) {

@@ -10,7 +10,7 @@ SECONDS = 600  # for one search
 
 @dataclass(frozen=True)
 class Search:
-    """Which schedules are tried: those of at most so many preemptions, or all of them by order; with so many requests for memory
+    """Which schedules are tried: those of at most this number of preemptions, or all of them by order; with a number of requests for memory
     refused in each; or only the one of these choices."""
 
     preemptions: int = 2

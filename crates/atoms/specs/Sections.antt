@@ -15,6 +15,6 @@ pub record AreSections (text : List ℕ) (sections : List Section) : Type 0 wher
   -- the text from a section on has the words of this one and of those behind it
   pub rests : (i : ℕ) (d : Section) → i < length sections → words (get_or sections i d).rest.now ≡ words_of_sections (drop i sections)
 
--- so many words of the text stand before the mark, and the others behind it
+-- as many words of the text as the mark says stand before it, and the others behind it
 abbrev pub IsMark : List ℕ → Mark → Type 0
 IsMark text mark = words mark.rest.now ≡ drop mark.before (words text)

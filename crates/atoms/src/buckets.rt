@@ -3,7 +3,7 @@
 
 use string_cache::word::Buckets;
 
-/// The number of buckets for the words of a text of so many bytes: few for a small one, so that the set is made soon, and more for
+/// The number of buckets for the words of a text with this number of bytes: few for a small one, so that the set is made soon, and more for
 /// a larger one, so that no bucket's list gets long.
 pub fn buckets_for(bytes: usize) -> Buckets {
     let bits = match bytes {

@@ -88,7 +88,7 @@ fn each_read_fails(rt: HostRuntime) {
     }
 }
 
-/// Streams of which each write takes at most so many bytes, and one fails.
+/// Streams of which each write takes no more than `takes` bytes, and one fails.
 fn writing(text: &[u8], takes: usize, write_fails_at: u64) -> Streams<'_> {
     Streams {
         text,
@@ -99,7 +99,7 @@ fn writing(text: &[u8], takes: usize, write_fails_at: u64) -> Streams<'_> {
     }
 }
 
-/// Each write of at most so many bytes fails in turn: then exactly what was taken before is written.
+/// Each write of at most `takes` bytes fails in turn: then exactly what was taken before is written.
 fn fail_each_write<R: Threads + Wait + Sync + Abort>(
     rt: &R,
     alloc: Global,

@@ -56,7 +56,7 @@ pub fn arguments(rt: &(impl Env + AllocGlobal)) -> Result<Option<Vec<String>>, A
 /// What the arguments ask for.
 enum Command {
     Words,
-    /// By so many workers.
+    /// By this number of workers.
     Count(u32),
     Replay,
     /// Tables under this key, with displacements below this bound.

@@ -24,7 +24,7 @@ fn intern_all<'s, R: Wait>(
     Ok(atoms)
 }
 
-/// Times so many threads, each of which interns all texts and holds their atoms until all have ended. Every other one goes
+/// Times this number of threads, each of which interns all texts and holds their atoms until all have ended. Every other one goes
 /// through them in the other order.
 pub fn measure<R: Threads + Wait + Clock + Sync>(
     rt: &R,

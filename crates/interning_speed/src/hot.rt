@@ -47,7 +47,7 @@ struct Hot<'s, R: Wait> {
 }
 
 impl<'s, R: Wait + Clock> Hot<'s, R> {
-    /// Notes that so many calls on so many texts were made since then.
+    /// Notes that `calls` calls on `texts` texts were made since then.
     fn note(
         &mut self,
         name: &'static str,
@@ -128,7 +128,7 @@ fn atoms_of<'s, R: Wait>(
 }
 
 /// Times interning inline, static and held dynamic texts, each with its drop, cloning and dropping, and comparing atoms of one
-/// text and of two: so many rounds of each.
+/// text and of two: this number of rounds of each.
 pub fn measure<R: Wait + Clock>(
     rt: &R,
     set: &Set<Elements>,

@@ -34,13 +34,13 @@ enum Report {
 /// What is timed.
 #[derive(Clone, Copy, PartialEq, Eq)]
 enum Subject {
-    /// The table for one thread, with so many texts.
+    /// The table for one thread, with this number of texts.
     Table,
     /// The set, on a few texts over and over, so often.
     Hot,
-    /// The set, with so many live texts.
+    /// The set, with this number of live texts.
     Live,
-    /// The set, with so many texts, interned by threads at once.
+    /// The set, with this number of texts, interned by threads at once.
     Crowd,
 }
 

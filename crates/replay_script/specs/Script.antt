@@ -67,11 +67,11 @@ limits_line limits = codes "limits " ++ (decimal limits.holders ++ (codes " " ++
 abbrev pub SpellsLimits : List ℕ → Bounds → Type 0
 SpellsLimits line limits = AreBounds limits.holders limits.serials × (line ≡ limits_line limits)
 
--- the line of a number of buckets, which has so many bits
+-- the line of the number of buckets with this number of bits
 abbrev pub buckets_line : ℕ → List ℕ
 buckets_line bits = codes "buckets " ++ decimal bits
 
--- the line spells a number of buckets with so many bits
+-- the line spells the number of buckets with this number of bits
 abbrev pub SpellsBuckets : List ℕ → ℕ → Type 0
 SpellsBuckets line bits = (bits ≤ most_bits) × (line ≡ buckets_line bits)
 

@@ -37,7 +37,7 @@ fn run_steps(
     Ok(())
 }
 
-/// Makes the steps of a text's lines in a world of their own, with so many buckets, and gives the lines of the replies and of
+/// Makes the steps of a text's lines in a world of their own, with these buckets, and gives the lines of the replies and of
 /// what is held then.
 fn output_of(alloc: Global, limits: Limits, buckets: Buckets, text: &str) -> Result<String, Fault>
     requires { AreSteps (script_lines text.now) }

@@ -47,7 +47,7 @@ struct Outcome {
     left: u128,
 }
 
-/// Has so many workers at work in a set, each in a thread of its own, and sweeps the set once.
+/// Has this number of workers at work in a set, each in a thread of its own, and sweeps the set once.
 fn work<R: Threads + Wait + Sync>(
     rt: &R,
     alloc: Global,

@@ -45,7 +45,7 @@ impl<'s, R: Wait> Worker<'s, R> {
         }
     }
 
-    /// Does so many things, and lets all atoms go. How many atoms had another text than theirs.
+    /// Does this number of things, and lets all atoms go. How many atoms had another text than theirs.
     pub fn work(mut self, rounds: u64) -> Result<u64, Fault> {
         for _ in 0..rounds {
             self.act()?;

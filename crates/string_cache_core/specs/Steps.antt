@@ -216,6 +216,6 @@ step t w party s = unwrap_or (step_if t w party s) (reply.No, w)
 abbrev pub IsStep : Tables → World → ℕ → Step → StepReply → World → Type 0
 IsStep t old party s r new = step t old party s ≡ (r, new)
 
--- so many buckets, nothing linked, nothing held, all parties idle
+-- this number of buckets, nothing linked, nothing held, all parties idle
 unfoldable pub opening : Bounds → ℕ → World
 opening limits buckets = record { limits = limits; lasts = replicate buckets 0; entries = []; passes = []; bag = [] }

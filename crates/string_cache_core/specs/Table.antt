@@ -42,7 +42,7 @@ IsFixedWord t word = IsInlineWord word ⊎ IsStaticTextWord t word
 abbrev pub IsHeld : Tables → InternMap → ℕ → Type 0
 IsHeld t m word = IsFixedWord t word ⊎ IsHeldTicket m word
 
--- At least so many hold the word; a word that a text's form fixes is held by any number.
+-- At least n hold the word; a word that a text's form fixes is held by any number.
 abbrev pub IsHeldBy : Tables → InternMap → ℕ → ℕ → Type 0
 IsHeldBy t m word n =
     (n ≡ 0) ⊎ IsFixedWord t word

@@ -39,7 +39,7 @@ pub record IsPerfectTable (t : Tables) : Type 0 where
 unfoldable pub entry_hash : Tables → List ℕ → ℕ
 entry_hash t text = hash_of_hashes (hashes_of text t.key)
 
--- of so many buckets the one that a dynamic text belongs to
+-- the bucket that a dynamic text belongs to, of this number of them
 abbrev pub bucket_of : Tables → ℕ → List ℕ → ℕ
 bucket_of t buckets text = entry_hash t text % buckets
 

@@ -79,7 +79,7 @@ text_taken (Unlink e) = None
 text_taken (Free e) = None
 text_taken Leave = None
 
--- of so many buckets the one that a step takes
+-- the bucket that a step takes, of this number of them
 abbrev pub bucket_taken : Tables → ℕ → Step → Option ℕ
 bucket_taken t buckets (TakeIntern text) = Some (bucket_of t buckets (string_bytes text))
 bucket_taken t buckets (TakeSweep bucket) = Some bucket

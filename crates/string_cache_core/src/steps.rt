@@ -127,7 +127,7 @@ impl<S: StaticAtomSet> World<S> {
         World::with_buckets(alloc, limits, Buckets::usual())
     }
 
-    /// A world with so many buckets, in which nothing is linked, nothing is held, and all parties are idle.
+    /// A world with these buckets, in which nothing is linked, nothing is held, and all parties are idle.
     pub fn with_buckets(alloc: Global, limits: Limits, buckets: Buckets) -> Result<Self, Fault>
         ensures ok { IfOk result (λ world. world ≡ opening limits (2 ^ buckets)) }
         ensures err { OnErr result (result ≡ Err Fault.Memory) }

@@ -77,7 +77,7 @@ impl<S: StaticAtomSet> Table<S> {
         Table::with_buckets(alloc, limits, Buckets::usual())
     }
 
-    /// A table in which nothing is held, with these limits and so many buckets. `Memory` where its buckets find none.
+    /// A table in which nothing is held, with these limits and buckets. `Memory` where its buckets find none.
     pub fn with_buckets(alloc: Global, limits: Limits, buckets: Buckets) -> Result<Self, Fault>
         ensures empty { IfOk result (λ table. map_of table ≡ empty_map (2 ^ buckets)) }
         ensures limits { IfOk result (λ table. table.limits ≡ limits) }
@@ -295,7 +295,7 @@ impl<S: StaticAtomSet> Table<S> {
 
     // ---- changes
 
-    /// Lets so many hold the text at a place.
+    /// Lets this number of holders have the text at a place.
     fn set_holders(&mut self, at: usize, holders: u64)
         requires place { at < length self.old.pairs }
         requires held { 0 < holders }

@@ -200,7 +200,7 @@ impl Model for Buckets {
 }
 
 impl Buckets {
-    /// The number of buckets with so many bits, from 0 to 14. `None` above.
+    /// The number of buckets with this number of bits, from 0 to 14. `None` above.
     pub fn new(bits: u8) -> Option<Buckets>
         ensures range { IsSome result ↔ (bits ≤ most_bits) }
         ensures bits { IfSome result (λ buckets. buckets ≡ bits) }

@@ -44,7 +44,7 @@ fn space_from(bytes: &[u8], start: usize) -> Option<usize>
     None
 }
 
-/// A section has so many bytes, and those up to the next space. A text of fewer isn't worth a thread.
+/// The bytes of a section, which has those up to the next space as well. A text of fewer isn't worth a thread.
 const SECTION: usize = 1 << 16;
 
 /// The text in two parts, cut between words behind the bytes of one section. Where no space is there, the second one is empty.

@@ -11,7 +11,7 @@ use string_cache::dynamic_set::Set;
 /// So often a worker that waits for the other looks again, and yields each time.
 const TURNS: u64 = 1_000_000;
 
-/// Where the first so many pieces meet.
+/// Where the pieces up to a number meet.
 #[derive(Drop)]
 struct Meeting {
     pieces: u32,
@@ -56,7 +56,7 @@ fn digit(piece: u32) -> u64 {
     }
 }
 
-/// Holds each of the first so many pieces in `enter` until all have come, and notes how often each enters and leaves.
+/// Holds each piece up to a number in `enter` until all of them have come, and notes how often each enters and leaves.
 #[derive(Drop)]
 pub struct Together {
     meeting: Meeting,
@@ -97,7 +97,7 @@ impl Gate for Together {
     }
 }
 
-/// Lets the pieces in one after another, in order, and notes where other than so many entries are linked as one leaves: its
+/// Lets the pieces in one after another, in order, and notes where the entries that are linked as one leaves aren't as many as wanted: its
 /// words and those of the pieces before it, all of which are still held.
 #[derive(Drop)]
 pub struct InTurn<'s> {

@@ -88,7 +88,7 @@ fn words_in(text: &str) -> usize
     n
 }
 
-/// How many words each section has, counted in at most so many threads.
+/// How many words each section has, counted in at most `threads` threads.
 fn words_of_each<R: Threads + Sync>(
     rt: &R,
     alloc: Global,
@@ -110,7 +110,7 @@ fn words_of_each<R: Threads + Sync>(
     Ok(numbers)
 }
 
-/// The text with a mark where each section begins, and how many words it has. They are counted in at most so many threads.
+/// The text with a mark where each section begins, and how many words it has. They are counted in at most `threads` threads.
 fn with_marks<'e, R: Threads + Sync>(
     rt: &R,
     alloc: Global,

@@ -41,7 +41,7 @@ fn step_of(alloc: Global, step: Do) -> Result<Step, AllocError> {
     })
 }
 
-// The ticket of a bucket's serial, the bucket being that of the text, one of so many.
+// The ticket of a bucket's serial, the bucket being that of the text among these.
 fn ticket_in(buckets: Buckets, text: &str, serial: u64) -> u64 {
     match form_of_text::<EmptyStaticAtomSet>(text) {
         TextForm::Dynamic(hash) => {

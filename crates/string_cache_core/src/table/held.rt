@@ -46,7 +46,7 @@ impl Held {
         self.holders
     }
 
-    /// Lets so many hold it.
+    /// Lets this number of holders have it.
     pub fn set_holders(&mut self, holders: u64)
         ensures { self.new ≡ record { ticket = self.old.ticket; holders = holders } }
     {
@@ -54,7 +54,7 @@ impl Held {
     }
 }
 
-/// Lets so many hold the text at a place.
+/// Lets this number of holders have the text at a place.
 pub fn write_holders(entries: &mut IndexMap<String, Held>, at: usize, holders: u64)
     requires { at < index_map_len entries.old }
     ensures written { (held : Holding) → slice_get (values entries.old) at ≡ Some held

@@ -190,7 +190,7 @@ fn held(world: &World<EmptyStaticAtomSet>) -> usize {
         .count()
 }
 
-/// Makes a merge's steps in a world, and the calls that they are in a table, both with so many buckets.
+/// Makes a merge's steps in a world, and the calls that they are in a table, both with these buckets.
 fn check_merge(rt: &impl Abort, alloc: Global, buckets: Buckets, merge: u32) {
     let limits = Limits::greatest();
     let steps = steps_of(alloc, merge).expect(rt, "steps");
