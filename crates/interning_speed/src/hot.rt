@@ -47,7 +47,7 @@ struct Hot<'s, R: Wait> {
 }
 
 impl<'s, R: Wait + Clock> Hot<'s, R> {
-    /// Notes that `calls` calls on `texts` texts were made since then.
+    /// Notes the calls on this number of texts since then: how long they took, and how many did what they were made for.
     fn note(
         &mut self,
         name: &'static str,
