@@ -1,5 +1,5 @@
 -- Where a number and a space stand in front, they stand there in one way.
-use Rattle.std.proofs.Common.{◌≡◌, ◌≢◌, ℕ, ◌^◌, ◌<◌, ◌≤◌, List, [], ◌∷◌, ◌++◌, length, get_or, sym, refl, ap, subst, ◌∙◌, arith, suc, drop, codes, decimal, length-append}
+use Rattle.std.proofs.Common.{◌≡◌, ◌≢◌, ℕ, ◌^◌, ◌<◌, ◌≤◌, List, ◌∷◌, ◌++◌, sym, refl, ap, subst, ◌∙◌, arith, codes, decimal}
 use Rattle.std.specs.Prelude.{Option, None, Some, IsSome, IfSome, MatchOption, ◌↔◌}
 use Rattle.std.proofs.lemmas.Fmt.{decimal_injective}
 use Rattle.std.proofs.lemmas.List.{append_cancel_left}
