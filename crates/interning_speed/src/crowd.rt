@@ -1,5 +1,4 @@
 //! Interning by several threads at once.
-#![tactic(auto)]
 
 use crate::phases::Phase;
 use crate::texts::Texts;

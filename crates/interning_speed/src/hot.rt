@@ -1,5 +1,4 @@
 //! The calls of a set on a few texts, over and over.
-#![tactic(auto)]
 
 use crate::elements::Elements;
 use crate::phases::Phase;

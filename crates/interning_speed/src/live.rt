@@ -1,5 +1,4 @@
 //! The calls of a set, beside many live texts.
-#![tactic(auto)]
 
 use crate::phases::Phase;
 use crate::texts::Texts;

@@ -1,5 +1,4 @@
 //! What is timed.
-#![tactic(auto)]
 
 use std::rt::Clock;
 use std::time::{Duration, Instant};

@@ -1,5 +1,4 @@
 //! The calls of the table for one thread.
-#![tactic(auto)]
 
 use crate::phases::Phase;
 use crate::texts::Texts;

@@ -1,5 +1,4 @@
 //! The texts that are interned, and the order in which they are asked for again.
-#![tactic(auto)]
 
 ghost use Rattle.std.specs.Prelude.{◌<◌, ◌≤◌};
 

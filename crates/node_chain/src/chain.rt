@@ -1,4 +1,5 @@
-// The chain: counts over the nodes, and the memory of each.
+//! The chain: counts over the nodes, and the memory of each.
+
 ghost use Rattle.std.specs.Prelude.{◌≡◌, ◌+◌, ◌<◌, ◌^◌, List, [], ◌∷◌, ◌++◌, length, IfOk, IfErr};
 ghost use Rattle.node_chain.specs.Walked.{IsNext, at_start, linked, passed_by, taken_out};
 

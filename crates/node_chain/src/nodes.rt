@@ -1,4 +1,5 @@
-// Nodes that lead to one another, with a place among them. Only this file follows pointers.
+//! Nodes that lead to one another, with a place among them. Only this file follows pointers.
+
 ghost use Rattle.std.specs.Prelude.{◌≡◌, ◌<◌, List, [], ◌∷◌, ◌++◌, length, reverse};
 ghost use denote.RawPtr.{Ptr};
 ghost use Rattle.std_alloc.specs.Box.Ownership.{box_owns};

@@ -1,5 +1,6 @@
-// What no clause says: that memory is found, what becomes of the items at the end, and how deep that goes. All pass also
-// where any one request for memory is refused, as under `rt try --test --fail-alloc N`.
+//! What no clause says: that memory is found, what becomes of the items at the end, and how deep that goes. All pass also
+//! where any one request for memory is refused, as under `rt try --test --fail-alloc N`.
+
 mod packs;
 
 use crate::NodeChain;

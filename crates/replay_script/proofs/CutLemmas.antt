@@ -5,7 +5,7 @@ use Rattle.std.proofs.lemmas.Fmt.{decimal_injective}
 use Rattle.std.proofs.lemmas.List.{append_cancel_left}
 use Rattle.string_cache_core.specs.Bounds.{Bounds, AreBounds}
 use Rattle.string_cache_core.specs.Layout.{most_bits}
-use Rattle.string_cache_core.specs.declared.steps.Step.{Step}
+use Rattle.atomic_steps.specs.declared.steps.Step.{Step}
 use Rattle.replay_script.specs.Script.{HasWords, step_words, Spells, SpellsBuckets, SpellsLimits}
 use Rattle.table_generator.proofs.Cuts.{Lacks, first_byte}
 use Rattle.table_generator.proofs.NumberLemmas.{decimal_byte}

@@ -5,14 +5,14 @@ use Rattle.std.specs.Option.{unwrap_or}
 use Rattle.std.proofs.lemmas.List.{length-set}
 use Rattle.string_cache_core.specs.Bounds.{Bounds}
 use Rattle.string_cache_core.specs.Tables.{Tables}
-use Rattle.string_cache_core.specs.World.{Entry, Pass, World}
-use Rattle.string_cache_core.specs.declared.steps.Step.{Step}
-use Rattle.string_cache_core.specs.declared.steps.Step.TheVariants.{TakeIntern, TakeSweep, Add, Link, Clone, Give, Unlink, Free, Leave}
-use Rattle.string_cache_core.specs.declared.steps.StepReply.{StepReply}
-use Rattle.string_cache_core.specs.declared.steps.StepReply.TheVariants as reply
-use Rattle.string_cache_core.specs.Steps.{step, ◌>>=◌, only_if, pass_of, entry_at, with_entry, take_bucket, add, link, clone, give, unlink, last_of, without_party, opening}
-use Rattle.string_cache_core.specs.Runs.{Event, Leads, Script, events_of}
-use Rattle.string_cache_core.specs.Theorem.{HasRun}
+use Rattle.atomic_steps.specs.World.{Entry, Pass, World}
+use Rattle.atomic_steps.specs.declared.steps.Step.{Step}
+use Rattle.atomic_steps.specs.declared.steps.Step.TheVariants.{TakeIntern, TakeSweep, Add, Link, Clone, Give, Unlink, Free, Leave}
+use Rattle.atomic_steps.specs.declared.steps.StepReply.{StepReply}
+use Rattle.atomic_steps.specs.declared.steps.StepReply.TheVariants as reply
+use Rattle.atomic_steps.specs.Steps.{step, ◌>>=◌, only_if, pass_of, entry_at, with_entry, take_bucket, add, link, clone, give, unlink, last_of, without_party, opening}
+use Rattle.atomic_steps.specs.Runs.{Event, Leads, Script, events_of}
+use Rattle.atomic_steps.specs.Theorem.{HasRun}
 
 bind_case : {A B : Type 0} (P : B → Type 0) (o : Option A) (f : A → Option B) (d : B) → P d → ((x : A) → P (unwrap_or (f x) d)) → P (unwrap_or (o >>= f) d)
 bind_case P None f d none some = none

@@ -7,8 +7,8 @@ use Rattle.std.proofs.lemmas.Str.Pattern.{split_parts, NoCharPasses-char}
 use denote.Ref.{Bor}
 use mir.Val.{bool_byte}
 use Rattle.string_cache_core.specs.Bounds.{Bounds}
-use Rattle.string_cache_core.specs.declared.steps.Step.{Step}
-use Rattle.string_cache_core.specs.Runs.{Script}
+use Rattle.atomic_steps.specs.declared.steps.Step.{Step}
+use Rattle.atomic_steps.specs.Runs.{Script}
 use Rattle.string_cache_core.specs.Layout.{usual_bits}
 use Rattle.replay_script.specs.Script.{cons_first, script_lines, Spells, SpellsBuckets, SpellsLimits, SpellSteps, SpellBody, SpellScript, AreSteps, Takes, StopsAfter, IsFirstBadLine, greatest}
 

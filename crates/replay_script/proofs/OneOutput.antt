@@ -8,13 +8,13 @@ use Rattle.std.proofs.lemmas.List.{append_cancel_left}
 use Rattle.std.proofs.Math.ListN.{get_or-append}
 use Rattle.string_cache_core.specs.Bounds.{Bounds}
 use Rattle.string_cache_core.specs.Tables.{Tables}
-use Rattle.string_cache_core.specs.World.{World}
-use Rattle.string_cache_core.specs.declared.steps.Step.{Step}
-use Rattle.string_cache_core.specs.declared.steps.Step.TheVariants.{TakeIntern, TakeSweep, Add, Link, Clone, Give, Unlink, Free, Leave}
-use Rattle.string_cache_core.specs.declared.steps.StepReply.{StepReply}
-use Rattle.string_cache_core.specs.declared.steps.StepReply.TheVariants as reply
-use Rattle.string_cache_core.specs.Steps.{step, step_if, take_intern_if, opening}
-use Rattle.string_cache_core.specs.Runs.{Leads, Script, events_of}
+use Rattle.atomic_steps.specs.World.{World}
+use Rattle.atomic_steps.specs.declared.steps.Step.{Step}
+use Rattle.atomic_steps.specs.declared.steps.Step.TheVariants.{TakeIntern, TakeSweep, Add, Link, Clone, Give, Unlink, Free, Leave}
+use Rattle.atomic_steps.specs.declared.steps.StepReply.{StepReply}
+use Rattle.atomic_steps.specs.declared.steps.StepReply.TheVariants as reply
+use Rattle.atomic_steps.specs.Steps.{step, step_if, take_intern_if, opening}
+use Rattle.atomic_steps.specs.Runs.{Leads, Script, events_of}
 use Rattle.replay_script.specs.Script.{script_lines, step_words, HasWords, Spells, SpellsBuckets, SpellsLimits, SpellSteps, SpellBody, SpellScript}
 use Rattle.replay_script.specs.Replay.{output_of, IsOutput, IsReplay}
 use Rattle.table_generator.proofs.NumberLemmas.{decimal_byte}

@@ -5,8 +5,8 @@ use Rattle.std.specs.Option.{option_map}
 use Rattle.std.proofs.lemmas.Bool.{eqb-true}
 use Rattle.string_cache_core.specs.Layout.{ticket_unit}
 use Rattle.string_cache_core.specs.Word.{IsTicketWord}
-use Rattle.string_cache_core.specs.World.{Entry, World}
-use Rattle.string_cache_core.specs.Steps.{entry_at}
+use Rattle.atomic_steps.specs.World.{Entry, World}
+use Rattle.atomic_steps.specs.Steps.{entry_at}
 use Rattle.replay_script.specs.Replay.{held_line, held_lines_from, serial_in}
 
 -- a word that is no ticket has no serial

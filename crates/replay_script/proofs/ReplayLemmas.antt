@@ -5,7 +5,7 @@ use Rattle.std.specs.Prelude.{IfOk, Result, Ok, Err, String, string_bytes}
 use Rattle.std.specs.Result.{result_or}
 use Rattle.string_cache_core.specs.Bounds.{Bounds}
 use Rattle.string_cache_core.specs.Layout.{usual_bits}
-use Rattle.string_cache_core.specs.Runs.{Script}
+use Rattle.atomic_steps.specs.Runs.{Script}
 use Rattle.string_cache_core.specs.Tables.{Tables}
 use Rattle.replay_script.specs.Replay.{IsOutput, IsReplay}
 use Rattle.replay_script.specs.Script.{script_lines, greatest, SpellsBuckets, SpellsLimits, SpellSteps, Takes}

@@ -4,12 +4,12 @@ use Rattle.std.specs.List.{flat_map}
 use Rattle.std.proofs.lemmas.Grind.{flat_map-append}
 use Rattle.string_cache_core.specs.Bounds.{Bounds}
 use Rattle.string_cache_core.specs.Tables.{Tables}
-use Rattle.string_cache_core.specs.World.{World}
-use Rattle.string_cache_core.specs.declared.steps.Step.{Step}
-use Rattle.string_cache_core.specs.declared.steps.StepReply.{StepReply}
-use Rattle.string_cache_core.specs.Steps.{opening}
-use Rattle.string_cache_core.specs.Runs.{Event, Leads, Script, events_of}
-use Rattle.string_cache_core.specs.Theorem.{HasRun, IsSoundRun}
+use Rattle.atomic_steps.specs.World.{World}
+use Rattle.atomic_steps.specs.declared.steps.Step.{Step}
+use Rattle.atomic_steps.specs.declared.steps.StepReply.{StepReply}
+use Rattle.atomic_steps.specs.Steps.{opening}
+use Rattle.atomic_steps.specs.Runs.{Event, Leads, Script, events_of}
+use Rattle.atomic_steps.specs.Theorem.{HasRun, IsSoundRun}
 use Rattle.replay_script.specs.Script.{script_lines, Spells, SpellSteps, AreSteps}
 use Rattle.replay_script.specs.Replay.{reply_line, held_lines_from, RunsOn, IsOutput}
 use Rattle.replay_script.proofs.LineLemmas.{spell_more, spell_at, spell_length}

@@ -2,14 +2,14 @@
 use Rattle.std.specs.Prelude.{◌≡◌, ℕ, ◌+◌, ◌/◌, ◌%◌, ◌^◌, ◌==◌, nat_lt, if◌then◌else◌, List, [], ◌∷◌, ◌++◌, length, codes, decimal}
 use Rattle.std.specs.List.{flat_map}
 use Rattle.string_cache_core.specs.Bounds.{Bounds}
-use Rattle.string_cache_core.specs.declared.steps.StepReply.{StepReply}
-use Rattle.string_cache_core.specs.declared.steps.StepReply.TheVariants as reply
+use Rattle.atomic_steps.specs.declared.steps.StepReply.{StepReply}
+use Rattle.atomic_steps.specs.declared.steps.StepReply.TheVariants as reply
 use Rattle.string_cache_core.specs.Layout.{ticket_unit}
 use Rattle.string_cache_core.specs.Tables.{Tables}
-use Rattle.string_cache_core.specs.World.{Entry, World}
-use Rattle.string_cache_core.specs.Steps.{opening}
-use Rattle.string_cache_core.specs.Runs.{Script}
-use Rattle.string_cache_core.specs.Theorem.{HasRun}
+use Rattle.atomic_steps.specs.World.{Entry, World}
+use Rattle.atomic_steps.specs.Steps.{opening}
+use Rattle.atomic_steps.specs.Runs.{Script}
+use Rattle.atomic_steps.specs.Theorem.{HasRun}
 use Rattle.replay_script.specs.Script.{script_lines, SpellScript}
 
 -- the serial of a ticket, and 0 of any other word

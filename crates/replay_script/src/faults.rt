@@ -1,5 +1,4 @@
-// What a script can be refused for.
-#![tactic(auto)]
+//! What a script can be refused for.
 
 ghost use Rattle.std.specs.Prelude.{◌≡◌};
 

@@ -20,8 +20,6 @@ mod line;
 mod print;
 mod replay;
 mod script;
-#[cfg(test)]
-mod tests;
 
 pub use faults::ScriptFault;
 pub use replay::{one_output, replay_text};

@@ -1,13 +1,12 @@
-// The lines that a script's run prints: one for each reply, and one for each entry that is held at its end.
-#![tactic(auto)]
+//! The lines that a script's run prints: one for each reply, and one for each entry that is held at its end.
 
 ghost use Rattle.std.specs.Prelude.{◌≡◌, ◌++◌, ◌<◌, ◌≤◌, ◌^◌, length, string_bytes, OnOk};
 ghost use Rattle.std.specs.List.{flat_map};
 ghost use Rattle.replay_script.specs.Replay.{serial_in, reply_line, held_line, held_lines_from};
 
+use atomic_steps::steps::{StepReply, World};
 use std::alloc::AllocError;
 use string_cache_core::static_sets::EmptyStaticAtomSet;
-use string_cache_core::steps::{StepReply, World};
 use string_cache_core::word::{Form, form_of};
 
 /// The serial of a ticket, and 0 of any other word.

@@ -1,9 +1,8 @@
-// A script's steps, made one after another, and the replies to them.
-#![tactic(auto)]
+//! A script's steps, made one after another, and the replies to them.
 
 ghost use Rattle.std.specs.Prelude.{◌≡◌, ℕ, List, string_bytes, IfOk, OnOk, OnErr};
 ghost use Rattle.string_cache_core.specs.Tables.{empty_tables};
-ghost use Rattle.string_cache_core.specs.Runs.{Script};
+ghost use Rattle.atomic_steps.specs.Runs.{Script};
 ghost use Rattle.replay_script.specs.Script.{script_lines, SpellSteps, AreSteps, IsFirstBadLine};
 ghost use Rattle.replay_script.specs.Replay.{RunsOn, IsOutput, IsReplay};
 
@@ -11,10 +10,10 @@ use crate::faults::ScriptFault;
 use crate::line::step_of_line;
 use crate::print::{append_holders, append_replies};
 use crate::script::{buckets_of, check_steps, limits_of, next_line};
+use atomic_steps::steps::{Step, World};
 use std::alloc::Global;
 use string_cache_core::Fault;
 use string_cache_core::static_sets::EmptyStaticAtomSet;
-use string_cache_core::steps::{Step, World};
 use string_cache_core::word::{Buckets, Limits};
 
 /// The most steps that are kept before they are made.

@@ -1,5 +1,4 @@
-// A script's lines, and what they spell: limits, a number of buckets, and steps.
-#![tactic(auto)]
+//! A script's lines, and what they spell: limits, a number of buckets, and steps.
 
 ghost use Rattle.std.specs.Prelude.{◌≡◌, ◌+◌, ◌^◌, ◌<◌, ◌∷◌, [], length, ℕ, MatchOption, OnOk};
 ghost use Rattle.replay_script.specs.Script.{script_lines, AreSteps, SpellsBuckets, SpellsLimits, Takes, StopsAfter};

@@ -1,5 +1,4 @@
 //! The calls that a thread makes, and what they answer.
-#![tactic(auto)]
 
 use crate::texts::{Case, Word};
 use std::alloc::{AllocError, Global};

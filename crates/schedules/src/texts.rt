@@ -1,5 +1,4 @@
 //! The few texts that threads intern, each in two cases.
-#![tactic(auto)]
 
 /// The case of a text.
 #[derive(Clone, Copy)]

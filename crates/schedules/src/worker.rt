@@ -1,5 +1,4 @@
 //! A thread's atoms, and the calls that it makes one after another.
-#![tactic(auto)]
 
 use crate::calls::{Answer, Call, Done};
 use crate::texts::{Case, Word};

@@ -1,5 +1,4 @@
 //! The few texts that all workers intern.
-#![tactic(auto)]
 
 /// The case of a text.
 #[derive(Clone, Copy)]

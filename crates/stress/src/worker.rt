@@ -1,5 +1,4 @@
 //! A worker: its atoms, and what it does with them.
-#![tactic(auto)]
 
 ghost use Rattle.std.specs.Prelude.{◌<◌, length};
 

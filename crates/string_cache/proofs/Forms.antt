@@ -11,7 +11,7 @@ use Rattle.string_cache_core.specs.declared.static_sets.TextForm.TheVariants.{In
 use Rattle.string_cache_core.specs.Tables.{Tables, IsPerfectTable, IsStaticIndex, form_of_text, is_static_form, place_in, text_at}
 use Rattle.string_cache_core.specs.Word.{IsInlineText, inline_word}
 use Rattle.string_cache_core.proofs.TableLemmas.{placed_static}
-use Rattle.string_cache_core.proofs.Unpacking.{inline_word_same}
+use Rattle.string_cache_core.proofs.words.Unpacking.{inline_word_same}
 
 static_by : (long listed : Bool) (place word hash index : ℕ) → (let form : TextForm = if long then (if listed then Static place else Dynamic hash) else Inline word in form) ≡ Static index
     → (listed ≡ true) × (place ≡ index)

@@ -1,6 +1,6 @@
 //! Interned strings: sets of texts that threads share, and the atoms that borrow them. The words, hashes, static tables,
-//! the table for one thread and the core of atomic steps of `string_cache_core` stand here as well, all under the names of
-//! Rust's `string_cache` 0.11.0.
+//! the table for one thread of `string_cache_core` and the core of atomic steps of `atomic_steps` stand here as well, all under
+//! the names of Rust's `string_cache` 0.11.0.
 #![tactic(auto)]
 
 pub mod atom;
@@ -12,5 +12,6 @@ mod tests;
 pub mod trivial_impls;
 
 pub use atom::{Atom, DefaultAtom};
+pub use atomic_steps::steps;
 pub use string_cache_core::static_sets::{EmptyStaticAtomSet, PhfStrSet, StaticAtomSet};
-pub use string_cache_core::{Fault, phf, static_sets, steps, table, word};
+pub use string_cache_core::{Fault, phf, static_sets, table, word};

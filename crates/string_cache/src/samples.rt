@@ -1,5 +1,4 @@
-// What tests of this crate share: a static type, hashes, and numbers of buckets.
-#![tactic(auto)]
+//! What tests of this crate share: a static type, hashes, and numbers of buckets.
 
 ghost use Rattle.std.specs.Prelude.{◌≡◌};
 ghost use Rattle.string_cache_core.specs.Tables.{entry_hash};

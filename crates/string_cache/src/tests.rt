@@ -1,5 +1,4 @@
-// What no contract says: words and texts that come from outside, and sets that threads share.
-#![tactic(auto)]
+//! What no contract says: words and texts that come from outside, and sets that threads share.
 
 mod crowds;
 

@@ -8,8 +8,8 @@ use Rattle.string_cache_core.specs.Map.{InternMap}
 use Rattle.string_cache_core.specs.Table.{AreHeld, HasWord, HasWordBy, IsHeld, IsTextOf}
 use Rattle.string_cache_core.specs.Tables.{Tables, fixed_word, form_of_text}
 use Rattle.string_cache_core.specs.Word.{IsInlineText, IsInlineWord, inline_word}
-use Rattle.string_cache_core.proofs.CallsKeep.{listed-held}
-use Rattle.string_cache_core.proofs.WordsApart.{has}
+use Rattle.string_cache_core.proofs.calls.Keep.{listed-held}
+use Rattle.string_cache_core.proofs.calls.WordsApart.{has}
 
 -- no word is listed at first
 pub none-listed : (t : Tables) (m : InternMap) → AreHeld t m []

@@ -1,5 +1,4 @@
-// What a call may be refused for.
-#![tactic(auto)]
+//! What a call may be refused for.
 
 ghost use Rattle.std.specs.Prelude.{◌≡◌};
 ghost use Rattle.string_cache_core.specs.Faults.{fault_number};

@@ -1,4 +1,4 @@
-//! The pure core of `string_cache`: words, hashes, static tables, the table for one thread, and the core of atomic steps.
+//! The pure core of `string_cache`: words, hashes, static tables, and the table for one thread.
 #![tactic(auto)]
 
 mod faults;
@@ -6,10 +6,7 @@ pub mod phf;
 #[doc(hidden)]
 pub mod samples;
 pub mod static_sets;
-pub mod steps;
 pub mod table;
-#[cfg(test)]
-mod tests;
 pub mod word;
 
 pub use faults::Fault;

@@ -1,6 +1,5 @@
 //! The hash of a text (SipHash: Aumasson and Bernstein, 2012), and the place that it gives the text in static tables
 //! (hash, displace and compress: Belazzougui, Botelho and Dietzfelbinger, 2009).
-#![tactic(auto)]
 
 ghost use Rattle.std.specs.Prelude.{◌≡◌, ◌+◌, ◌*◌, ◌/◌, ◌%◌, ◌^◌, ◌<◌, ◌≤◌, drop, length};
 ghost use Rattle.string_cache_core.specs.Word.{bytes_value};

@@ -1,5 +1,4 @@
-// Static types for the tests of this crate and of those above it, and for nothing else.
-#![tactic(auto)]
+//! Static types for the tests of this crate and of those above it, and for nothing else.
 
 use crate::static_sets::{PhfStrSet, StaticAtomSet};
 

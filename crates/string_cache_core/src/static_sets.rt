@@ -1,5 +1,4 @@
 //! Static tables of texts, and the form that they give a text.
-#![tactic(auto)]
 
 ghost use Rattle.std.specs.Prelude.{◌≡◌, ◌↔◌, IfSome, IsSome, IsTrue};
 ghost use Rattle.string_cache_core.specs.Parts.{parts};

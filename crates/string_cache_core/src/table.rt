@@ -1,5 +1,4 @@
 //! The table of texts for one thread.
-#![tactic(auto)]
 
 ghost use Rattle.std.specs.Prelude.{IsTrue, ◌≡◌, ◌≢◌, ℕ, ◌∷◌, ◌++◌, ◌+◌, ◌-◌, ◌^◌, ◌%◌, ◌<◌, ◌≤◌, ◌⊎◌, OnOk, OnErr, IfOk, IfErr, IfSome, IsSome, MatchOption, Option, None, Some, slice_get, length, List, ◌↔◌};
 ghost use Rattle.string_cache_core.specs.Bounds.{Bounds};
@@ -18,8 +17,6 @@ ghost use Rattle.string_cache_core.specs.declared.static_sets.TextForm.TheVarian
 
 mod call;
 mod held;
-#[cfg(test)]
-mod tests;
 
 use crate::Fault;
 use crate::static_sets::{StaticAtomSet, TextForm, form_of_text, static_text};

@@ -1,5 +1,4 @@
 //! The word of an atom: an inline text, an index into static tables, or a ticket.
-#![tactic(auto)]
 
 ghost use Rattle.std.specs.Prelude.{◌≡◌, ℕ, ◌-◌, ◌%◌, ◌^◌, ◌<◌, ◌≤◌, ◌↔◌, length, IsSome, IfSome};
 ghost use Rattle.string_cache_core.specs.Bounds.{AreBounds};

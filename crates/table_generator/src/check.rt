@@ -1,5 +1,4 @@
 //! Tables from their printed form, checked.
-#![tactic(auto)]
 
 ghost use Rattle.std.specs.Prelude.{◌≡◌, ◌≢◌, ◌^◌, ◌<◌, ◌++◌, ◌↔◌, ℕ, List, IfOk, IfErr, IsTrue, MatchOption, codes, decimal};
 ghost use Rattle.string_cache_core.specs.declared.faults.Fault.{Fault};

@@ -1,5 +1,4 @@
-// Displacements for all texts: one pair after another is settled, against the places that are taken by then.
-#![tactic(auto)]
+//! Displacements for all texts: one pair after another is settled, against the places that are taken by then.
 
 ghost use Rattle.std.specs.Prelude.{◌≡◌, ◌<◌, ◌≤◌, ◌^◌, ◌∷◌, [], ℕ, IfOk, IfSome, length};
 ghost use Rattle.table_generator.specs.Grouped.{AreGrouped, IsRunEnd};

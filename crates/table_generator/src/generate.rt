@@ -2,7 +2,6 @@
 //!
 //! Each text belongs to the pair of displacements that its hash `g` picks. Pairs with more texts are settled first; for a pair
 //! one displacement after another is tried against the places that are taken by then, and nothing that was settled changes.
-#![tactic(auto)]
 
 ghost use Rattle.std.specs.Prelude.{◌≡◌, ◌<◌, ◌≤◌, ◌%◌, ◌^◌, ◌⊎◌, ℕ, IfOk, IfSome, length};
 ghost use Rattle.std.specs.Bool.{OnTrue, OnFalse};

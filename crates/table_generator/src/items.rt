@@ -1,5 +1,4 @@
-// Texts in the order in which they are settled, and then in that of their places.
-#![tactic(auto)]
+//! Texts in the order in which they are settled, and then in that of their places.
 
 ghost use Rattle.std.specs.Prelude.{◌≡◌, ◌<◌, ◌≤◌, ◌^◌, ℕ, List, IfOk, length, map};
 ghost use Rattle.std.specs.List.{All};

@@ -1,5 +1,4 @@
 //! Numbers as scripts and table texts spell them: decimal, without sign or leading zeros.
-#![tactic(auto)]
 
 ghost use Rattle.std.specs.Prelude.{◌≡◌, ◌≢◌, ℕ, ◌^◌, ◌<◌, ◌≤◌, ◌++◌, length, slice_index, decimal, MatchOption};
 ghost use Rattle.std.specs.Bool.{OnTrue, OnFalse};

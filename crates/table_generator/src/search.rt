@@ -1,5 +1,4 @@
-// The search for one pair of displacements: it has to give its texts places that are free, each another one.
-#![tactic(auto)]
+//! The search for one pair of displacements: it has to give its texts places that are free, each another one.
 
 ghost use Rattle.std.specs.Prelude.{◌≡◌, ◌<◌, ◌≤◌, ◌^◌, ◌↔◌, IsTrue, MatchOption, length};
 ghost use Rattle.std.specs.Bool.{OnTrue, OnFalse};

@@ -1,5 +1,4 @@
 //! Static tables of one's own, and what making them can fail with.
-#![tactic(auto)]
 
 ghost use Rattle.std.specs.Prelude.{◌≡◌};
 

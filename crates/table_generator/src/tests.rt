@@ -1,5 +1,4 @@
-// What no contract says: lists that are placed, and texts that come from outside.
-#![tactic(auto)]
+//! What no contract says: lists that are placed, and texts that come from outside.
 
 use crate::check::check_tables;
 use crate::generate::generate;

@@ -1,5 +1,4 @@
-// A static type over generated tables.
-#![tactic(auto)]
+//! A static type over generated tables.
 
 ghost use Rattle.std.specs.Prelude.{[], ◌∷◌, codes};
 

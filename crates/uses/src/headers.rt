@@ -1,4 +1,5 @@
-// Names in small letters.
+//! Names in small letters.
+
 ghost use Rattle.std.specs.Prelude.{◌≡◌, IfOk};
 ghost use Rattle.std.specs.Str.{str_to_ascii_lowercase};
 

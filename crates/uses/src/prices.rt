@@ -1,4 +1,5 @@
-// A map whose keys are atoms.
+//! A map whose keys are atoms.
+
 ghost use Rattle.std.specs.Prelude.{◌≡◌, ◌≢◌, ℕ, List, OnOk, Some};
 ghost use Rattle.uses.specs.Prices.{price_in};
 

@@ -1,4 +1,5 @@
-// A set that threads share.
+//! A set that threads share.
+
 ghost use Rattle.std.specs.Prelude.{◌≡◌, ◌↔◌, IfOk, IsTrue};
 
 use std::alloc::Global;

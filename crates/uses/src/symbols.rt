@@ -1,4 +1,5 @@
-// The names of a program, for one thread.
+//! The names of a program, for one thread.
+
 ghost use Rattle.std.specs.Prelude.{◌≡◌, ◌↔◌, ℕ, List, IfOk, IfSome, IsSome, IsTrue, string_bytes};
 ghost use Rattle.string_cache_core.specs.Kept.{map_of};
 ghost use Rattle.string_cache_core.specs.Table.{AreHeld, HasWord, IsHeld};

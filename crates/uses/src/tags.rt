@@ -1,4 +1,5 @@
-// A static type of one's own.
+//! A static type of one's own.
+
 ghost use Rattle.std.specs.Prelude.{◌≡◌, ◌<◌, ◌⊎◌, ◌↔◌, codes, length, IsTrue};
 ghost use Rattle.std.specs.List.{All, Contains};
 ghost use Rattle.string_cache_core.specs.Tables.{IsPerfectTable, form_of_text, is_static_form};

@@ -1,4 +1,5 @@
-// Packs: each call once, and what becomes of the items at the end.
+//! Packs: each call once, and what becomes of the items at the end.
+
 use super::{Mark, five, followed};
 use crate::Pack;
 use std::sync::atomic::{AtomicU64, Ordering};

@@ -1,4 +1,5 @@
-// Atoms in another case.
+//! Atoms in another case.
+
 ghost use Rattle.std.specs.Prelude.{◌≡◌, ◌↔◌, IfErr, IfOk, IsTrue, length, string_bytes};
 ghost use Rattle.std.specs.Str.{IsUtf8, str_to_ascii_lowercase, str_to_ascii_uppercase};
 

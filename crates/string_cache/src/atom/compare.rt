@@ -1,4 +1,5 @@
-// How atoms compare with each other and with texts, and what they hash as.
+//! How atoms compare with each other and with texts, and what they hash as.
+
 ghost use Rattle.std.proofs.Common.{rules};
 ghost use Rattle.std.specs.Cmp.{on_po, on_total};
 ghost use Rattle.std.specs.Cmp.Lexicographic.{nat_list_cmp_total, slice_cmp, texts_po, texts_ties};

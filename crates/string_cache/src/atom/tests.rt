@@ -1,4 +1,5 @@
-// Orders, hashes and cases with values that come from outside, and atoms as keys of maps.
+//! Orders, hashes and cases with values that come from outside, and atoms as keys of maps.
+
 use super::{Atom, DefaultAtom};
 use crate::Fault;
 use crate::dynamic_set::Set;

@@ -1,4 +1,5 @@
-// A bucket: what one lock holds.
+//! A bucket: what one lock holds.
+
 ghost use Rattle.std.specs.Prelude.{◌≡◌, ◌<◌, [], length, IfOk, IfErr, Some, None};
 ghost use Rattle.std.specs.List.{AllByRecursion};
 ghost use Rattle.string_cache_core.specs.Tables.{entry_hash};

@@ -1,4 +1,5 @@
-// What a pass asks of the entries' counts.
+//! What a pass asks of the entries' counts.
+
 use super::share::{Entry, Share};
 use std::sync::Wait;
 

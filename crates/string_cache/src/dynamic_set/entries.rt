@@ -1,4 +1,5 @@
-// The entries of a bucket, with a place in them. Only this file knows how they are kept.
+//! The entries of a bucket, with a place in them. Only this file knows how they are kept.
+
 ghost use Rattle.std.specs.Prelude.{◌≡◌, ◌+◌, ◌<◌, ◌∷◌, ◌++◌, [], length, IfOk, IfErr};
 ghost use Rattle.node_chain.specs.Walked.{IsNext, at_start, passed_by, taken_out};
 

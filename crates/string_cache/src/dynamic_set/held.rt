@@ -1,4 +1,5 @@
-// A share with its set: what a dynamic atom holds.
+//! A share with its set: what a dynamic atom holds.
+
 ghost use Rattle.std.specs.Prelude.{◌≡◌, ◌↔◌, IfErr, IfOk, IsTrue};
 
 use super::set::Set;

@@ -1,4 +1,5 @@
-// The set: buckets behind locks.
+//! The set: buckets behind locks.
+
 ghost use Rattle.std.specs.Prelude.{◌≡◌, ◌-◌, IfOk, IfErr};
 ghost use Rattle.string_cache_core.specs.Faults.{IsInternFault};
 ghost use Rattle.string_cache_core.specs.Layout.{holder_bound, serial_bound, usual_bits};

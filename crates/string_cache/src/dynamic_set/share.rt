@@ -1,4 +1,5 @@
-// Counted entries, and the shares of them.
+//! Counted entries, and the shares of them.
+
 ghost use Rattle.std.specs.Prelude.{◌≡◌, ◌≤◌, ◌<◌, ◌↔◌, IsTrue, IfOk};
 ghost use Rattle.string_cache_core.specs.Layout.{holder_bound};
 ghost use Rattle.string_cache.specs.Counted.{IfAdded};

@@ -1,4 +1,5 @@
-// One bucket: passes with counts that are made up, its shares, and its serials.
+//! One bucket: passes with counts that are made up, its shares, and its serials.
+
 mod bits;
 mod holders;
 mod links;

@@ -1,4 +1,5 @@
-// Texts of one bucket, and many workers at them.
+//! Texts of one bucket, and many workers at them.
+
 use crate::dynamic_set::Set;
 use crate::samples::{bucket_numbers, hash_of};
 use crate::static_sets::EmptyStaticAtomSet;

@@ -1,4 +1,5 @@
-// What atoms tell and print, with values that come from outside, and atoms of JSON texts.
+//! What atoms tell and print, with values that come from outside, and atoms of JSON texts.
+
 use super::PrecomputedHash;
 use crate::dynamic_set::Set;
 use crate::samples::One;

@@ -1,5 +1,4 @@
 //! The calls of a table, and its replies.
-#![tactic(auto)]
 
 ghost use Rattle.std.specs.Prelude.{◌≡◌};
 

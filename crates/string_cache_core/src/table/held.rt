@@ -1,5 +1,4 @@
 //! What a table keeps of a text.
-#![tactic(auto)]
 
 ghost use Rattle.std.specs.Prelude.{◌≡◌, ◌<◌, Some, slice_get};
 ghost use Rattle.indexmap.specs.IndexMap.{with_value_at, IsUnique, index_map_len, values};

@@ -1,5 +1,6 @@
-// Sets of each number of buckets. The low bits of the hash of "interned" are 0x7210, and a word is its serial times 0x10000 and its
-// bucket times 4.
+//! Sets of each number of buckets. The low bits of the hash of "interned" are 0x7210, and a word is its serial times 0x10000 and its
+//! bucket times 4.
+
 use crate::DefaultAtom;
 use crate::dynamic_set::Set;
 use crate::samples::{bucket_numbers, hash_of};

@@ -1,4 +1,5 @@
-// Holders up to their limit, and what is left of them.
+//! Holders up to their limit, and what is left of them.
+
 use crate::dynamic_set::Set;
 use crate::static_sets::EmptyStaticAtomSet;
 use crate::word::{Limits, ticket_word};

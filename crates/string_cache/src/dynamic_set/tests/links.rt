@@ -1,4 +1,5 @@
-// Links for which there is no memory, and a great number of them in one bucket.
+//! Links for which there is no memory, and a great number of them in one bucket.
+
 use super::{Fake, link, tickets};
 use crate::dynamic_set::{Bucket, Set};
 use crate::static_sets::EmptyStaticAtomSet;

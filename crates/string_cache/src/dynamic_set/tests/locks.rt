@@ -1,5 +1,6 @@
-// Buckets' locks that are held meanwhile, and what stays linked. By OpenSSL's SipHash the bucket of "afterwards" is 0, of
-// "geometric" 0xfff, and of "forgotten" and "magnitude" 0x72f.
+//! Buckets' locks that are held meanwhile, and what stays linked. By OpenSSL's SipHash the bucket of "afterwards" is 0, of
+//! "geometric" 0xfff, and of "forgotten" and "magnitude" 0x72f.
+
 use crate::dynamic_set::{Bucket, Set};
 use crate::samples::One;
 use crate::static_sets::EmptyStaticAtomSet;

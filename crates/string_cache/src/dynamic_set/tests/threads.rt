@@ -1,4 +1,5 @@
-// Threads at work on one set, and on one atom.
+//! Threads at work on one set, and on one atom.
+
 use crate::dynamic_set::Set;
 use crate::static_sets::EmptyStaticAtomSet;
 use crate::word::Limits;

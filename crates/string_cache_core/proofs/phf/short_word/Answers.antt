@@ -1,5 +1,5 @@
 use Rattle.std.proofs.Common.{◌∙◌, length, refl}
-use Rattle.string_cache_core.proofs.SipWords.{last_word}
+use Rattle.string_cache_core.proofs.words.SipWords.{last_word}
 use Rattle.string_cache_core.proofs.phf.short_word.Goals as goal
 
 pub returns : goal.returns

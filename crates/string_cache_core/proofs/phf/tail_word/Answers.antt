@@ -1,6 +1,6 @@
 use Rattle.std.proofs.Common.{◌≡◌, ◌-◌, ◌*◌, ◌/◌, ◌^◌, ap, ◌∙◌, drop, rules, arith}
 use Rattle.string_cache_core.specs.Word.{bytes_value}
-use Rattle.string_cache_core.proofs.SipWords.{tail_value}
+use Rattle.string_cache_core.proofs.words.SipWords.{tail_value}
 use Rattle.string_cache_core.proofs.phf.tail_word.Goals as goal
 
 pub returns : goal.returns

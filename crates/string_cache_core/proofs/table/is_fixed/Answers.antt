@@ -4,7 +4,7 @@ use Rattle.std.proofs.lemmas.Bool.{false≢true}
 use Rattle.string_cache_core.specs.declared.word.Form.{Form}
 use Rattle.string_cache_core.specs.Form.{IsFormOf}
 use Rattle.string_cache_core.specs.Tables.{IsStaticIndex}
-use Rattle.string_cache_core.proofs.HeldWords.{fixed-if-static, not-fixed-if-ticket, not-fixed-unless-word}
+use Rattle.string_cache_core.proofs.calls.HeldWords.{fixed-if-static, not-fixed-if-ticket, not-fixed-unless-word}
 use Rattle.string_cache_core.proofs.table.is_fixed.Goals as goal
 
 pub returns-in-Some-Static : goal.returns-in-Some-Static

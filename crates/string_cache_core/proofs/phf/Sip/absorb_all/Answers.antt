@@ -3,8 +3,8 @@ use Rattle.std.proofs.Math.Seq.{take-length}
 use Rattle.std.specs.Simd.{first_chunks}
 use Rattle.string_cache_core.specs.Word.{bytes_value}
 use Rattle.string_cache_core.specs.Phf.{absorb}
-use Rattle.string_cache_core.proofs.BytesValue.{from_le_bytes-bytes_value}
-use Rattle.string_cache_core.proofs.SipWords.{chunk_length, word_more, fold-append_one}
+use Rattle.string_cache_core.proofs.words.BytesValue.{from_le_bytes-bytes_value}
+use Rattle.string_cache_core.proofs.words.SipWords.{chunk_length, word_more, fold-append_one}
 use Rattle.string_cache_core.proofs.phf.Sip.absorb_all.Goals as goal
 
 pub loop-word-preserved : goal.loop-word-preserved

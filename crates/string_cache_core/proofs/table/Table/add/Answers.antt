@@ -10,9 +10,9 @@ use Rattle.string_cache_core.specs.Tables.{entry_hash}
 use Rattle.string_cache_core.specs.Word.{ticket_of}
 use Rattle.string_cache_core.specs.Kept.{Kept, Pair, pairs_of, map_of, IsKeptTable}
 use Rattle.string_cache_core.proofs.BucketCounts.{bucket-below, bucket-within}
-use Rattle.string_cache_core.proofs.KeptBytes.{bytes-fit, text-fits}
-use Rattle.string_cache_core.proofs.KeptPairs.{map-with-last, kept-moved}
-use Rattle.string_cache_core.proofs.KeptAdding.{pairs-pushed, kept-added, added-map}
+use Rattle.string_cache_core.proofs.kept.Bytes.{bytes-fit, text-fits}
+use Rattle.string_cache_core.proofs.kept.Pairs.{map-with-last, kept-moved}
+use Rattle.string_cache_core.proofs.kept.Adding.{pairs-pushed, kept-added, added-map}
 use Rattle.string_cache_core.proofs.table.Table.add.Goals as goal
 
 pub invariant_of-self-in_err-reserve-2 : goal.invariant_of-self-in_err-reserve-2

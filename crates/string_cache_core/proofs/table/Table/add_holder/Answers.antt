@@ -1,7 +1,7 @@
 use Rattle.std.proofs.Common.{◌∙◌, ap, sym, arith, ℕ, ◌+◌, Some}
 use Rattle.string_cache_core.specs.Map.{Holding, with_held}
 use Rattle.string_cache_core.specs.Kept.{Kept, map_of}
-use Rattle.string_cache_core.proofs.Replies.{full, one_holder_more}
+use Rattle.string_cache_core.proofs.calls.Replies.{full, one_holder_more}
 use Rattle.string_cache_core.proofs.table.Table.add_holder.Goals as goal
 
 pub returns-then-holders-clause-adds : goal.returns-then-holders-clause-adds

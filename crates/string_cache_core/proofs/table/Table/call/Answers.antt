@@ -4,7 +4,7 @@ use Rattle.string_cache_core.specs.declared.table.call.Call.{Call}
 use Rattle.string_cache_core.specs.declared.table.call.TableReply.TheVariants as reply
 use Rattle.string_cache_core.specs.Calls.{Answers}
 use Rattle.string_cache_core.specs.Kept.{map_of}
-use Rattle.string_cache_core.proofs.Replies.{as_held, cloned-ticket}
+use Rattle.string_cache_core.proofs.calls.Replies.{as_held, cloned-ticket}
 use Rattle.string_cache_core.proofs.table.Table.call.Goals as goal
 
 pub returns-in-Some-clause-answers : goal.returns-in-Some-clause-answers

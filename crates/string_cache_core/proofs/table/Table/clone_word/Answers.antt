@@ -1,10 +1,10 @@
 use Rattle.std.proofs.Common.{refl, inl, Ok}
 use Rattle.std.proofs.lemmas.Option.{slice_get_within}
 use Rattle.string_cache_core.specs.Kept.{map_of}
-use Rattle.string_cache_core.proofs.CallsKeep.{cloned-word, cloned-held, cloned-listed, clones-grow, grows-keeps, grows-same}
-use Rattle.string_cache_core.proofs.HeldWords.{fixed-unless-ticket}
-use Rattle.string_cache_core.proofs.Replies.{as_held, cloned-ticket}
-use Rattle.string_cache_core.proofs.WordsApart.{one-text-each}
+use Rattle.string_cache_core.proofs.calls.Keep.{cloned-word, cloned-held, cloned-listed, clones-grow, grows-keeps, grows-same}
+use Rattle.string_cache_core.proofs.calls.HeldWords.{fixed-unless-ticket}
+use Rattle.string_cache_core.proofs.calls.Replies.{as_held, cloned-ticket}
+use Rattle.string_cache_core.proofs.calls.WordsApart.{one-text-each}
 use Rattle.string_cache_core.proofs.table.Table.clone_word.Goals as goal
 
 pub add_holder-outcome-requires : goal.add_holder-outcome-requires

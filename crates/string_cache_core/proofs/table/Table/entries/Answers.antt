@@ -3,7 +3,7 @@ use Rattle.std.specs.List.{IsDistinct}
 use Rattle.std.specs.Map.{keys_of}
 use Rattle.std.specs.Str.{bytes_eq}
 use Rattle.string_cache_core.specs.Kept.{Kept}
-use Rattle.string_cache_core.proofs.KeptBytes.{distinct-texts}
+use Rattle.string_cache_core.proofs.kept.Bytes.{distinct-texts}
 use Rattle.string_cache_core.proofs.table.Table.entries.Goals as goal
 
 pub returns-clause-distinct : goal.returns-clause-distinct

@@ -4,8 +4,8 @@ use Rattle.std.specs.Str.{bytes_eq}
 use Rattle.string_cache_core.specs.Map.{Holding}
 use Rattle.string_cache_core.specs.Kept.{Kept, map_of}
 use Rattle.string_cache_core.specs.Places.{IsFound}
-use Rattle.string_cache_core.proofs.HeldWords.{short-not-held}
-use Rattle.string_cache_core.proofs.KeptPairs.{lookup-pairs, found-is}
+use Rattle.string_cache_core.proofs.calls.HeldWords.{short-not-held}
+use Rattle.string_cache_core.proofs.kept.Pairs.{lookup-pairs, found-is}
 use Rattle.string_cache_core.proofs.table.Table.find.Goals as goal
 
 pub returns-then-text-le7 : goal.returns-then-text-le7

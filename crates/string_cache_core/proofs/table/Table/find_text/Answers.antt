@@ -5,7 +5,7 @@ use Rattle.string_cache_core.specs.declared.word.Form.{Form}
 use Rattle.string_cache_core.specs.Form.{IsFormOf}
 use Rattle.string_cache_core.specs.Kept.{map_of}
 use Rattle.string_cache_core.specs.Table.{IsTextOf}
-use Rattle.string_cache_core.proofs.HeldWords.{no-text-unless-word, no-text-if-inline, text-if-static, text-if-ticket}
+use Rattle.string_cache_core.proofs.calls.HeldWords.{no-text-unless-word, no-text-if-inline, text-if-static, text-if-ticket}
 use Rattle.string_cache_core.proofs.table.Table.find_text.Goals as goal
 
 pub returns-in_err-form_of : goal.returns-in_err-form_of

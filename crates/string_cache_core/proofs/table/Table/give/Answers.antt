@@ -1,9 +1,9 @@
 use Rattle.std.proofs.Common.{refl, inl}
 use Rattle.std.proofs.lemmas.Option.{slice_get_within}
 use Rattle.string_cache_core.specs.Kept.{map_of}
-use Rattle.string_cache_core.proofs.CallsKeep.{gives-keeps, gives-listed}
-use Rattle.string_cache_core.proofs.HeldWords.{fixed-unless-ticket}
-use Rattle.string_cache_core.proofs.WordsApart.{one-text-each}
+use Rattle.string_cache_core.proofs.calls.Keep.{gives-keeps, gives-listed}
+use Rattle.string_cache_core.proofs.calls.HeldWords.{fixed-unless-ticket}
+use Rattle.string_cache_core.proofs.calls.WordsApart.{one-text-each}
 use Rattle.string_cache_core.proofs.table.Table.give.Goals as goal
 
 pub give_at-requires : goal.give_at-requires

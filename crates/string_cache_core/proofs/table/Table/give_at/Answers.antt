@@ -1,7 +1,7 @@
 use Rattle.std.proofs.Common.{◌∙◌, ap, sym, ℕ, ◌-◌, Some}
 use Rattle.string_cache_core.specs.Map.{Holding, with_held}
 use Rattle.string_cache_core.specs.Kept.{map_of}
-use Rattle.string_cache_core.proofs.Replies.{as_held, given-ticket, none_left, some_left}
+use Rattle.string_cache_core.proofs.calls.Replies.{as_held, given-ticket, none_left, some_left}
 use Rattle.string_cache_core.proofs.table.Table.give_at.Goals as goal
 
 pub returns-then-holders-eq1-clause-gives : goal.returns-then-holders-eq1-clause-gives

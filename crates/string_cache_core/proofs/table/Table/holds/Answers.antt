@@ -1,6 +1,6 @@
 use Rattle.std.proofs.Common.{◌∙◌, sym, refl, inl}
 use Rattle.std.proofs.lemmas.Bool.{false≢true}
-use Rattle.string_cache_core.proofs.HeldWords.{held-if-placed}
+use Rattle.string_cache_core.proofs.calls.HeldWords.{held-if-placed}
 use Rattle.string_cache_core.proofs.table.Table.holds.Goals as goal
 
 pub returns-then-is_fixed : goal.returns-then-is_fixed

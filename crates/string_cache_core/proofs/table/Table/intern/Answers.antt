@@ -8,8 +8,8 @@ use Rattle.string_cache_core.specs.Map.{InternMap}
 use Rattle.string_cache_core.specs.Table.{Interns, AreHeld, HasWord, IsHeld, IsTextOf}
 use Rattle.string_cache_core.specs.Tables.{Tables}
 use Rattle.string_cache_core.specs.Word.{inline_word}
-use Rattle.string_cache_core.proofs.CallsKeep.{interned-owned, owned-held, owned-long, owned-short, interned-listed, interns-grow, interns-fresh, grows-keeps, held-given}
-use Rattle.string_cache_core.proofs.WordsApart.{one-text-each}
+use Rattle.string_cache_core.proofs.calls.Keep.{interned-owned, owned-held, owned-long, owned-short, interned-listed, interns-grow, interns-fresh, grows-keeps, held-given}
+use Rattle.string_cache_core.proofs.calls.WordsApart.{one-text-each}
 use Rattle.string_cache_core.proofs.table.Table.intern.Goals as goal
 
 module _ (t : Tables) (limits : Bounds) (m new : InternMap) (text : List ℕ) (utf8 : IsUtf8 text) where

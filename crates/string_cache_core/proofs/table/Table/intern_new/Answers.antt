@@ -1,8 +1,8 @@
 use Rattle.std.proofs.Common.{◌≡◌, ◌∙◌, ap, arith, ℕ, ◌%◌}
 use Rattle.string_cache_core.specs.Kept.{Kept, map_of}
 use Rattle.string_cache_core.specs.Tables.{bucket_of}
-use Rattle.string_cache_core.proofs.HeldWords.{dynamic-hash}
-use Rattle.string_cache_core.proofs.Replies.{interned-spent, added}
+use Rattle.string_cache_core.proofs.calls.HeldWords.{dynamic-hash}
+use Rattle.string_cache_core.proofs.calls.Replies.{interned-spent, added}
 use Rattle.string_cache_core.proofs.table.Table.intern_new.Goals as goal
 
 pub returns-then-last-serials-clause-replies : goal.returns-then-last-serials-clause-replies

@@ -1,7 +1,7 @@
 use Rattle.std.proofs.Common.{sym, subst}
 use Rattle.string_cache_core.specs.Kept.{map_of}
 use Rattle.string_cache_core.specs.Table.{InternsBy}
-use Rattle.string_cache_core.proofs.Replies.{interned-held}
+use Rattle.string_cache_core.proofs.calls.Replies.{interned-held}
 use Rattle.string_cache_core.proofs.table.Table.intern_text.Goals as goal
 
 pub returns-in-Some-clause-interns : goal.returns-in-Some-clause-interns

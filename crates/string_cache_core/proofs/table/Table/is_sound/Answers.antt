@@ -1,6 +1,6 @@
 use Rattle.std.proofs.Common.{subst}
 use Rattle.string_cache_core.specs.Kept.{Kept, pairs_of, map_of, IsSoundMap}
-use Rattle.string_cache_core.proofs.KeptTickets.{sound}
+use Rattle.string_cache_core.proofs.kept.Tickets.{sound}
 use Rattle.string_cache_core.proofs.table.Table.is_sound.Goals as goal
 
 pub returns : goal.returns

@@ -2,7 +2,7 @@ use Rattle.std.proofs.Common.{sym, subst, rules}
 use Rattle.string_cache_core.specs.Map.{IsHeldTicket}
 use Rattle.string_cache_core.specs.Kept.{Kept, map_of}
 use Rattle.string_cache_core.specs.Places.{IsPlace}
-use Rattle.string_cache_core.proofs.KeptTickets.{not-placed, is-placed}
+use Rattle.string_cache_core.proofs.kept.Tickets.{not-placed, is-placed}
 use Rattle.string_cache_core.proofs.table.Table.place_of.Goals as goal
 
 pub returns-in_err-at : goal.returns-in_err-at

@@ -1,8 +1,8 @@
 use Rattle.std.proofs.Common.{◌∙◌, arith, take}
 use Rattle.string_cache_core.specs.Kept.{map_of}
-use Rattle.string_cache_core.proofs.CallsKeep.{answers-fresh, fresh-more, held-given}
-use Rattle.string_cache_core.proofs.Runs.{replays-more, replays-grow}
-use Rattle.string_cache_core.proofs.WordsApart.{one-text-each}
+use Rattle.string_cache_core.proofs.calls.Keep.{answers-fresh, fresh-more, held-given}
+use Rattle.string_cache_core.proofs.calls.Runs.{replays-more, replays-grow}
+use Rattle.string_cache_core.proofs.calls.WordsApart.{one-text-each}
 use Rattle.string_cache_core.proofs.table.Table.run.Goals as goal
 
 pub loop-call-preserved : goal.loop-call-preserved

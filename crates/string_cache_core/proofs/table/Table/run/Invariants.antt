@@ -2,7 +2,7 @@ use Rattle.std.proofs.Common.{◌≡◌, ◌≤◌, length, take}
 use Rattle.std.specs.Prelude.{vec_len, vec_capacity}
 use Rattle.string_cache_core.specs.Kept.{map_of}
 use Rattle.string_cache_core.specs.Calls.{AnswersAll}
-use Rattle.string_cache_core.proofs.CallsKeep.{IsFresh}
+use Rattle.string_cache_core.proofs.calls.Keep.{IsFresh}
 use Rattle.string_cache_core.proofs.table.Table.run.Given as goal
 
 abbrev pub invariant-loop-call : goal.invariant-loop-call

@@ -2,8 +2,8 @@ use Rattle.std.proofs.Common.{◌∙◌, ap, sym, subst, arith, ◌-◌, ℕ, No
 use Rattle.std.specs.Prelude.{slice_get}
 use Rattle.string_cache_core.specs.Map.{with_held}
 use Rattle.string_cache_core.specs.Kept.{Kept, pairs_of, map_of, IsKeptTable}
-use Rattle.string_cache_core.proofs.KeptPairs.{map-is}
-use Rattle.string_cache_core.proofs.KeptTaking.{bytes-there, kept-taken, taken-map}
+use Rattle.string_cache_core.proofs.kept.Pairs.{map-is}
+use Rattle.string_cache_core.proofs.kept.Taking.{bytes-there, kept-taken, taken-map}
 use Rattle.string_cache_core.proofs.table.Table.take_out.Goals as goal
 
 pub overflow_sub-self : goal.overflow_sub-self

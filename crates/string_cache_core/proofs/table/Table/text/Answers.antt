@@ -1,5 +1,5 @@
 use Rattle.string_cache_core.specs.Kept.{map_of}
-use Rattle.string_cache_core.proofs.HeldWords.{lent-found, lent-same, lent-owned}
+use Rattle.string_cache_core.proofs.calls.HeldWords.{lent-found, lent-same, lent-owned}
 use Rattle.string_cache_core.proofs.table.Table.text.Goals as goal
 
 pub returns-clause-found : goal.returns-clause-found

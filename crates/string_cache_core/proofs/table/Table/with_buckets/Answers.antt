@@ -1,6 +1,6 @@
 use Rattle.std.proofs.Common.{◌≡◌, ◌≤◌, ◌^◌, replicate, rules}
 use Rattle.string_cache_core.specs.Layout.{most_buckets}
-use Rattle.string_cache_core.proofs.KeptNew.{new-kept, new-map}
+use Rattle.string_cache_core.proofs.kept.New.{new-kept, new-map}
 use Rattle.string_cache_core.proofs.table.Table.with_buckets.Goals as goal
 
 pub invariant_of-result : goal.invariant_of-result

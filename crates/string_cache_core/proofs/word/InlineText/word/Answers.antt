@@ -1,6 +1,6 @@
 use Rattle.std.proofs.Common.{◌∙◌, ap}
 use Rattle.string_cache_core.specs.Word.{inline_word}
-use Rattle.string_cache_core.proofs.BytesValue.{packed}
+use Rattle.string_cache_core.proofs.words.BytesValue.{packed}
 use Rattle.string_cache_core.proofs.word.InlineText.word.Goals as goal
 
 pub returns : goal.returns

@@ -1,0 +1,5 @@
+pub mod lists
+pub mod passes
+pub mod rows
+pub mod runs
+pub mod worlds

@@ -1,0 +1,4 @@
+pub mod Facts
+pub mod Items
+pub mod Numbers
+pub mod Places

@@ -1,0 +1,193 @@
+-- One party that sweeps all buckets leaves exactly the entries with a holder.
+use Rattle.std.proofs.Common.{◌≡◌, ℕ, ◌+◌, ◌<◌, ◌≢◌, inl, inr, Bool, true, false, List, [], ◌∷◌, ◌++◌, length, Option, None, Some, refl, sym, ap, ◌∙◌, subst, arith, zero, suc, append_assoc}
+use Rattle.std.specs.Prelude.{slice_get, slice_set, nat_lt, ◌==◌, ◌&&◌, is_none}
+use Rattle.std.specs.List.{AllByRecursion}
+use Rattle.std.proofs.lemmas.Bool.{cases_eq}
+use Rattle.atomic_steps.specs.declared.steps.entry.Place.TheVariants as place
+use Rattle.atomic_steps.specs.declared.steps.Step.{Step}
+use Rattle.atomic_steps.specs.declared.steps.Step.TheVariants.{TakeIntern, TakeSweep, Add, Link, Clone, Give, Unlink, Free, Leave}
+use Rattle.atomic_steps.specs.declared.steps.StepReply.{StepReply}
+use Rattle.atomic_steps.specs.declared.steps.StepReply.TheVariants as reply
+use Rattle.atomic_steps.specs.World.{Entry, Pass, World, is_linked, is_unlinked_by}
+use Rattle.atomic_steps.specs.Steps.{pass_of, is_linked_in, wants, has, take_bucket, add, link, clone, unlink, all_found_dying, all_looked_at, step}
+use Rattle.atomic_steps.specs.Runs.{Event, Leads}
+use Rattle.atomic_steps.specs.Theorem.{event, IsAlone, Sweeps, OnlyHeldLinked}
+use Rattle.atomic_steps.specs.Sound.{At, Sound}
+use Rattle.string_cache_core.specs.Times.{times}
+use Rattle.atomic_steps.proofs.lists.Facts.{at_one, at_set_cases, at_push_cases, bind_case, guard_case, if_case, false_is_true}
+use Rattle.atomic_steps.proofs.runs.Opening.{keeps_all}
+use Rattle.atomic_steps.proofs.worlds.Entries.{sound_by, all_sound, stays_gone}
+use Rattle.atomic_steps.proofs.passes.Parties.{leads-append}
+use Rattle.atomic_steps.proofs.passes.Zeros.{AtZero, zero_taken, zero_all, zero_left}
+use Rattle.string_cache_core.specs.Tables.{Tables}
+
+-- What stood at zero here, linked if z is.
+pub record StoodAtZero (es : List Entry) (k : ℕ) (z : Entry) : Type 0 where
+  pub entry : Entry
+  pub at : At es k entry
+  pub zero_then : entry.count ≡ 0
+  pub bucket : z.bucket ≡ entry.bucket
+  pub linked : is_linked z.place ≡ true → is_linked entry.place ≡ true
+
+-- Whatever is at zero now was so before.
+abbrev pub Came : List Entry → List Entry → Type 0
+Came es es' = (k : ℕ) (z : Entry) → At es' k z → z.count ≡ 0 → StoodAtZero es k z
+
+came_same : (es : List Entry) → Came es es
+came_same es k z at zero_now = record { entry = z; at = at; zero_then = zero_now; bucket = refl; linked = λ h. h }
+
+came_push : (es : List Entry) (y : Entry) → y.count ≡ 1 → Came es (es ++ y ∷ [])
+came_push es y one k z at zero_now = elim (at_push_cases es y k z at) [
+  | inl old ↦ came_same es k z old zero_now
+  | inr (e, f) ↦ absurd (let c : z.count ≡ y.count = ap (λ (v : Entry). v.count) f in omega (arith, c, one, zero_now))
+]
+
+came_set : (es : List Entry) (j : ℕ) (x y : Entry) → At es j x → (y.count ≡ 0 → x.count ≡ 0) → y.bucket ≡ x.bucket → (is_linked y.place ≡ true → is_linked x.place ≡ true) → Came es (slice_set es j y)
+came_set es j x y at zero_was bucket linked k z b zero_now = elim (at_set_cases es j y k z b) [
+  | inl (e, f) ↦ record {
+    entry = x;
+    at = subst (λ (i : ℕ). At es i x) (sym e) at;
+    zero_then = zero_was (sym (ap (λ (v : Entry). v.count) f) ∙ zero_now);
+    bucket = ap (λ (v : Entry). v.bucket) f ∙ bucket;
+    linked = λ h. linked (sym (ap (λ (v : Entry). is_linked v.place) f) ∙ h);
+  }
+  | inr (n, old) ↦ came_same es k z old zero_now
+]
+
+module _ (tables : Tables) where
+  module _ (w : World) (party : ℕ) where
+    abbrev From : StepReply × World → Type 0
+    From o = Came w.entries o.1.entries
+
+    add_came : (k : ℕ) (pass : Pass) (x : Entry) → At w.entries k x → From (add w pass (suc k) x)
+    unfolding add
+    add_came k pass x at =
+        if_case From (x.count == 0) _ _ (λ e. came_same w.entries)
+        (λ e. if_case From (nat_lt x.count w.limits.holders) _ _
+        (λ r. came_set w.entries k x (record x { count = x.count + 1 }) at (λ h. absurd (omega (arith, h))) refl (λ h. h))
+        (λ r. came_same w.entries))
+
+    link_came : (pass : Pass) (room : Bool) (text : List ℕ) → From (link w pass room text)
+    unfolding link
+    link_came pass room text =
+        if_case From (nat_lt _ w.limits.serials) _ _
+        (λ e. if_case From room _ _ (λ r. came_push w.entries _ refl) (λ r. came_same w.entries))
+        (λ e. came_same w.entries)
+
+    clone_came : (k : ℕ) (x : Entry) → At w.entries k x → From (clone w (suc k) x)
+    unfolding clone
+    clone_came k x at =
+        if_case From (nat_lt x.count w.limits.holders) _ _
+        (λ r. came_set w.entries k x (record x { count = x.count + 1 }) at (λ h. absurd (omega (arith, h))) refl (λ h. h))
+        (λ r. came_same w.entries)
+
+    unlink_came : (k : ℕ) (pass : Pass) (x : Entry) → At w.entries k x → From (unlink w pass (suc k) x)
+    unfolding unlink
+    unlink_came k pass x at =
+        if_case From (x.count == 0) _ _
+        (λ e. came_set w.entries k x (record x { place = place.UnlinkedBy pass.party }) at (λ h. h) refl (λ h. false_is_true h))
+        (λ e. came_same w.entries)
+
+    take_came : (bucket : ℕ) (wanted : Option (List ℕ)) → From (take_bucket w party bucket wanted)
+    unfolding take_bucket
+    take_came bucket wanted = came_same w.entries
+
+    pub came : (s : Step) → ((e : ℕ) → s ≢ Give e) → From (step tables w party s)
+    came (TakeIntern t) n = guard_case From (is_none (pass_of w party) && _ && _) _ _ (came_same w.entries) (λ ok. take_came _ _)
+    came (TakeSweep bucket) n = guard_case From (is_none (pass_of w party) && nat_lt bucket (length w.lasts) && _) _ _ (came_same w.entries) (λ ok. take_came _ _)
+    came (Add zero) n = bind_case From (pass_of w party) _ _ (came_same w.entries) (λ pass p. came_same w.entries)
+    came (Add (suc k)) n =
+        bind_case From (pass_of w party) _ _ (came_same w.entries) (λ pass p.
+        bind_case From (slice_get w.entries k) _ _ (came_same w.entries) (λ x at.
+        guard_case From (is_linked_in pass.bucket x && wants pass x.text) _ _ (came_same w.entries) (λ ok. add_came k pass x at)))
+    came (Link room) n =
+        bind_case From (pass_of w party) _ _ (came_same w.entries) (λ pass p.
+        bind_case From pass.wanted _ _ (came_same w.entries) (λ text t.
+        guard_case From (all_found_dying w pass text) _ _ (came_same w.entries) (λ ok. link_came pass room text)))
+    came (Clone zero) n = came_same w.entries
+    came (Clone (suc k)) n = bind_case From (slice_get w.entries k) _ _ (came_same w.entries) (λ x at. guard_case From (has w.bag x.ticket) _ _ (came_same w.entries) (λ ok. clone_came k x at))
+    came (Give e) n = absurd (n e refl)
+    came (Unlink zero) n = bind_case From (pass_of w party) _ _ (came_same w.entries) (λ pass p. came_same w.entries)
+    came (Unlink (suc k)) n =
+        bind_case From (pass_of w party) _ _ (came_same w.entries) (λ pass p.
+        bind_case From (slice_get w.entries k) _ _ (came_same w.entries) (λ x at.
+        guard_case From (is_linked_in pass.bucket x) _ _ (came_same w.entries) (λ ok. unlink_came k pass x at)))
+    came (Free zero) n = came_same w.entries
+    came (Free (suc k)) n =
+        bind_case From (slice_get w.entries k) _ _ (came_same w.entries) (λ x at.
+        guard_case From (is_unlinked_by party x.place) _ _ (came_same w.entries) (λ ok. came_set w.entries k x (record x { place = place.Freed }) at (λ h. h) refl (λ h. false_is_true h)))
+    came Leave n =
+        bind_case From (pass_of w party) _ _ (came_same w.entries) (λ pass p. guard_case From (is_none pass.wanted && all_looked_at w pass) _ _ (came_same w.entries) (λ ok. came_same w.entries))
+
+  pub came_all : (party : ℕ) (w : World) (events : List Event) (v : World) → Leads tables w events v → IsAlone party events → Came w.entries v.entries
+  came_all party w [] v leads alone k z at zero_now = came_same w.entries k z (subst (λ (u : World). At u.entries k z) leads at) zero_now
+  came_all party w (e ∷ events) v leads alone k z at zero_now =
+      let later = came_all party leads.0 events v leads.2 alone.1 k z at zero_now in
+      let one : Came w.entries leads.0.entries = subst (λ (o : StepReply × World). Came w.entries o.1.entries) leads.1 (came w e.party e.does alone.0.1) in
+      let first = one k later.entry later.at later.zero_then in
+      record { entry = first.entry; at = first.at; zero_then = first.zero_then; bucket = later.bucket ∙ first.bucket; linked = λ h. first.linked (later.linked h) }
+
+  all_right : {X : Type 0} (P : X → Type 0) (xs ys : List X) → AllByRecursion P (xs ++ ys) → AllByRecursion P ys
+  all_right P [] ys all = all
+  all_right P (x ∷ xs) ys all = all_right P xs ys all.1
+
+  unlinked_is : (es : List Entry) (k : ℕ) (x y : Entry) → At es k x → At es k y → is_linked x.place ≡ false → is_linked y.place ≡ true → ⊥
+  unlinked_is es k x y a b out l =
+      let clash : false ≡ true = sym out ∙ ap (λ (z : Entry). is_linked z.place) (at_one es k x y a b) ∙ l in
+      false_is_true clash
+
+  -- What was at zero in a bucket that the party held isn't linked once the party has left.
+  left_gone : (u : World) → Sound tables u → (party bucket k : ℕ) → AtZero u party bucket k → (after : List Event) (v : World) → Leads tables u (event party Leave reply.Left ∷ after) v
+      → (y : Entry) → At v.entries k y → is_linked y.place ≡ true → ⊥
+  left_gone u sound party bucket k z after v leads y at l =
+      let leave = event party Leave reply.Left in
+      let out = zero_left tables u sound party bucket k z leave leads.0 leads.1 refl refl in
+      let end = stays_gone tables leads.0 (sound_by tables u sound leave leads.0 leads.1) after v leads.2 k out.0 out.1 out.2 in
+      unlinked_is v.entries k end.0 y end.1 at end.2 l
+
+  -- Nor is what is at zero at the end, where the party is alone from the step on that took the bucket.
+  taken_gone : (u mid : World) → Sound tables u → (party bucket : ℕ) → step tables u party (TakeSweep bucket) ≡ (reply.Taken, mid) → (middle after : List Event) (v : World)
+      → Leads tables mid (middle ++ event party Leave reply.Left ∷ after) v → IsAlone party (middle ++ event party Leave reply.Left ∷ after)
+      → (k : ℕ) (y : Entry) → At v.entries k y → y.count ≡ 0 → y.bucket ≡ bucket → is_linked y.place ≡ true → ⊥
+  taken_gone u mid sound party bucket does middle after v leads alone k y at zero_now right l =
+      let sound' = sound_by tables u sound (event party (TakeSweep bucket) reply.Taken) mid does in
+      let then = came_all party mid (middle ++ event party Leave reply.Left ∷ after) v leads alone k y at zero_now in
+      let z = zero_taken tables u party bucket (TakeSweep bucket) mid refl does k then.entry then.at then.zero_then (sym then.bucket ∙ right) in
+      let rest = leads-append tables mid v middle (event party Leave reply.Left ∷ after) leads in
+      left_gone rest.0 (all_sound tables mid sound' middle rest.0 rest.1) party bucket k (zero_all tables mid sound' party bucket k z middle rest.0 rest.1) after v rest.2 y at l
+
+  -- An entry of a bucket that was swept isn't both at zero and linked.
+  swept_gone : (w : World) → Sound tables w → (party bucket : ℕ) (before middle after : List Event) (v : World)
+      → Leads tables w (before ++ (event party (TakeSweep bucket) reply.Taken ∷ middle ++ event party Leave reply.Left ∷ after)) v
+      → IsAlone party (before ++ (event party (TakeSweep bucket) reply.Taken ∷ middle ++ event party Leave reply.Left ∷ after))
+      → (k : ℕ) (y : Entry) → At v.entries k y → y.count ≡ 0 → y.bucket ≡ bucket → is_linked y.place ≡ true → ⊥
+  swept_gone w sound party bucket before middle after v leads alone k y at zero_now right l =
+      let swept = event party (TakeSweep bucket) reply.Taken ∷ middle ++ event party Leave reply.Left ∷ after in
+      let first = leads-append tables w v before swept leads in
+      let alone' = (all_right (λ (e : Event). (e.party ≡ party) × ((n : ℕ) → e.does ≢ Give n)) before swept alone).1 in
+      taken_gone first.0 first.2.0 (all_sound tables w sound before first.0 first.1) party bucket first.2.1 middle after v first.2.2 alone' k y at zero_now right l
+
+  pub only_held : (w : World) → Sound tables w → (party : ℕ) (part : List Event) (v : World) → Leads tables w part v → IsAlone party part → ((bucket : ℕ) → bucket < length w.lasts → Sweeps party part bucket) → OnlyHeldLinked v
+  only_held w sound party part v leads alone sweeps zero y at = absurd (let e : ◌≡◌ {A = Option Entry} None (Some y) = at in cc)
+  only_held w sound party part v leads alone sweeps (suc k) y at = (held, linked)
+    where
+      sound' : Sound tables v
+      sound' = all_sound tables w sound part v leads
+
+      linked : 0 < times y.ticket v.bag → is_linked y.place ≡ true
+      linked h = sound'.table.linked k y at (let c = sound'.table.counted k y at in omega (arith, h, c))
+
+      below : y.bucket < length w.lasts
+      below = (let b = (sound'.table.numbered k y at).3 in subst (λ (n : ℕ). y.bucket < n) (keeps_all tables w sound part v leads).buckets b)
+
+      gone : y.count ≡ 0 → is_linked y.place ≡ true → Sweeps party part y.bucket → ⊥
+      gone zero_now l s =
+          let is = s.3 ∙ append_assoc s.0 (event party (TakeSweep y.bucket) reply.Taken ∷ s.1) (event party Leave reply.Left ∷ s.2) in
+          swept_gone w sound party y.bucket s.0 s.1 s.2 v
+          (subst (λ (es : List Event). Leads tables w es v) is leads) (subst (IsAlone party) is alone) k y at zero_now refl l
+
+      held : is_linked y.place ≡ true → 0 < times y.ticket v.bag
+      held l = elim (cases_eq y.count 0) [
+        | inl z ↦ absurd (gone z l (sweeps y.bucket below))
+        | inr n ↦ (let c = sound'.table.counted k y at in omega (arith, c, n))
+      ]

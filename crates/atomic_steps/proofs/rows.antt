@@ -1,0 +1,2 @@
+pub mod AtEntries
+pub mod AtPlaces

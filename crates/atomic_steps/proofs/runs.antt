@@ -1,0 +1,4 @@
+pub mod Every
+pub mod History
+pub mod Loop
+pub mod Opening

@@ -1,0 +1,8 @@
+pub mod Listed
+pub mod PassSteps
+pub mod Places
+pub mod Runs
+pub mod Sound
+pub mod Steps
+pub mod Theorem
+pub mod World

@@ -1,0 +1,87 @@
+//! An entry: a text that was linked, how many hold it, and where it is.
+
+ghost use Rattle.std.specs.Prelude.{◌≡◌, ◌+◌, ◌-◌, ◌^◌, ◌<◌, ◌==◌, ◌&&◌};
+ghost use Rattle.std.specs.Str.{bytes_eq};
+
+use std::marker::Model;
+
+/// Where an entry is.
+#[derive(Clone, Copy)]
+pub enum Place {
+    /// In its bucket's list.
+    Linked,
+    /// Out of the list, by this party.
+    UnlinkedBy(u32),
+    Freed,
+}
+
+#[derive(Drop)]
+pub struct Entry {
+    pub text: String,
+    pub bucket: u16,
+    pub ticket: u64,
+    pub count: u64,
+    pub place: Place,
+}
+
+impl Model for Entry {
+    ghost use Rattle.std.specs.String.{string_bytes};
+    ghost use Rattle.atomic_steps.specs.World as world;
+
+    ghost Value = { world.Entry };
+
+    ghost view = { λ a. record { text = string_bytes a.text; bucket = a.bucket; ticket = a.ticket; count = a.count; place = a.place } };
+}
+
+impl Entry {
+    ghost use Rattle.string_cache_core.specs.Layout.{holder_bound};
+    ghost use Rattle.atomic_steps.specs.World.{is_linked, is_unlinked_by};
+    ghost use Rattle.atomic_steps.specs.Steps.{is_linked_in};
+
+    pub fn is_linked_in(&self, bucket: u16) -> bool
+        ensures { result ≡ is_linked_in bucket self.now }
+    {
+        matches!(self.place, Place::Linked) && self.bucket == bucket
+    }
+
+    pub fn is_linked_of(&self, text: &str) -> bool
+        ensures { result ≡ is_linked self.now.place && bytes_eq self.now.text text.now }
+    {
+        matches!(self.place, Place::Linked) && self.text.as_str() == text
+    }
+
+    pub fn is_unlinked_by(&self, party: u32) -> bool
+        ensures { result ≡ is_unlinked_by party self.now.place }
+    {
+        match self.place {
+            Place::Linked => false,
+            Place::UnlinkedBy(other) => other == party,
+            Place::Freed => false,
+        }
+    }
+
+    pub fn add_holder(&mut self)
+        requires { self.old.count < holder_bound }
+        ensures { self.new ≡ record self.old { count = self.old.count + 1 } }
+    {
+        self.count += 1;
+    }
+
+    pub fn drop_holder(&mut self)
+        ensures { self.new ≡ record self.old { count = self.old.count - 1 } }
+    {
+        self.count = self.count.saturating_sub(1);
+    }
+
+    pub fn unlink(&mut self, party: u32)
+        ensures { self.new ≡ record self.old { place = Place.UnlinkedBy party } }
+    {
+        self.place = Place::UnlinkedBy(party);
+    }
+
+    pub fn free(&mut self)
+        ensures { self.new ≡ record self.old { place = Place.Freed } }
+    {
+        self.place = Place::Freed;
+    }
+}

@@ -1,0 +1,201 @@
+//! Lines that are of the grammar, and lines that aren't; scripts of many steps, and what a fault prints.
+
+use replay_script::{ScriptFault, next_line, replay_text};
+use std::alloc::Global;
+
+/// As `replay_text`. Where memory was refused, the call is made once more.
+fn replayed(alloc: Global, script: &str) -> Result<String, ScriptFault> {
+    match replay_text(alloc, script) {
+        Err(ScriptFault::Memory) => replay_text(alloc, script),
+        first => first,
+    }
+}
+
+/// A text is the rest of its line as it stands, the last line may lack its line feed, and numbers reach their bounds. A
+/// text of 7 bytes is inline and takes no bucket, so a byte that got lost would show.
+#[test]
+fn good_lines(rt: HostRuntime) {
+    for (script, output) in [
+        ("", ""),
+        ("limits 1 1", ""),
+        ("limits 9223372036854775807 281474976710655\n", ""),
+        ("buckets 0", ""),
+        ("limits 1 1\nbuckets 14\n", ""),
+        ("1 link", "no\n"),
+        (
+            "4294967295 sweep 4294967295\n1 sweep 0\n1 leave\n1 add e18446744073709551615\n1 free e10",
+            "no\ntaken\nleft\nno\nno\n",
+        ),
+        ("1 intern  a", "no\n"),
+        ("1 intern a b", "no\n"),
+        ("1 intern  ", "no\n"),
+        ("1 intern a\r\n", "no\n"),
+        ("1 intern  234567", "no\n"),
+        ("1 intern  2345678", "taken\n"),
+        ("1 intern 1234567 ", "taken\n"),
+        ("1 intern 1234567\r\n", "taken\n"),
+        (
+            "1 intern interned\r\n1 link\n1 leave\n1 intern interned\n1 add e1\n",
+            "taken\nlinked e1 serial 1\nleft\ntaken\nno\nheld e1 1\n",
+        ),
+    ] {
+        let written = replayed(rt.alloc(), script).expect(&rt, "an answer");
+        assert!(rt; written.as_str() == output, "of {script:?}");
+    }
+}
+
+/// Lines that spell no step, no limits and no number of buckets, between line feeds.
+const BAD_LINES: &str = "
+1 jump
+link
+1
+1\x20
+ 1 link
+1  link
+1 link\x20
+1 link  noroom
+1 link noroom\x20
+1 link room
+1 Link
+1 link\r
+1 leave now
+1\tlink
+1 intern
+1 intern\x20
+1 sweep
+1 sweep\x20
+1 sweep  1
+1 sweep 1\x20
+1 sweep x
+1 sweep 1x
+1 sweep +1
+1 sweep -1
+1 sweep 01
+1 sweep 00
+1 sweep 4294967296
+1 add
+1 add 1
+1 add e
+1 add e0
+1 add e01
+1 add e+1
+1 add e-1
+1 add  e1
+1 add e 1
+1 add E1
+1 add e18446744073709551616
+1 clone e0
+1 give e0
+1 unlink e0
+1 free e0
+1 free e1\x20
+0 link
+00 link
+01 link
++1 link
+-1 link
+4294967296 link
+18446744073709551617 link
+limits
+limits\x20
+limits 1
+limits 1\x20
+limits 1 1\x20
+limits 1 1\r
+limits  1 1
+limits 1  1
+limits 0 1
+limits 1 0
+limits 01 1
+limits 1 01
+limits +1 1
+limits 1 +1
+limits -1 1
+limits 9223372036854775808 1
+limits 1 281474976710656
+limits 1 1125899906842623
+Limits 1 1
+buckets
+buckets\x20
+buckets 15
+buckets 012
+buckets 00
+buckets  1
+buckets 1\x20
+buckets +1
+buckets -1
+buckets 256
+buckets 268
+buckets 18446744073709551616
+buckets 1 1
+Buckets 1";
+
+#[test]
+fn bad_lines(rt: HostRuntime) {
+    for line in BAD_LINES.split('\n').skip(1) {
+        let fault = replayed(rt.alloc(), line).err();
+        assert_eq!(rt; fault, Some(ScriptFault::NotAStep(1)), "of {line:?}");
+    }
+}
+
+/// The first bad line is named.
+#[test]
+fn bad_line_is_named(rt: HostRuntime) {
+    for (script, line) in [
+        ("\n", 1),
+        ("\n\n", 1),
+        ("\n1 link", 1),
+        ("1 link\n\n", 2),
+        ("limits 1 1\n\n", 2),
+        ("1 jump\n1 jump", 1),
+        ("1 sweep 1\n1 leave\n1 jump\n1 link\n1 jump\n", 3),
+        ("limits 1 1\nlimits 1 1\n", 2),
+        ("1 link\nlimits 1 1\n", 2),
+        ("1 link\n1 link\r\n1 link\n", 2),
+        ("limits 1 1\n1 link\n0 link", 3),
+        ("buckets 1\nbuckets 1\n", 2),
+        ("1 link\nbuckets 1\n", 2),
+        ("buckets 1\nlimits 1 1\n", 2),
+        ("limits 1 1\nbuckets 15\n", 2),
+        ("limits 1 1\nbuckets 1\nbuckets 1\n", 3),
+        ("limits 1 1\nbuckets 1\nlimits 1 1\n", 3),
+        ("limits 1 1\n1 link\nbuckets 1\n", 3),
+        ("limits 1 1\nbuckets 1\n1 link\n0 link", 4),
+    ] {
+        let fault = replayed(rt.alloc(), script).err();
+        assert_eq!(rt; fault, Some(ScriptFault::NotAStep(line)), "of {script:?}");
+    }
+}
+
+/// More steps than are kept before they are made.
+#[test]
+fn many_steps(rt: HostRuntime) {
+    let alloc = rt.alloc();
+    let mut script = String::new(alloc);
+    let mut lines = String::new(alloc);
+    for _ in 0..5000 {
+        script.push_str("1 leave\n").expect(&rt, "room");
+        lines.push_str("no\n").expect(&rt, "room");
+    }
+    let written = replayed(alloc, &script).expect(&rt, "an answer");
+    assert!(rt; written.as_str() == lines.as_str());
+}
+
+#[test]
+fn lines_one_by_one(rt: HostRuntime) {
+    assert!(rt; next_line("1 link\n1 leave") == Some(("1 link", "1 leave")));
+    assert!(rt; next_line("1 leave\n") == Some(("1 leave", "")));
+    assert!(rt; next_line("\n1 leave") == Some(("", "1 leave")));
+    assert!(rt; next_line("").is_none());
+}
+
+#[test]
+fn printed_faults(rt: HostRuntime) {
+    for (fault, text) in [
+        (ScriptFault::NotAStep(12), "line 12: not a step"),
+        (ScriptFault::Memory, "no memory"),
+    ] {
+        let printed = format!(in rt.alloc(); "{fault}").expect(&rt, "a text");
+        assert_eq!(rt; printed.as_str(), text);
+    }
+}

@@ -1,0 +1,5 @@
+pub mod HeldWords
+pub mod Keep
+pub mod Replies
+pub mod Runs
+pub mod WordsApart
