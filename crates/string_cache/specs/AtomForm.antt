@@ -4,7 +4,7 @@ use Rattle.string_cache_core.specs.Tables.{Tables, form_of_text, text_at, IsStat
 use Rattle.string_cache_core.specs.declared.static_sets.TextForm.TheVariants as form
 use Rattle.string_cache_core.specs.Word.{inline_word, static_word, IsInlineText}
 use Rattle.string_cache.specs.AtomValue.{AtomValue}
-use Rattle.string_cache.specs.Chain.{IsRight}
+use Rattle.counted_set.specs.Chain.{IsRight}
 use Rattle.string_cache.specs.declared.atom.Form.{Form}
 use Rattle.string_cache.specs.declared.atom.Form.TheVariants.{Inline, Static, Dynamic}
 

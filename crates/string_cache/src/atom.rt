@@ -16,10 +16,8 @@ ghost use Rattle.string_cache.specs.Packed.{IsPackable};
 
 mod case;
 mod compare;
-#[cfg(test)]
-mod tests;
 
-use crate::dynamic_set::{Held, Set};
+use counted_set::dynamic_set::{Held, Set};
 use std::borrow::CowStr;
 use std::marker::Model;
 use std::sync::Wait;

@@ -1,17 +1,13 @@
-//! Interned strings: sets of texts that threads share, and the atoms that borrow them. The words, hashes, static tables,
-//! the table for one thread of `string_cache_core` and the core of atomic steps of `atomic_steps` stand here as well, all under
-//! the names of Rust's `string_cache` 0.11.0.
+//! Interned strings: the atoms, which borrow a set of texts that threads share. The set of `counted_set`, the words, hashes, static tables
+//! and the table for one thread of `string_cache_core`, and the core of atomic steps of `atomic_steps` stand here as well, all under the
+//! names of Rust's `string_cache` 0.11.0.
 #![tactic(auto)]
 
 pub mod atom;
-pub mod dynamic_set;
-#[cfg(test)]
-mod samples;
-#[cfg(test)]
-mod tests;
 pub mod trivial_impls;
 
 pub use atom::{Atom, DefaultAtom};
 pub use atomic_steps::steps;
+pub use counted_set::dynamic_set;
 pub use string_cache_core::static_sets::{EmptyStaticAtomSet, PhfStrSet, StaticAtomSet};
 pub use string_cache_core::{Fault, phf, static_sets, table, word};

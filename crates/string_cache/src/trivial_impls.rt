@@ -9,11 +9,8 @@ ghost use Rattle.string_cache_core.specs.Tables.{form_of_text, hash_number, is_d
 ghost use Rattle.string_cache.specs.Precomputed.{precomputed_number};
 ghost use Rattle.string_cache.specs.Printed.{debug_text, form_name};
 
-#[cfg(test)]
-mod tests;
-
 use crate::atom::Atom;
-use crate::dynamic_set::Set;
+use counted_set::dynamic_set::Set;
 use serde_json::Value;
 use std::alloc::Global;
 use std::fmt::{self, Debug, Display, Formatter, Write};

@@ -4,7 +4,7 @@ ghost use Rattle.std.specs.Prelude.{◌≡◌, ◌↔◌, IfErr, IfOk, IsTrue, l
 ghost use Rattle.std.specs.Str.{IsUtf8, str_to_ascii_lowercase, str_to_ascii_uppercase};
 
 use super::Atom;
-use crate::dynamic_set::Set;
+use counted_set::dynamic_set::Set;
 use std::alloc::{AllocError, Global};
 use std::str;
 use std::sync::Wait;

@@ -1,0 +1,3 @@
+pub mod PassKeeps
+pub mod Passes
+pub mod Shares

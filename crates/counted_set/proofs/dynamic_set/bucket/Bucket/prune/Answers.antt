@@ -1,0 +1,5 @@
+use Rattle.counted_set.proofs.PassKeeps.{is_kept_after}
+use Rattle.counted_set.proofs.dynamic_set.bucket.Bucket.prune.Goals as goal
+
+pub invariant_of-self : goal.invariant_of-self
+invariant_of-self g c = is_kept_after g.C.Counts.adds g.C.Counts.dies _ _ _ _ _ _ _ _ _ _ c.self.invariant c.prune_left.ensures c.rewind.ensures

@@ -1,0 +1,49 @@
+use Rattle.std.proofs.Common.{◌≡◌, refl}
+use Rattle.std.proofs.lemmas.Bool.{false≢true}
+use Rattle.std.specs.Prelude.{Some}
+use Rattle.counted_set.specs.Chain.{Linked}
+use Rattle.counted_set.proofs.Passes.{all_first, all_kept, all_out, not_wanted, on_added, on_died, on_full, on_gone, on_stays}
+use Rattle.counted_set.proofs.dynamic_set.bucket.pass_left.Goals as goal
+
+pub returns-in-Added : goal.returns-in-Added
+returns-in-Added g c =
+    let next = c.in-Some.ensures in
+    c.loop-entry.invariant.0 _ _ _
+    (on_added g.C.Counts.adds g.C.Counts.dies _ _ _ _ _ next.0 next.1 c.args.text.now c.in-Added.share (c.if-is_of.ensures.0 refl).1 c.in-Added.ensures refl _ _ c.prune_after.ensures)
+
+pub returns-in-Full : goal.returns-in-Full
+returns-in-Full g c =
+    let next = c.in-Some.ensures in
+    c.loop-entry.invariant.0 _ _ _
+    (on_full g.C.Counts.adds g.C.Counts.dies _ _ _ _ _ next.0 next.1 c.args.text.now (c.if-is_of.ensures.0 refl).1 c.in-Full.ensures refl _ _ c.prune_after-in-Full.ensures)
+
+pub loop-entry-preserved-in-Dying : goal.loop-entry-preserved-in-Dying
+loop-entry-preserved-in-Dying g c =
+    let next = c.in-Some.ensures in
+    let P : Linked → Type 0 = λ e. e.text ≡ c.args.text.now → e.hash ≡ c.args.hash in (
+      λ answer d v p. c.loop-entry.invariant.0 answer d v
+          (on_died g.C.Counts.adds g.C.Counts.dies _ _ _ _ _ next.0 next.1 c.args.text.now (c.if-is_of.ensures.0 refl).1 c.in-Dying.ensures c.take_out.ensures answer d v p),
+      all_out P _ _ _ next.0 next.1 c.take_out.ensures c.loop-entry.invariant.1,
+    )
+
+pub loop-entry-preserved-then-dying : goal.loop-entry-preserved-then-dying
+loop-entry-preserved-then-dying g c =
+    let next = c.in-Some.ensures in
+    let P : Linked → Type 0 = λ e. e.text ≡ c.args.text.now → e.hash ≡ c.args.hash in
+    let all = c.loop-entry.invariant.1 in
+    let other = not_wanted c.args.text.now c.args.hash c.in-Some.entry.now (all_first P c.loop-entry.entries c.in-Some.entry.now next.0 next.1 all) (λ is. false≢true (c.if-is_of.ensures.1 is)) in (
+      λ answer d v p. c.loop-entry.invariant.0 answer d v
+          (on_gone g.C.Counts.adds g.C.Counts.dies _ _ _ _ _ next.0 next.1 (Some c.args.text.now) other c.if-dying.ensures c.take_out-then-dying.ensures answer d v p),
+      all_out P _ _ _ next.0 next.1 c.take_out-then-dying.ensures all,
+    )
+
+pub loop-entry-preserved : goal.loop-entry-preserved
+loop-entry-preserved g c =
+    let next = c.in-Some.ensures in
+    let P : Linked → Type 0 = λ e. e.text ≡ c.args.text.now → e.hash ≡ c.args.hash in
+    let all = c.loop-entry.invariant.1 in
+    let other = not_wanted c.args.text.now c.args.hash c.in-Some.entry.now (all_first P c.loop-entry.entries c.in-Some.entry.now next.0 next.1 all) (λ is. false≢true (c.if-is_of.ensures.1 is)) in (
+      λ answer d v p. c.loop-entry.invariant.0 answer d v
+          (on_stays g.C.Counts.adds g.C.Counts.dies _ _ _ _ _ next.0 next.1 (Some c.args.text.now) other c.if-dying.ensures c.keep.ensures answer d v p),
+      all_kept P _ _ _ next.0 next.1 c.keep.ensures all,
+    )

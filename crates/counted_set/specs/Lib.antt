@@ -1,0 +1,6 @@
+pub mod Chain
+pub mod Counted
+pub mod Link
+pub mod PassLeft
+pub mod SetValue
+pub mod Share

@@ -1,0 +1,42 @@
+-- What linking a text does to a bucket, and what interning it does.
+use Rattle.std.specs.Prelude.{◌≡◌, ℕ, ◌+◌, ◌%◌, ◌^◌, ◌<◌, ◌≤◌, Bool, List, ◌∷◌, Some, Result, Ok, Err}
+use Rattle.string_cache_core.specs.Bounds.{Bounds}
+use Rattle.string_cache_core.specs.Word.{ticket_of}
+use Rattle.string_cache_core.specs.declared.faults.Fault.{Fault}
+use Rattle.string_cache_core.specs.declared.faults.Fault.TheVariants.{Memory, FullCount, TicketsSpent, NotText}
+use Rattle.counted_set.specs.Chain.{Linked, Chain}
+use Rattle.counted_set.specs.Counted.{IsPass}
+use Rattle.counted_set.specs.declared.dynamic_set.counts.CountReply.{CountReply}
+use Rattle.counted_set.specs.declared.dynamic_set.counts.Pass.{Pass}
+use Rattle.counted_set.specs.declared.dynamic_set.counts.Pass.TheVariants.{Found, Full, Absent}
+
+-- the next entry of a bucket for a text with this hash, and with this limit of holders
+abbrev pub next_entry : Chain → List ℕ → ℕ → ℕ → Linked
+next_entry c text hash holders = record { ticket = ticket_of (c.last + 1) (hash % 2 ^ c.bits); text = text; hash = hash; bits = c.bits; limit = holders }
+
+-- the bucket with that entry as its head, and the serial given
+abbrev pub with_next : Chain → List ℕ → ℕ → ℕ → Chain
+with_next c text hash holders = record { bits = c.bits; entries = next_entry c text hash holders ∷ c.entries; last = c.last + 1 }
+
+-- Linking answers a share of the new head, which has the limit of holders. The tickets are spent exactly where the last serial
+-- is at the limit of serials; any other refusal is for want of memory. A refusal leaves the bucket.
+abbrev pub IsLink : Bounds → List ℕ → ℕ → Chain → Result Linked Fault → Chain → Type 0
+IsLink limits text hash c (Ok s) d = (c.last < limits.serials) × (s ≡ next_entry c text hash limits.holders) × (d ≡ with_next c text hash limits.holders)
+IsLink limits text hash c (Err Memory) d = (c.last < limits.serials) × (d ≡ c)
+IsLink limits text hash c (Err TicketsSpent) d = (limits.serials ≤ c.last) × (d ≡ c)
+IsLink limits text hash c (Err FullCount) d = ⊥
+IsLink limits text hash c (Err NotText) d = ⊥
+
+-- what interning answers and leaves after a pass with this answer
+abbrev pub GoesOn : Bounds → List ℕ → ℕ → Chain → Pass Linked → Result Linked Fault → Chain → Type 0
+GoesOn limits text hash c (Found s) r d = (r ≡ Ok s) × (d ≡ c)
+GoesOn limits text hash c Full r d = (r ≡ Err FullCount) × (d ≡ c)
+GoesOn limits text hash c Absent r d = IsLink limits text hash c r d
+
+-- interning is a pass for the text, and links where it is absent
+pub record IsIntern {C : Type 0} (adds : C → Linked → CountReply Linked → C → Type 0) (dies : C → Linked → Bool → C → Type 0)
+    (limits : Bounds) (text : List ℕ) (hash : ℕ) (k : C) (c : Chain) (r : Result Linked Fault) (l : C) (d : Chain) : Type 0 where
+  pub answer : Pass Linked
+  pub left : List Linked
+  pub pass : IsPass adds dies (Some text) k c.entries answer l left
+  pub goes_on : GoesOn limits text hash (record { bits = c.bits; entries = left; last = c.last }) answer r d

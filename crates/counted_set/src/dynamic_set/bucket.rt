@@ -1,0 +1,232 @@
+//! A bucket: what one lock holds.
+
+ghost use Rattle.std.specs.Prelude.{◌≡◌, ◌<◌, [], length, IfOk, IfErr, Some, None};
+ghost use Rattle.std.specs.List.{AllByRecursion};
+ghost use Rattle.string_cache_core.specs.Tables.{entry_hash};
+ghost use Rattle.string_cache_core.specs.Faults.{IsInternFault};
+ghost use Rattle.counted_set.specs.Chain.{IsRight, IsRightOf};
+ghost use Rattle.counted_set.specs.Counted.{GivesShares, IsPass};
+ghost use Rattle.counted_set.specs.Link.{IsLink, IsIntern};
+ghost use Rattle.counted_set.specs.PassLeft.{IsPassLeft};
+ghost use Rattle.node_chain.specs.Walked.{passed_by};
+
+use super::counts::{CountReply, Counts, OwnCounts, Pass};
+use super::entries::Entries;
+use super::share::{Entry, Share};
+use std::alloc::Global;
+use std::marker::{Model, PhantomData};
+use std::sync::Wait;
+use string_cache_core::Fault;
+use string_cache_core::static_sets::StaticAtomSet;
+use string_cache_core::word::{Buckets, Limits, ticket_word};
+
+/// What one lock of a set holds: entries, newest first, and the serial that it gave last.
+///
+/// It is one of some number of buckets. Each entry names that number, its hash is that of its text, its ticket is that of its serial in
+/// the bucket of the hash, and no serial is given twice. Which lock a bucket stands under isn't known here.
+#[derive(Drop)]
+pub struct Bucket<Static: StaticAtomSet> {
+    buckets: Buckets,
+    entries: Entries,
+    last: u64,
+    alloc: Global,
+    of: PhantomData<Static>,
+}
+
+impl<Static: StaticAtomSet> Model for Bucket<Static> {
+    ghost use Rattle.std.specs.Prelude.{◌≡◌, []};
+    ghost use Rattle.counted_set.specs.Chain.{Chain, IsKept};
+
+    ghost Value = { Chain };
+
+    ghost view = { λ b. record { bits = b.buckets; entries = b.entries.left; last = b.last } };
+
+    ghost invariant = { λ b. (b.entries.passed ≡ []) × IsKept Static.tables (record { bits = b.buckets; entries = b.entries.left; last = b.last }) };
+}
+
+impl<Static: StaticAtomSet> Bucket<Static> {
+    /// A bucket without entries, which has given no serial: one of this many.
+    pub fn new(alloc: Global, buckets: Buckets) -> Self
+        ensures { result ≡ record { bits = buckets; entries = []; last = 0 } }
+    {
+        let _ = buckets.bits(); // whose contract says how many they are at most
+        Bucket {
+            buckets,
+            entries: Entries::new(alloc),
+            last: 0,
+            alloc,
+            of: PhantomData,
+        }
+    }
+
+    /// How many entries are linked.
+    #[doc(hidden)]
+    pub fn len(&self) -> usize
+        ensures { result ≡ length self.now.entries }
+    {
+        self.entries.len()
+    }
+
+    /// One pass over all entries, which looks for the text: asks `counts` about each in order, and unlinks those that it
+    /// answers as dying. Entries of the text are asked by `add` until one was added or is full, and all others by `dying`.
+    /// `hash` is that of the text: its `entry_hash` under the key of the tables.
+    ///
+    /// It takes no memory. What stays linked stays in order.
+    pub fn pass<R: Wait, C: Counts>(
+        &mut self,
+        rt: &R,
+        text: &str,
+        hash: u64,
+        counts: &mut C,
+    ) -> Pass<C::Share>
+        requires { hash ≡ entry_hash Static.tables text.now }
+        ensures pass { IsPass C.adds C.dies (Some text.now) counts.old self.old.entries result counts.new self.new.entries }
+        ensures bits { self.new.bits ≡ self.old.bits }
+        ensures last { self.new.last ≡ self.old.last }
+    {
+        let answer = pass_left(rt, &mut self.entries, text, hash, counts);
+        self.entries.rewind();
+        answer
+    }
+
+    /// One pass over all entries, which looks for no text: asks `counts` of each by `dying`, and unlinks those that are.
+    pub fn prune<C: Counts>(&mut self, counts: &mut C)
+        ensures pass { IsPass C.adds C.dies None counts.old self.old.entries Pass.Absent counts.new self.new.entries }
+        ensures bits { self.new.bits ≡ self.old.bits }
+        ensures last { self.new.last ≡ self.old.last }
+    {
+        prune_left(&mut self.entries, counts);
+        self.entries.rewind();
+    }
+
+    /// Links one new entry as the first, with the next serial, and gives its only share. `hash` is that of the text,
+    /// as for `pass`. The entry has the limit of holders that is handed in.
+    ///
+    /// `TicketsSpent` comes exactly where the last serial isn't below the limit, and otherwise `Memory` alone. A refusal
+    /// leaves the bucket as it was.
+    pub fn link(&mut self, text: &str, hash: u64, limits: &Limits) -> Result<Share, Fault>
+        requires { hash ≡ entry_hash Static.tables text.now }
+        ensures link { IsLink limits.now text.now hash self.old result self.new }
+        ensures right { IfOk result (λ s. IsRightOf Static.tables self.old.bits s) }
+    {
+        let greatest = limits.serials();
+        if self.last >= greatest {
+            return Err(Fault::TicketsSpent);
+        }
+        let serial = self.last + 1;
+        let ticket = ticket_word(serial, self.buckets.bucket_of(hash));
+        let (entry, share) = Entry::new(
+            self.alloc,
+            self.buckets,
+            ticket,
+            text,
+            hash,
+            limits.holders(),
+        )?;
+        if let Err(refused) = self.entries.add_head(entry) {
+            // The share goes first, so that the entry ends without any.
+            drop(share);
+            drop(refused);
+            return Err(Fault::Memory);
+        }
+        self.last = serial;
+        Ok(share)
+    }
+
+    /// A pass for the text, which goes on to `link` where it is absent. `hash` is that of the text, as for
+    /// `pass`.
+    ///
+    /// It gives the share that the pass found, and `FullCount` where the pass found the entry full. Other refusals are those
+    /// of `link`. Where the counts give shares of the entries that they are asked about, the share is of the text.
+    #[tactic(auto, using(crate::proofs::Shares::share_found))]
+    pub fn intern<R: Wait, C: Counts<Share = Share>>(
+        &mut self,
+        rt: &R,
+        text: &str,
+        hash: u64,
+        limits: &Limits,
+        counts: &mut C,
+    ) -> Result<Share, Fault>
+        requires { hash ≡ entry_hash Static.tables text.now }
+        ensures intern { IsIntern C.adds C.dies limits.now text.now hash counts.old self.old result counts.new self.new }
+        ensures share { GivesShares C.adds → IfOk result (λ s. (s.text ≡ text.now) × IsRightOf Static.tables self.old.bits s) }
+    {
+        let _ = &self.entries; // so that the proof sees what the bucket keeps
+        match self.pass(rt, text, hash, counts) {
+            Pass::Found(share) => Ok(share),
+            Pass::Full => Err(Fault::FullCount),
+            Pass::Absent => self.link(text, hash, limits),
+        }
+    }
+
+    /// A share of the text's entry, by the counts that the entries have themselves.
+    pub(super) fn share_of<R: Wait>(
+        &mut self,
+        rt: &R,
+        text: &str,
+        hash: u64,
+        limits: &Limits,
+    ) -> Result<Share, Fault>
+        requires { hash ≡ entry_hash Static.tables text.now }
+        ensures text { IfOk result (λ s. s.text ≡ text.now) }
+        ensures right { IfOk result (λ s. IsRightOf Static.tables self.old.bits s) }
+        ensures refused { IfErr result IsInternFault }
+    {
+        self.intern(rt, text, hash, limits, &mut OwnCounts)
+    }
+}
+
+// Goes over the entries that are left as a pass for the text does.
+fn pass_left<R: Wait, C: Counts>(
+    rt: &R,
+    entries: &mut Entries,
+    text: &str,
+    hash: u64,
+    counts: &mut C,
+) -> Pass<C::Share>
+    requires { AllByRecursion (λ e. e.text ≡ text.now → e.hash ≡ hash) entries.old.left }
+    ensures { IsPassLeft C.adds C.dies (Some text.now) counts.old entries.old result counts.new entries.new }
+{
+    while let Some(entry) = entries.look() {
+        if entry.is_of(text, hash) {
+            match counts.add(rt, entry) {
+                CountReply::Added(share) => {
+                    prune_after(entries, counts);
+                    return Pass::Found(share);
+                }
+                CountReply::Full => {
+                    prune_after(entries, counts);
+                    return Pass::Full;
+                }
+                CountReply::Dying => entries.take_out(),
+            }
+        } else if counts.dying(entry) {
+            entries.take_out();
+        } else {
+            entries.keep();
+        }
+    }
+    Pass::Absent
+}
+
+// Passes the next entry by, and takes out those after it which are dying.
+fn prune_after<C: Counts>(decided: &mut Entries, counts: &mut C)
+    requires { 0 < length decided.old.left }
+    ensures { IsPassLeft C.adds C.dies None counts.old (passed_by decided.old decided.old.left) Pass.Absent counts.new decided.new }
+{
+    decided.keep();
+    prune_left(decided, counts);
+}
+
+// Takes out those of the entries that are left which are dying.
+fn prune_left<C: Counts>(entries: &mut Entries, counts: &mut C)
+    ensures { IsPassLeft C.adds C.dies None counts.old entries.old Pass.Absent counts.new entries.new }
+{
+    while let Some(entry) = entries.look() {
+        if counts.dying(entry) {
+            entries.take_out();
+        } else {
+            entries.keep();
+        }
+    }
+}

@@ -1,0 +1,131 @@
+//! The entries of a bucket, with a place in them. Only this file knows how they are kept.
+
+ghost use Rattle.std.specs.Prelude.{◌≡◌, ◌+◌, ◌<◌, ◌∷◌, ◌++◌, [], length, IfOk, IfErr};
+ghost use Rattle.node_chain.specs.Walked.{IsNext, at_start, passed_by, taken_out};
+
+use super::share::Entry;
+use node_chain::{NodeChain, Pack};
+use std::alloc::{AllocFailed, Global};
+use std::marker::Model;
+
+/// Each node has one entry or more, and the place is before the entry `at` of the first node that is left.
+#[derive(Drop)]
+pub(super) struct Entries {
+    chain: NodeChain<Pack<Entry>>,
+    at: usize,
+    len: usize,
+}
+
+impl Model for Entries {
+    ghost use Rattle.counted_set.specs.Chain.{Linked};
+    ghost use Rattle.node_chain.specs.Walked.{Walked};
+    ghost use Rattle.node_chain.specs.Packs.{items_at, ArePacked};
+
+    ghost Value = { Walked Linked };
+
+    ghost view = { λ e. items_at e.at e.chain };
+
+    ghost invariant = { λ e. ArePacked e.at e.len e.chain };
+}
+
+impl Entries {
+    pub(super) fn new(alloc: Global) -> Entries
+        ensures { result ≡ at_start [] }
+    {
+        Entries {
+            chain: NodeChain::new(alloc),
+            at: 0,
+            len: 0,
+        }
+    }
+
+    /// How many entries there are.
+    pub(super) fn len(&self) -> usize
+        ensures { result ≡ length self.now.passed + length self.now.left }
+    {
+        self.len
+    }
+
+    /// The next entry.
+    pub(super) fn look(&self) -> Option<&Entry>
+        ensures { IsNext self.now.left result }
+    {
+        match self.chain.look() {
+            Some(pack) => pack.get(self.at),
+            None => None,
+        }
+    }
+
+    /// Passes the next entry by.
+    pub(super) fn keep(&mut self)
+        requires { 0 < length self.old.left }
+        ensures { self.new ≡ passed_by self.old self.old.left }
+    {
+        let count = match self.chain.look() {
+            Some(pack) => pack.len(),
+            None => unreachable!(),
+        };
+        if self.at + 1 < count {
+            self.at += 1;
+        } else {
+            self.chain.keep();
+            self.at = 0;
+        }
+    }
+
+    /// Takes the next entry out, and frees it, and its node where that has no other.
+    pub(super) fn take_out(&mut self)
+        requires { 0 < length self.old.left }
+        ensures { self.new ≡ taken_out self.old self.old.left }
+    {
+        let mut node = self.chain.unlink();
+        let count = node.item.len();
+        if count == 1 {
+            drop(node);
+        } else {
+            let entry = node.item.remove(self.at);
+            self.chain.link(node);
+            if self.at + 1 == count {
+                self.chain.keep();
+                self.at = 0;
+            }
+            drop(entry);
+        }
+        self.len -= 1;
+    }
+
+    /// Goes back to the first entry.
+    pub(super) fn rewind(&mut self)
+        ensures { self.new ≡ at_start (self.old.passed ++ self.old.left) }
+    {
+        self.chain.rewind();
+        self.at = 0;
+    }
+
+    /// Adds an entry as the first one: to the first node where that has room, and else in a new node. A refusal changes
+    /// nothing, and gives the entry back.
+    pub(super) fn add_head(&mut self, entry: Entry) -> Result<(), AllocFailed<Entry>>
+        requires { self.old.passed ≡ [] }
+        ensures added { IfOk result (λ _. self.new ≡ at_start (entry ∷ self.old.left)) }
+        ensures refused { IfErr result (λ e. (e.value ≡ entry) × (self.new ≡ self.old)) }
+    {
+        let Some(len) = self.len.checked_add(1) else {
+            return Err(AllocFailed { value: entry });
+        };
+        let has_room = match self.chain.look() {
+            Some(pack) => pack.has_room(),
+            None => false,
+        };
+        if has_room {
+            let mut node = self.chain.unlink();
+            node.item.add(entry);
+            self.chain.link(node);
+        } else if let Err(AllocFailed { value }) = self.chain.add_head(Pack::new(entry)) {
+            return Err(AllocFailed {
+                value: value.into_item(),
+            });
+        }
+        self.len = len;
+        Ok(())
+    }
+}

@@ -1,0 +1,91 @@
+//! A share with its set: what a dynamic atom holds.
+
+ghost use Rattle.std.specs.Prelude.{◌≡◌, ◌↔◌, IfErr, IfOk, IsTrue};
+
+use super::set::Set;
+use super::share::Share;
+use std::marker::Model;
+use std::sync::Wait;
+use string_cache_core::Fault;
+use string_cache_core::static_sets::StaticAtomSet;
+
+/// One share of an entry, with the set that it is of.
+///
+/// Its drop subtracts one and never waits. Where it was the entry's last share, the bucket's lock is tried once; if it was
+/// free, dying entries are taken out of the bucket, and otherwise the next pass over the bucket does that.
+pub struct Held<'s, Static: StaticAtomSet> {
+    share: counted_cell::Share,
+    set: &'s Set<Static>,
+}
+
+impl<'s, Static: StaticAtomSet> Model for Held<'s, Static> {
+    ghost use Rattle.counted_set.specs.Chain.{IsRight, Linked};
+
+    ghost Value = { Linked };
+
+    ghost use Rattle.counted_set.specs.Share.{linked_of};
+
+    ghost view = { λ h. linked_of h.share };
+
+    ghost invariant = { λ h. IsRight Static.tables (linked_of h.share) };
+}
+
+impl<'s, Static: StaticAtomSet> Drop for Held<'s, Static> {
+    #[inline]
+    fn drop(self) {
+        let Self { share, set } = self;
+        set.give_back(share);
+    }
+}
+
+impl<'s, Static: StaticAtomSet> Held<'s, Static> {
+    ghost use Rattle.counted_set.specs.Chain.{IsRight};
+
+    pub(super) fn new(share: Share, set: &'s Set<Static>) -> Held<'s, Static>
+        requires { IsRight Static.tables share }
+        ensures { result ≡ share }
+    {
+        Held {
+            share: share.into_counted(),
+            set,
+        }
+    }
+
+    /// The entry's ticket.
+    #[doc(hidden)]
+    pub fn ticket(&self) -> u64
+        ensures { result ≡ self.now.ticket }
+    {
+        self.share.label().ticket
+    }
+
+    /// The entry's text.
+    pub fn text(&self) -> &str
+        ensures { result.now ≡ self.now.text }
+    {
+        self.share.text()
+    }
+
+    /// The hash of the entry's text.
+    #[doc(hidden)]
+    pub fn hash(&self) -> u64
+        ensures { result ≡ self.now.hash }
+    {
+        self.share.label().hash
+    }
+
+    /// One share more of the same entry. It is refused for `FullCount` alone, where the entry has as many as it may have.
+    #[inline]
+    pub fn clone_share<R: Wait>(&self, rt: &R) -> Result<Held<'s, Static>, Fault>
+        ensures same { IfOk result (λ held. held ≡ self.now) }
+        ensures full { IfErr result (λ fault. fault ≡ Fault.FullCount) }
+    {
+        match self.share.add(rt) {
+            Ok(share) => Ok(Held {
+                share,
+                set: self.set,
+            }),
+            Err(_) => Err(Fault::FullCount),
+        }
+    }
+}

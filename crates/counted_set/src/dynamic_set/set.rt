@@ -1,0 +1,153 @@
+//! The set: buckets behind locks.
+
+ghost use Rattle.std.specs.Prelude.{◌≡◌, ◌-◌, ◌^◌, length, IfOk, IfErr};
+ghost use Rattle.string_cache_core.specs.Faults.{IsInternFault};
+ghost use Rattle.string_cache_core.specs.Layout.{holder_bound, serial_bound, usual_bits};
+ghost use Rattle.string_cache_core.specs.Tables.{entry_hash};
+ghost use Rattle.counted_set.specs.Chain.{IsRight};
+
+use super::bucket::Bucket;
+use super::counts::OwnCounts;
+use super::held::Held;
+use counted_cell::Share;
+use std::alloc::Global;
+use std::marker::Model;
+use std::sync::{Mutex, Wait};
+use string_cache_core::Fault;
+use string_cache_core::static_sets::StaticAtomSet;
+use string_cache_core::word::{Buckets, Limits};
+
+/// The dynamic texts of a static type, in buckets by their hashes. Threads share it. In a clause it is its limits and the bits of
+/// the number of its buckets.
+#[derive(Drop)]
+pub struct Set<Static: StaticAtomSet> {
+    buckets: Vec<Mutex<Bucket<Static>>>,
+    count: Buckets,
+    limits: Limits,
+    alloc: Global,
+}
+
+impl<Static: StaticAtomSet> Model for Set<Static> {
+    ghost use Rattle.std.specs.Prelude.{◌≡◌, ◌^◌, vec_len};
+    ghost use Rattle.counted_set.specs.SetValue.{SetValue};
+
+    ghost Value = { SetValue };
+
+    ghost view = { λ s. record { limits = s.limits; bits = s.count } };
+
+    ghost invariant = { λ s. vec_len s.buckets ≡ 2 ^ s.count };
+}
+
+impl<Static: StaticAtomSet> Set<Static> {
+    /// A set without texts, with the greatest limits and the usual number of buckets. It is refused for `Memory` alone.
+    pub fn new(alloc: Global) -> Result<Self, Fault>
+        ensures limits { IfOk result (λ set. set.limits ≡ record { holders = holder_bound - 1; serials = serial_bound - 1 }) }
+        ensures bits { IfOk result (λ set. set.bits ≡ usual_bits) }
+        ensures refused { IfErr result (λ fault. fault ≡ Fault.Memory) }
+    {
+        Self::with_limits(alloc, Limits::greatest())
+    }
+
+    /// A set without texts, with these limits and the usual number of buckets. It is refused for `Memory` alone.
+    pub fn with_limits(alloc: Global, limits: Limits) -> Result<Self, Fault>
+        ensures limits { IfOk result (λ set. set.limits ≡ limits) }
+        ensures bits { IfOk result (λ set. set.bits ≡ usual_bits) }
+        ensures refused { IfErr result (λ fault. fault ≡ Fault.Memory) }
+    {
+        Self::with_buckets(alloc, limits, Buckets::usual())
+    }
+
+    /// A set without texts, with these limits and this many buckets. It is refused for `Memory` alone.
+    pub fn with_buckets(alloc: Global, limits: Limits, count: Buckets) -> Result<Self, Fault>
+        ensures limits { IfOk result (λ set. set.limits ≡ limits) }
+        ensures bits { IfOk result (λ set. set.bits ≡ count) }
+        ensures refused { IfErr result (λ fault. fault ≡ Fault.Memory) }
+    {
+        let mut buckets = Vec::with_capacity(alloc, count.number())?;
+        for _ in 0..count.number() {
+            buckets.push(Mutex::new(Bucket::new(alloc, count)))?;
+        }
+        Ok(Set {
+            buckets,
+            count,
+            limits,
+            alloc,
+        })
+    }
+
+    /// The limits of its entries' holders and of its buckets' serials.
+    pub fn limits(&self) -> Limits
+        ensures { result ≡ self.now.limits }
+    {
+        self.limits
+    }
+
+    /// What the set takes its memory from.
+    pub fn allocator(&self) -> Global {
+        self.alloc
+    }
+
+    /// The buckets, each behind its lock, for who tests the design: what holds a lock keeps all others waiting.
+    #[doc(hidden)]
+    pub fn buckets(&self) -> &[Mutex<Bucket<Static>>]
+        ensures { length result.now ≡ 2 ^ self.now.bits }
+    {
+        &self.buckets
+    }
+
+    /// Takes each bucket once, from the first to the last, with one pass over it: entries without shares go.
+    pub fn sweep<R: Wait>(&self, rt: &R) {
+        for bucket in &self.buckets {
+            bucket.lock(rt).prune(&mut OwnCounts);
+        }
+    }
+
+    /// How many entries are linked: the sum over the buckets, each read under its lock.
+    ///
+    /// Beside other threads, which may link and unlink between one bucket and the next, nothing is said of the sum.
+    pub fn linked<R: Wait>(&self, rt: &R) -> u128 {
+        let mut sum = 0u128;
+        for bucket in &self.buckets {
+            sum = sum.saturating_add(bucket.lock(rt).len() as u128);
+        }
+        sum
+    }
+
+    /// A share of the entry of a text with this hash, in the bucket of the hash. Atoms ask for it.
+    #[doc(hidden)]
+    pub fn intern<'s, R: Wait>(
+        &'s self,
+        rt: &R,
+        text: &str,
+        hash: u64,
+    ) -> Result<Held<'s, Static>, Fault>
+        requires { hash ≡ entry_hash Static.tables text.now }
+        ensures text { IfOk result (λ held. held.text ≡ text.now) }
+        ensures right { IfOk result (λ held. IsRight Static.tables held) }
+        ensures refused { IfErr result IsInternFault }
+    {
+        let mut bucket = self.buckets[usize::from(self.count.bucket_of(hash))].lock(rt);
+        let share = bucket.share_of(rt, text, hash, &self.limits)?;
+        Ok(Held::new(share, self))
+    }
+
+    /// Gives a share back. Where it was its entry's last, tries the lock of the entry's bucket, once, and prunes the bucket.
+    #[inline]
+    pub(super) fn give_back(&self, share: Share) {
+        let hash = share.label().hash;
+        if share.give().last().is_some() {
+            self.try_prune(hash);
+        }
+    }
+
+    /// Tries the lock of a hash's bucket, once, and prunes the bucket. It stands apart, so that the end of a share that isn't the
+    /// last stays short.
+    #[cold]
+    #[inline(never)]
+    fn try_prune(&self, hash: u64) {
+        let at = usize::from(self.count.bucket_of(hash));
+        if let Some(mut bucket) = self.buckets[at].try_lock() {
+            bucket.prune(&mut OwnCounts);
+        }
+    }
+}

@@ -1,0 +1,150 @@
+//! Counted entries, and the shares of them.
+
+ghost use Rattle.std.specs.Prelude.{◌≡◌, ◌≤◌, ◌<◌, ◌↔◌, IsTrue, IfOk};
+ghost use Rattle.string_cache_core.specs.Layout.{holder_bound};
+ghost use Rattle.counted_set.specs.Counted.{IfAdded};
+ghost use Rattle.counted_set.specs.Share.{IsTold};
+
+use super::counts::CountReply;
+use counted_cell::{Label, Owner, Reply};
+use std::alloc::{AllocError, Global};
+use std::marker::Model;
+use std::sync::Wait;
+use string_cache_core::word::Buckets;
+
+/// An entry of a bucket: the one owner of a counted cell, which has the text, its hash, the ticket and the count of the entry's
+/// shares in one block. The count goes up only from one or more, and below the entry's limit of holders: an entry without shares
+/// is dying, and gets none any more.
+///
+/// Its end frees the block where the count reads 0, and leaves it for ever otherwise. The hash stands here as well, so that a
+/// look-up that passes the entry by doesn't follow the pointer.
+#[derive(Drop)]
+pub struct Entry {
+    hash: u64,
+    owner: Owner<Global>,
+}
+
+impl Model for Entry {
+    ghost use Rattle.std.specs.Prelude.{◌≡◌};
+    ghost use Rattle.counted_set.specs.Chain.{Linked};
+    ghost use Rattle.counted_set.specs.Share.{linked_of};
+
+    ghost Value = { Linked };
+
+    ghost view = { λ e. linked_of e.owner };
+
+    ghost invariant = { λ e. e.hash ≡ e.owner.label.hash };
+}
+
+impl Entry {
+    /// An entry of this text in one of this many buckets, and its first share. It makes a copy of the text. There may be as many
+    /// shares as `holders`.
+    pub(super) fn new(
+        alloc: Global,
+        buckets: Buckets,
+        ticket: u64,
+        text: &str,
+        hash: u64,
+        holders: u64,
+    ) -> Result<(Entry, Share), AllocError>
+        requires { (1 ≤ holders) × (holders < holder_bound) }
+        ensures entry { IfOk result (λ made. made.0 ≡ record { ticket = ticket; text = text.now; hash = hash; bits = buckets; limit = holders }) }
+        ensures share { IfOk result (λ made. made.1 ≡ record { ticket = ticket; text = text.now; hash = hash; bits = buckets; limit = holders }) }
+    {
+        let label = Label {
+            hash,
+            ticket,
+            limit: holders,
+        };
+        let bits = u64::from(buckets.bits());
+        let (owner, share) = Owner::new(alloc, label, bits, text)?;
+        Ok((Entry { hash, owner }, Share { share }))
+    }
+
+    /// The ticket.
+    pub fn ticket(&self) -> u64
+        ensures { result ≡ self.now.ticket }
+    {
+        self.owner.label().ticket
+    }
+
+    /// Whether it is the entry of a text with this hash.
+    pub(super) fn is_of(&self, text: &str, hash: u64) -> bool
+        ensures { IsTrue result ↔ ((self.now.hash ≡ hash) × (self.now.text ≡ text.now)) }
+    {
+        self.hash == hash && self.owner.text() == text
+    }
+
+    /// One share more, unless the entry is dying or has as many as it may have: what its cell answers.
+    ///
+    /// `Added` gives a share of this entry. `Dying` comes only where the count was read as 0, so that no share is left and none will
+    /// ever be, and `Full` only where it was read as the entry's limit; both change nothing. The clause speaks of the share alone,
+    /// as these two replies have nothing that shows what was read. The cell's own answer has, and is told as it is.
+    pub fn add<R: Wait>(&self, rt: &R) -> CountReply<Share>
+        ensures { IfAdded result (λ share. share ≡ self.now) }
+    {
+        told(self.owner.add(rt))
+    }
+
+    /// Whether no share is left. Then none will ever be.
+    pub fn dying(&self) -> bool {
+        self.owner.dying().is_ok()
+    }
+}
+
+// What the entry's cell answered.
+fn told(reply: Reply) -> CountReply<Share>
+    ensures { IsTold reply result }
+{
+    match reply {
+        Reply::Added(share) => CountReply::Added(Share { share }),
+        Reply::Dying(_) => CountReply::Dying,
+        Reply::Full(_) => CountReply::Full,
+    }
+}
+
+/// One share of an entry. Its drop takes it off the entry's count, and tries no lock.
+pub struct Share {
+    share: counted_cell::Share,
+}
+
+impl Model for Share {
+    ghost use Rattle.counted_set.specs.Chain.{Linked};
+    ghost use Rattle.counted_set.specs.Share.{linked_of};
+
+    ghost Value = { Linked };
+
+    ghost view = { λ s. linked_of s.share };
+}
+
+impl Drop for Share {
+    fn drop(self) {
+        drop(self.into_counted().give());
+    }
+}
+
+impl Share {
+    ghost use Rattle.counted_set.specs.Share.{linked_of};
+
+    /// The entry's ticket.
+    pub fn ticket(&self) -> u64
+        ensures { result ≡ self.now.ticket }
+    {
+        self.share.label().ticket
+    }
+
+    /// The entry's text.
+    pub fn text(&self) -> &str
+        ensures { result.now ≡ self.now.text }
+    {
+        self.share.text()
+    }
+
+    /// The share of the entry's cell, which has no drop: it is given back.
+    pub(super) fn into_counted(self) -> counted_cell::Share
+        ensures { linked_of result ≡ self }
+    {
+        let Self { share } = self;
+        share
+    }
+}
