@@ -1,0 +1,122 @@
+#!/usr/bin/env python3
+"""Proves crates over what earlier checks kept, and runs the tests that see them without proving those: minutes, where the gate
+(./test.sh, without a word) takes an hour. What passes here can still fail there: tests are proved there, every proof is made from nothing, and
+every wrong body is tried.
+
+For each crate: its layout is that of `rt fmt`, each old text of its wrong bodies stands once, and `rt check` proves it. Then come the
+tests of these crates and of all that stand on them, each run once.
+
+usage: tools/quick.py [CRATE ..]     without names: the crates that differ from the last commit
+"""
+
+import subprocess
+import sys
+import tempfile
+from concurrent.futures import ThreadPoolExecutor
+from pathlib import Path
+
+from edits import BadEdit, edited, read_edit, read_refused
+from unproved import NotBuilt, build
+
+TOP = Path(__file__).resolve().parent.parent
+SECONDS = 120  # for one test
+
+
+def said_by(*words, folder=TOP):
+    """The status of a command, and all that it said."""
+    ran = subprocess.run([*words], cwd=folder, stdin=subprocess.DEVNULL, stdout=subprocess.PIPE, stderr=subprocess.STDOUT)
+    return ran.returncode, ran.stdout.decode(errors="replace")
+
+
+def crates_listed():
+    """Each crate's libraries, by the crate's name, in the order of crates.txt."""
+    listed = {}
+    for line in (TOP / "crates.txt").read_text(encoding="utf-8").splitlines():
+        head, colon, libraries = line.partition(":")
+        if colon and not line.startswith("#"):
+            listed[head.split()[0]] = libraries.split()
+    return listed
+
+
+def stands_on(listed, name):
+    """The crates that this one stands on, itself among them."""
+    found = {name}
+    for library in listed[name]:
+        if library in listed:
+            found |= stands_on(listed, library)
+    return found
+
+
+def changed():
+    """The names of the crates that differ from the last commit."""
+    _, lines = said_by("git", "status", "--porcelain", "--untracked-files=all", "--", "crates")
+    paths = [path for line in lines.splitlines() for path in line[3:].split(" -> ")]
+    return {path.split("/")[1] for path in paths if path.count("/") > 1}
+
+
+def has_tests(name):
+    return any("#[test]" in file.read_text(encoding="utf-8") for file in (TOP / "crates" / name / "src").rglob("*.rt"))
+
+
+def texts_stand(name):
+    """Whether each old text of the crate's wrong bodies stands once, and what to say."""
+    folder, wrong = TOP / "crates" / name, []
+    for path in sorted(folder.glob("*/*.edit")):
+        try:
+            edited(read_refused(path) if path.parent.name == "must-fail" else read_edit(path), TOP)
+        except BadEdit as why:
+            wrong.append(f"{path.name}: {why}")
+    return not wrong, "; ".join(wrong) or "the old texts of its wrong bodies stand once each"
+
+
+def is_laid_out(name):
+    status, said = said_by("rt", "fmt", "--check", folder=TOP / "crates" / name)
+    return not status, said.strip()[-300:] or "its layout is that of rt fmt"
+
+
+def is_proved(name):
+    status, said = said_by("rt", "check", folder=TOP / "crates" / name)
+    told = [line for line in said.splitlines() if line.startswith(("note: src/", "logic=")) or "error" in line]
+    return not status, "\n    ".join(told[-12:]) or said.strip()[-600:]
+
+
+def tests_pass(name):
+    """Whether each test of the crate, built without proofs, passes, and what to say."""
+    try:
+        with tempfile.TemporaryDirectory(prefix="quick-") as room:
+            program = build(TOP / "crates" / name, Path(room))
+            _, lines = said_by(program, "--list")
+            tests = [line.partition(": ")[0] for line in lines.splitlines() if line.endswith(": test")]
+            failed = [test for test in tests if said_by("timeout", str(SECONDS), program, test)[0]]
+    except (NotBuilt, OSError, subprocess.CalledProcessError) as why:
+        return False, f"its tests can't be built: {why}"
+    return bool(tests) and not failed, f"{len(tests)} tests run, these failed: {', '.join(failed) or 'none'}"
+
+
+def main():
+    listed = crates_listed()
+    named = set(sys.argv[1:])
+    if named - set(listed):
+        sys.exit(f"quick: crates.txt has no crate {', '.join(sorted(named - set(listed)))}")
+    named = [name for name in listed if name in (named or changed())]
+    above = [name for name in listed if has_tests(name) and stands_on(listed, name) & set(named)]
+    results = []
+
+    def tell(task, name):
+        well, text = task(name)
+        print(f"{name}: {'' if well else 'WRONG: '}{text}", flush=True)
+        results.append(well)
+
+    with ThreadPoolExecutor(2) as workers:
+        running = [workers.submit(tell, tests_pass, name) for name in above]
+        for name in named:
+            for task in (is_laid_out, texts_stand, is_proved):
+                tell(task, name)
+        for it in running:
+            it.result()
+    print(f"quick: {results.count(True)} passed, {results.count(False)} failed. This isn't the gate: ./test.sh is.")
+    return 0 if all(results) else 1
+
+
+if __name__ == "__main__":
+    sys.exit(main())
