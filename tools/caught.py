@@ -4,7 +4,7 @@
 Each is applied to a copy of the repository, and the tests are run or built there without proofs:
 
 - 'test: FUNCTION' has to fail. Before that, each named test has to pass over the crate as it is.
-- 'refused: FUNCTION', a test of crates/atoms/src/refusals, has to be found WRONG as tools/refused.py judges it, and has to pass where
+- 'refused: FUNCTION', a test of a module `refusals`, has to be found WRONG as tools/refused.py judges it, and has to pass where
   nothing is refused. Before that, each named test has to be found right over the repository as it is.
 - 'error: TEXT': the compiler has to say this, where a type alone forbids the body.
 

@@ -4,7 +4,7 @@ tools/schedules finds: what such a file says, and what it makes of a copy of the
 The first line says what has to come of the body:
 
     test: FUNCTION      this test of the crate fails
-    refused: FUNCTION   this test of crates/atoms/src/refusals is WRONG for tools/refused.py
+    refused: FUNCTION   this test, of a module `refusals`, is WRONG for tools/refused.py
     error: TEXT         the compiler says this
     scene: NAME         an outcome of this scene of tools/schedules/scenes.txt is wrong
 
@@ -66,7 +66,7 @@ def read_edit(path):
     if not edit.name or not edit.changes:
         raise BadEdit("it has no line 'test: FUNCTION', 'refused: FUNCTION', 'error: TEXT' or 'scene: NAME', or no pair 'old:' and 'new:'")
     if not edit.of:
-        edit.of = "atoms" if edit.want == "refused" else edit.crate
+        edit.of = edit.crate
     return edit
 
 

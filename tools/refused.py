@@ -1,5 +1,5 @@
 #!/usr/bin/env python3
-"""Refuses memory, and starts of threads, to the calls that the tests in crates/atoms/src/refusals watch, one request after another.
+"""Refuses memory, and starts of threads, to the calls that the tests in crates/NAME/src/refusals watch, one request after another.
 
 Each such test makes one call between two lines of its output. It is run once for each request for memory of that call, with that one
 refused, until a run meets none left (tools/refuse.c, preloaded, counts and refuses): the call has to say that memory was refused, has
@@ -7,7 +7,7 @@ to keep none where it says no more, and the test then sees that the call made ag
 `starts` is run once for each thread that the call starts, with that start refused, in the same way. A test of `unasked` is run once with
 every request for memory refused, and may meet none. However a test ends, the program has given back all that it got.
 
-The tests are those that `rt ci`, or `rt test` in crates/atoms, proved and built last. (tools/caught.py judges wrong bodies by the same
+The tests are those that `rt ci`, or `rt test` in such a crate, proved and built last. (tools/caught.py judges wrong bodies by the same
 tests, built without proofs.)
 
 usage: tools/refused.py [--jobs N] [WORD..]     with words: only the tests whose names contain one of them
@@ -25,7 +25,7 @@ from pathlib import Path
 from unproved import compiler, kit
 
 TOP = Path(__file__).resolve().parent.parent
-TESTS = TOP / "crates" / "atoms" / "out" / "atoms_tests"
+CRATES = sorted(path.parent.parent for path in TOP.glob("crates/*/src/refusals.rt"))  # those that have such tests
 SECONDS = 60  # for one run
 MOST = 100_000  # requests of one call
 EVERY = sys.maxsize
@@ -146,6 +146,11 @@ class Refuser:
             return False, f"it can't be run: {why}"
 
 
+def tests_of(crate):
+    """The program of the tests of the crate in this folder, as it was built last."""
+    return crate / "out" / f"{crate.name}_tests"
+
+
 def refuser(program, room):
     """What refuses to this program of tests. The library is made in the room, a folder."""
     own = kit()
@@ -163,20 +168,26 @@ def main():
     results = []
     try:
         with tempfile.TemporaryDirectory(prefix="refused-") as room:
-            tried = refuser(TESTS, room)
-            tests = tried.tests()
+            tests = []
+            for crate in CRATES:
+                tried = refuser(tests_of(crate), room)
+                found = [(tried, test) for test in tried.tests()]
+                if not found:
+                    raise OSError(f"crates/{crate.name} has no such test")
+                tests += found
             if given.words:
-                tests = [test for test in tests if any(word in test for word in given.words)]
+                tests = [(tried, test) for tried, test in tests if any(word in test for word in given.words)]
 
-            def judge(test):
+            def judge(tried, test):
                 well, text = tried.judge(test)
                 print(f"refused {test.removeprefix('refusals::')}: {'' if well else 'WRONG: '}{text}", flush=True)
                 return well
 
             with ThreadPoolExecutor(max(1, given.jobs)) as workers:
-                results = list(workers.map(judge, tests))
+                results = list(workers.map(lambda it: judge(*it), tests))
     except (OSError, subprocess.CalledProcessError) as why:
-        print(f"refused: {why}; the tests are built by rt ci, or by rt test in crates/atoms")
+        crates = " and ".join(f"crates/{crate.name}" for crate in CRATES)
+        print(f"refused: {why}; the tests are built by rt ci, or by rt test in {crates}")
     if not results:
         print("refused: no test was run")
         results = [False]

@@ -10,10 +10,11 @@ use Rattle.std.proofs.lemmas.List.{length_push}
 use Rattle.std.proofs.lemmas.List.Sums.{sum_by_push}
 use denote.Ref.{Bor}
 use Rattle.atoms.specs.Counts.{count_of, CountsOneMore}
-use Rattle.atoms.specs.Streams.{AppendsBeginning}
-use Rattle.atoms.specs.Words.{char_words, times_seen, seen_line, lines_after, word_lines}
-use Rattle.atoms.proofs.StreamLemmas.{appends_then, appends_nothing, keeps_same, beginning_then}
-use Rattle.atoms.proofs.WordLemmas.{WordComes, no_words}
+use Rattle.text_streams.specs.Streams.{AppendsBeginning}
+use Rattle.word_counts.specs.Words.{char_words, times_seen}
+use Rattle.atoms.specs.WordLines.{seen_line, lines_after, word_lines}
+use Rattle.text_streams.proofs.StreamLemmas.{appends_then, appends_nothing, keeps_same, beginning_then}
+use Rattle.word_counts.proofs.WordLemmas.{WordComes, no_words}
 
 -- the lines of the words `seen` are written or pending, and the words of rest are to come
 pub record Progress {S : Type 0} (old new : Option (List ℕ)) (text rest pending : List ℕ) (counts : HashMap (Bor (List ℕ)) ℕ S) : Type 0 where

@@ -6,8 +6,8 @@ use Rattle.string_cache.specs.Tables.{Tables}
 use Rattle.replay_script.specs.Replay.{IsReplay}
 use Rattle.replay_script.proofs.OneOutput.{one_output}
 use Rattle.atoms.specs.Replay.{BeginsReplay}
-use Rattle.atoms.specs.Streams.{AppendsBeginning}
-use Rattle.atoms.proofs.StreamLemmas.{told_of_given, if_some_any, beginning_nothing}
+use Rattle.text_streams.specs.Streams.{AppendsBeginning}
+use Rattle.text_streams.proofs.StreamLemmas.{told_of_given, if_some_any, beginning_nothing}
 
 -- nothing is a beginning of it
 pub replay_unwritten : (t : Tables) (a old new : Option (List ℕ)) → Keeps old new → IfSome a (λ script. BeginsReplay t script old new)

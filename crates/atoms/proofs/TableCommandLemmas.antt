@@ -6,13 +6,13 @@ use Rattle.std.proofs.lemmas.Fmt.{decimal_injective}
 use Rattle.table_generator.specs.Generated.{TellsTables}
 use Rattle.table_generator.specs.declared.tables.Tables.{Tables}
 use Rattle.table_generator.specs.declared.tables.GenFault.{GenFault}
-use Rattle.atoms.specs.declared.faults.AppFault.{AppFault}
-use Rattle.atoms.specs.declared.faults.AppFault.TheVariants.{Gen}
+use Rattle.text_streams.specs.declared.faults.AppFault.{AppFault}
+use Rattle.text_streams.specs.declared.faults.AppFault.TheVariants.{Gen}
 use Rattle.atoms.specs.Commands.{AreCount, AreGenerate, IsRequest, IsWorkers}
 use Rattle.atoms.specs.Faults.{IsMakingFault}
-use Rattle.atoms.specs.Streams.{AppendsBeginning}
+use Rattle.text_streams.specs.Streams.{AppendsBeginning}
 use Rattle.atoms.specs.TableCommands.{IsAnswer, IsTableOutput, BeginsAnswer, BeginsTables, WritesAnswer}
-use Rattle.atoms.proofs.StreamLemmas.{told_of_given}
+use Rattle.text_streams.proofs.StreamLemmas.{told_of_given}
 
 -- an answer that is written, and a beginning of one
 pub answer_written : (a old new : Option (List ℕ)) (given text out : List ℕ) → IfSome a (λ bytes. bytes ≡ given) → text ≡ given → IsAnswer text out → Appends old new out → IfSome a (λ t. WritesAnswer t old new)

@@ -5,7 +5,7 @@ use Rattle.string_cache.specs.Tables.{Tables}
 use Rattle.table_generator.specs.Generated.{IsTablesOf}
 use Rattle.table_generator.specs.TableText.{table_text, SpellsPerfectTables}
 use Rattle.replay_script.specs.Script.{script_lines}
-use Rattle.atoms.specs.Streams.{AppendsBeginning}
+use Rattle.text_streams.specs.Streams.{AppendsBeginning}
 
 -- the output is the printed form of tables of the text's lines
 abbrev pub IsTableOutput : ℕ → ℕ → List ℕ → List ℕ → Type 0

@@ -1,11 +1,9 @@
 // A reader that fails at one of its reads, and a writer that fails at one of its writes, each in turn.
-use crate::count::tell_counts;
-use crate::faults::AppFault;
 use crate::memory::{Page, Streams};
 use crate::program::tests::EXAMPLE_COUNTS;
 use crate::replay::replay;
 use crate::replay::tests::{OUTPUT, SCRIPT};
-use crate::tests::{EXAMPLE, EXAMPLE_LINES};
+use crate::tests::EXAMPLE_LINES;
 use crate::words::{words, words_alone};
 use std::alloc::Global;
 use std::process::Abort;
@@ -13,6 +11,9 @@ use std::sync::Wait;
 use std::thread::Threads;
 use string_cache::EmptyStaticAtomSet;
 use string_cache::dynamic_set::Set;
+use text_streams::faults::AppFault;
+use word_counts::count::tell_counts;
+use word_counts::samples::EXAMPLE;
 
 /// A call that reads all and writes.
 #[derive(Clone, Copy, Debug)]

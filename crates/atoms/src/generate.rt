@@ -7,18 +7,19 @@ ghost use Rattle.std.specs.Io.KnownBytes.{IsAtEnd, Keeps};
 ghost use Rattle.table_generator.specs.Generated.{texts_of, TellsTables};
 ghost use Rattle.replay_script.specs.Script.{script_lines};
 ghost use Rattle.table_generator.specs.declared.tables.GenFault.{GenFault};
-ghost use Rattle.atoms.specs.Faults.{IsCheckFault, IsGenerateFault, IsMakingFault, IsReadingFault};
+ghost use Rattle.text_streams.specs.Faults.{IsReadingFault};
+ghost use Rattle.atoms.specs.Faults.{IsCheckFault, IsGenerateFault, IsMakingFault};
 ghost use Rattle.atoms.specs.TableCommands.{IsTableOutput, IsAnswer, WritesTables, BeginsTables, WritesAnswer, BeginsAnswer};
 
 #[cfg(test)]
 mod tests;
 
-use crate::faults::AppFault;
-use crate::streams::{Sink, Source, read_text, write_whole};
 use replay_script::next_line;
 use std::alloc::{AllocError, Global};
 use table_generator::check::check_tables;
 use table_generator::generate::generate;
+use text_streams::faults::AppFault;
+use text_streams::streams::{Sink, Source, read_text, write_whole};
 
 /// The lines of a text, of which the last may lack its line feed.
 fn lines_in(alloc: Global, text: &str) -> Result<Vec<&str>, AllocError>

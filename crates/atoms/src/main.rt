@@ -1,11 +1,8 @@
 //! Words of the standard input: listed with how often each came before, or counted by several workers; and scripts of steps.
 #![tactic(auto)]
 
-mod buckets;
-mod count;
 #[cfg(test)]
 mod failures;
-mod faults;
 mod generate;
 #[cfg(test)]
 mod memory;
@@ -13,16 +10,13 @@ mod program;
 #[cfg(test)]
 mod refusals;
 mod replay;
-mod streams;
 #[cfg(test)]
 mod tests;
-#[cfg(test)]
-mod vectors;
 mod words;
 
 use program::{arguments, run};
 use std::process::ExitCode;
-use streams::Io;
+use text_streams::streams::Io;
 
 /// Hands over the arguments, the streams and the status.
 fn main(rt: HostRuntime) -> ExitCode {

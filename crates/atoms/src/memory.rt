@@ -4,8 +4,8 @@
 
 ghost use Rattle.std.specs.Prelude.{◌≡◌, ◌<◌, ◌≤◌, Some, false};
 
-use crate::streams::{Sink, Source};
 use std::io;
+use text_streams::streams::{Sink, Source};
 
 /// Gives at most `most` bytes a call, and fails at call `fails_at`, counted from 1 (0: never).
 #[derive(Drop)]

@@ -4,11 +4,11 @@
 ghost use Rattle.std.specs.Prelude.{◌≡◌, ◌≢◌, ℕ, ◌≤◌, List, codes, false, IfSome, IsErr, IfErr, MatchOption, OnOk, OnErr};
 ghost use Rattle.std.specs.Str.{IsUtf8};
 ghost use Rattle.std.specs.Io.KnownBytes.{Appends};
-ghost use Rattle.atoms.specs.Streams.{AppendsBeginning};
-ghost use Rattle.atoms.specs.Words.{word_lines};
-ghost use Rattle.atoms.specs.CountLines.{count_lines};
+ghost use Rattle.text_streams.specs.Streams.{AppendsBeginning};
+ghost use Rattle.word_counts.specs.CountLines.{count_lines};
 ghost use Rattle.atoms.specs.Commands.{AreCheck, AreCount, AreGenerate, AreWords, AreReplay, IsRequest, IsWorkers};
 ghost use Rattle.atoms.specs.Replay.{BeginsReplay};
+ghost use Rattle.atoms.specs.WordLines.{word_lines};
 ghost use Rattle.atoms.specs.TableCommands.{WritesTables, BeginsTables, WritesAnswer, BeginsAnswer};
 ghost use Rattle.replay_script.specs.Replay.{IsReplay};
 ghost use Rattle.string_cache.specs.Tables.{empty_tables};
@@ -16,11 +16,8 @@ ghost use Rattle.string_cache.specs.Tables.{empty_tables};
 #[cfg(test)]
 pub mod tests;
 
-use crate::count::tell_counts;
-use crate::faults::AppFault;
 use crate::generate::{write_answer, write_tables};
 use crate::replay::replay;
-use crate::streams::{Sink, Source, write_whole};
 use crate::words::words_in_new_set;
 use std::alloc::Global;
 use std::fmt::Write;
@@ -31,6 +28,9 @@ use std::thread::Threads;
 use std::{env, fmt};
 use string_cache::Fault;
 use table_generator::numbers::{number_of, short_number_of};
+use text_streams::faults::AppFault;
+use text_streams::streams::{Sink, Source, write_whole};
+use word_counts::count::tell_counts;
 
 const USAGE: &str = "usage: atoms words | count N | replay | generate KEY BOUND | check\n";
 

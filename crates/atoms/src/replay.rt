@@ -7,17 +7,18 @@ ghost use Rattle.std.specs.Io.KnownBytes.{Appends, IsAtEnd, Keeps};
 ghost use Rattle.string_cache.specs.Tables.{empty_tables};
 ghost use Rattle.replay_script.specs.Replay.{IsReplay};
 ghost use Rattle.replay_script.specs.Script.{script_lines, IsFirstBadLine};
-ghost use Rattle.atoms.specs.Faults.{IsReadingFault, IsReplayFault};
+ghost use Rattle.text_streams.specs.Faults.{IsReadingFault};
+ghost use Rattle.atoms.specs.Faults.{IsReplayFault};
 ghost use Rattle.atoms.specs.Replay.{BeginsReplay};
 
 #[cfg(test)]
 pub mod tests;
 
-use crate::faults::AppFault;
-use crate::streams::{Sink, Source, read_text, write_whole};
 pub use replay_script::one_output;
 use replay_script::replay_text;
 use std::alloc::Global;
+use text_streams::faults::AppFault;
+use text_streams::streams::{Sink, Source, read_text, write_whole};
 
 /// Runs the script that the reader gives, over a table that nothing was interned in: a line for each step's reply, and
 /// then one for each entry that is held.

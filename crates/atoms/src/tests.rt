@@ -3,10 +3,7 @@
 
 ghost use Rattle.std.specs.Prelude.{None, false};
 
-use crate::buckets::buckets_for;
-use crate::faults::AppFault;
 use crate::memory::{Bytes, Page, Streams};
-use crate::streams::{Io, Sink};
 use crate::words::{words, words_alone};
 use std::alloc::Global;
 use std::sync::Wait;
@@ -15,10 +12,9 @@ use std::{io, str};
 use string_cache::dynamic_set::Set;
 use string_cache::word::Limits;
 use string_cache::{Atom, EmptyStaticAtomSet, Fault};
-
-/// The example of the original's documentation.
-pub const EXAMPLE: &[u8] =
-    b"here is a sentence of text that will be tokenised and\ninterned and some repeated tokens is of text and";
+use text_streams::faults::AppFault;
+use text_streams::streams::{Io, Sink};
+use word_counts::samples::EXAMPLE;
 
 pub const EXAMPLE_LINES: &[u8] = b"Not seen the word \"here\" before
 Not seen the word \"is\" before
@@ -293,22 +289,5 @@ fn tickets_are_spent(rt: HostRuntime) {
         let (answer, written) = words_in(&rt, &set, b"interned");
         assert_eq!(rt; answer, wanted);
         assert!(rt; written.written() == lines);
-    }
-}
-
-/// At each step of the choice, and on both sides of it.
-#[test]
-fn buckets_for_a_text(rt: HostRuntime) {
-    for (bytes, bits) in [
-        (0, 6),
-        (4095, 6),
-        (4096, 10),
-        (65_535, 10),
-        (65_536, 12),
-        (1_048_575, 12),
-        (1_048_576, 14),
-        (usize::MAX, 14),
-    ] {
-        assert_eq!(rt; buckets_for(bytes).bits(), bits, "of {bytes}");
     }
 }

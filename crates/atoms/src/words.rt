@@ -6,14 +6,12 @@ ghost use Rattle.std.specs.Io.KnownBytes.{Appends};
 ghost use Rattle.std.specs.Str.{IsUtf8};
 ghost use Rattle.string_cache.specs.Faults.{IsInternFault};
 ghost use Rattle.atoms.specs.Counts.{count_of, CountsOneMore};
-ghost use Rattle.atoms.specs.Streams.{AppendsBeginning};
-ghost use Rattle.atoms.specs.Words.{seen_line, word_lines};
-ghost use Rattle.atoms.specs.Faults.{IsWordsFault, IsWritingFault};
-ghost use Rattle.atoms.specs.Told.{TellsLines};
+ghost use Rattle.text_streams.specs.Streams.{AppendsBeginning};
+ghost use Rattle.word_counts.specs.Faults.{IsWritingFault};
+ghost use Rattle.word_counts.specs.Told.{TellsLines};
+ghost use Rattle.atoms.specs.Faults.{IsWordsFault};
+ghost use Rattle.atoms.specs.WordLines.{seen_line, word_lines};
 
-use crate::buckets::buckets_for;
-use crate::faults::AppFault;
-use crate::streams::{PIECE, Sink, Source, read_text, write_whole};
 use std::alloc::{AllocError, Global};
 use std::collections::HashMap;
 use std::sync::Wait;
@@ -21,6 +19,9 @@ use string_cache::dynamic_set::Set;
 use string_cache::table::Table;
 use string_cache::word::Limits;
 use string_cache::{Atom, EmptyStaticAtomSet, Fault, StaticAtomSet};
+use text_streams::faults::AppFault;
+use text_streams::streams::{PIECE, Sink, Source, read_text, write_whole};
+use word_counts::buckets::buckets_for;
 
 /// What words are interned in, and kept by until its end.
 trait Interner {

@@ -1,21 +1,16 @@
 // What the commands print and answer, of single texts and of a real vocabulary.
 #![tactic(auto)]
 
-mod names;
-mod static_names;
-
 use crate::generate::{write_answer, write_tables};
 use crate::memory::Streams;
 use crate::program::tests::{Answer, answer_of, words_of_line};
-use crate::streams::Io;
-use names::NAMES;
-use static_names::Names;
 use std::alloc::Global;
 use std::sync::Wait;
 use std::test::Fail;
 use std::thread::Threads;
 use string_cache::phf::hash;
-use string_cache::{Atom, StaticAtomSet};
+use table_generator::samples::NAMES;
+use text_streams::streams::Io;
 
 /// What the program answers to a line of arguments and an input.
 fn answer_to<R: Threads + Wait + Sync>(
@@ -179,15 +174,4 @@ fn vocabulary(rt: HostRuntime) {
     let mut answer = Io::new(Vec::new(alloc));
     write_answer(alloc, &mut Io::new(table.as_slice()), &mut answer).expect(&rt, "an answer");
     assert!(rt; answer.into_inner().as_slice() == b"yes\n".as_slice());
-}
-
-/// Under the tables that were generated of the names, each long name is found without a set.
-#[test]
-fn long_names_are_static(rt: HostRuntime) {
-    assert!(rt; Names::get().check());
-    assert_eq!(rt; Names::get().atoms.len(), NAMES.lines().count());
-    for name in NAMES.lines() {
-        let is_found = Atom::<Names>::try_static(name).is_some();
-        assert_eq!(rt; is_found, name.len() > 7, "of {name}");
-    }
 }

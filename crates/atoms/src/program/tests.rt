@@ -3,10 +3,9 @@
 
 mod texts;
 
-use crate::faults::AppFault;
 use crate::memory::{Page, Streams};
 use crate::program::{arguments, program, refuse, run};
-use crate::tests::{EXAMPLE, EXAMPLE_LINES};
+use crate::tests::EXAMPLE_LINES;
 use std::alloc::{AllocError, Global};
 use std::env::FillError;
 use std::io;
@@ -15,6 +14,8 @@ use std::sync::Wait;
 use std::thread::Threads;
 use string_cache::Fault;
 use table_generator::tables::GenFault;
+use text_streams::faults::AppFault;
+use word_counts::samples::EXAMPLE;
 
 const USAGE: &[u8] = b"usage: atoms words | count N | replay | generate KEY BOUND | check\n";
 

@@ -1,15 +1,11 @@
 // The program's calls over readers, writers and texts. Until one is refused, what it wrote is a beginning of its output.
 ghost use Rattle.std.specs.Prelude.{◌≤◌};
 
-use super::{End, at_last, begin, finish};
-use crate::count::tests::{EXAMPLE_COUNTS, are};
-use crate::count::{Open, count};
-use crate::faults::AppFault;
 use crate::memory::{Bytes, Page, Streams};
 use crate::program::tests::{COUNT_LINE, NO_MEMORY, answer_of, arguments_of, words_of_line};
 use crate::replay::replay;
 use crate::replay::tests::WORKED;
-use crate::tests::{EXAMPLE, EXAMPLE_LINES};
+use crate::tests::EXAMPLE_LINES;
 use crate::words::{words, words_alone};
 use std::alloc::Global;
 use std::io::Print;
@@ -20,6 +16,10 @@ use std::test::Fail;
 use std::thread::Threads;
 use string_cache::EmptyStaticAtomSet;
 use string_cache::dynamic_set::Set;
+use text_streams::faults::AppFault;
+use text_streams::samples::{End, at_last, begin, finish};
+use word_counts::count::{Open, count};
+use word_counts::samples::{EXAMPLE, EXAMPLE_COUNTS, are};
 
 #[test]
 fn words_in_a_set(rt: HostRuntime) {

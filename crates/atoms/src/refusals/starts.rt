@@ -1,16 +1,16 @@
 // Workers whose threads can't be started: `tools/refused.py` refuses each start of the call in turn. Of a short text `count` starts one
 // thread for each piece, from the last piece down, and no other. With every start granted these pass as any test does.
 use super::programs::{example_is_counted, line_is_run};
-use super::{End, begin, finish};
-use crate::count::{Gate, count};
-use crate::faults::AppFault;
 use crate::program::tests::{EXAMPLE_COUNTS, NO_WORKER};
-use crate::tests::EXAMPLE;
 use std::sync::Wait;
 use std::sync::atomic::{AtomicU64, Ordering};
 use string_cache::dynamic_set::Set;
 use string_cache::word::Limits;
 use string_cache::{Atom, EmptyStaticAtomSet, Fault};
+use text_streams::faults::AppFault;
+use text_streams::samples::{End, begin, finish};
+use word_counts::count::{Gate, count};
+use word_counts::samples::EXAMPLE;
 
 /// Counts how often the first worker and the second enter.
 #[derive(Drop)]

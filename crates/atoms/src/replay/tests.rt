@@ -1,13 +1,13 @@
 // The worked scripts, and scripts that are large or no scripts.
 #![tactic(auto)]
 
-use crate::faults::AppFault;
 use crate::memory::{Page, Streams};
 use crate::program::tests::{answer_of, words_of_line};
 use crate::replay::replay;
-use crate::streams::Io;
 use std::alloc::Global;
 use std::test::Fail;
+use text_streams::faults::AppFault;
+use text_streams::streams::Io;
 
 /// What `replay` answers and writes over these streams.
 fn replay_of(alloc: Global, streams: &Streams) -> (Result<(), AppFault>, Page) {

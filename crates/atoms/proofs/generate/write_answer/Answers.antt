@@ -1,5 +1,5 @@
 use Rattle.std.proofs.Common.{rules, string_bytes}
-use Rattle.atoms.proofs.StreamLemmas.{on_err_map, on_ok_map}
+use Rattle.text_streams.proofs.StreamLemmas.{on_err_map, on_ok_map}
 use Rattle.atoms.proofs.TableCommandLemmas.{answer_begun, answer_written}
 use Rattle.atoms.proofs.generate.write_answer.Goals as goal
 

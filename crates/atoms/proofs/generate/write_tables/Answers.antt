@@ -1,5 +1,5 @@
 use Rattle.std.proofs.Common.{rules, string_bytes}
-use Rattle.atoms.proofs.StreamLemmas.{on_err_map}
+use Rattle.text_streams.proofs.StreamLemmas.{on_err_map}
 use Rattle.atoms.proofs.TableCommandLemmas.{tables_begun}
 use Rattle.atoms.proofs.generate.write_tables.Goals as goal
 

@@ -1,6 +1,6 @@
 use Rattle.std.proofs.Common.{rules, string_bytes}
 use Rattle.string_cache.specs.Tables.{empty_tables}
-use Rattle.atoms.proofs.StreamLemmas.{on_err_map}
+use Rattle.text_streams.proofs.StreamLemmas.{on_err_map}
 use Rattle.atoms.proofs.ReplayLemmas.{replay_begun, replay_ran}
 use Rattle.atoms.proofs.replay.replay.Goals as goal
 

@@ -1,8 +1,8 @@
 use Rattle.std.proofs.Common.{ap, ◌∙◌, refl, ◌++◌, string_bytes}
 use Rattle.std.specs.Str.Iter.{split_whitespace_rest}
-use Rattle.atoms.specs.Words.{seen_line}
-use Rattle.atoms.proofs.StreamLemmas.{on_err, on_err_map, on_ok_map, beginning_nothing, keeps_same}
-use Rattle.atoms.proofs.WordLemmas.{word_comes_off}
+use Rattle.atoms.specs.WordLines.{seen_line}
+use Rattle.text_streams.proofs.StreamLemmas.{on_err, on_err_map, on_ok_map, beginning_nothing, keeps_same}
+use Rattle.word_counts.proofs.WordLemmas.{word_comes_off}
 use Rattle.atoms.proofs.Progress.{progress_begins, next_word, flushed, begun, finished}
 use Rattle.atoms.proofs.words.write_words.Goals as goal
 

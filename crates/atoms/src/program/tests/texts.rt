@@ -4,10 +4,10 @@
 use super::words_of_line;
 use crate::memory::Page;
 use crate::program::program;
-use crate::streams::Io;
 use std::alloc::{AllocError, Global};
 use std::sync::Wait;
 use std::thread::Threads;
+use text_streams::streams::Io;
 
 /// The status, the output and the fault's line of the program over an input of any size.
 fn ran_over<R: Threads + Wait + Sync>(

@@ -1,9 +1,0 @@
-use Rattle.std.proofs.Common.{sym, subst}
-use Rattle.atoms.specs.WordCounts.{AreWordCounts}
-use Rattle.atoms.specs.Words.{words}
-use Rattle.atoms.proofs.WordCountLemmas.{counts_law, if_ok_map}
-use Rattle.atoms.proofs.count.count.Goals as goal
-
-pub returns-clause-law : goal.returns-clause-law
-returns-clause-law g c =
-    if_ok_map (λ counts is. subst (AreWordCounts (words c.args.text.now)) (sym is) (counts_law (words c.args.text.now))) c.counts_by_workers.result c.counts_by_workers.ensures.counts

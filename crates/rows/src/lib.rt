@@ -1,0 +1,9 @@
+//! Tests of calls of several crates, beside one another, and nothing else.
+#![tactic(auto)]
+
+#[cfg(test)]
+mod names;
+#[cfg(test)]
+mod refusals;
+#[cfg(test)]
+mod vectors;

@@ -1,0 +1,36 @@
+// Tables of a list of texts, and checks of table texts: a call that is made again gives what it gives the first time.
+use table_generator::check::check_tables;
+use table_generator::generate::generate;
+use text_streams::samples::at_last;
+
+/// More than five texts: where a search of so few finds no tables, it has to show that there are none.
+const TEXTS: [&str; 7] = [
+    "here",
+    "sentence",
+    "text",
+    "tokenised",
+    "interned",
+    "repeated",
+    "tokens",
+];
+
+#[test]
+fn tables_are_made(rt: HostRuntime) {
+    let alloc = rt.alloc();
+    let list = TEXTS.as_slice();
+    let tables = at_last(&rt, || generate(alloc, list, 1, 64)).expect(&rt, "an answer");
+    let again = generate(alloc, list, 1, 64).expect(&rt, "tables");
+    let printed = format!(in alloc; "{tables}").expect(&rt, "a text");
+    let printed_again = format!(in alloc; "{again}").expect(&rt, "a text");
+    assert!(rt; printed == printed_again);
+    assert!(rt; check_tables(alloc, &printed).expect(&rt, "an answer"));
+}
+
+/// By OpenSSL's SipHash the places of the two among two are 0 and 1.
+#[test]
+fn table_text_is_checked(rt: HostRuntime) {
+    let alloc = rt.alloc();
+    let text = "key 0\ndisp 0 0\natom ed02e6f16c03c165 sentence\natom 556a6dba06a47210 interned\n";
+    let is_perfect = at_last(&rt, || check_tables(alloc, text)).expect(&rt, "an answer");
+    assert!(rt; is_perfect);
+}

@@ -1,0 +1,184 @@
+// Tables and worlds of steps.
+use std::alloc::Global;
+use std::test::Fail;
+use string_cache::steps::{Step, StepReply, World};
+use string_cache::table::{Call, Table, TableReply};
+use string_cache::word::Limits;
+use string_cache::{EmptyStaticAtomSet, Fault};
+use text_streams::samples::{End, at_last, begin, finish};
+
+/// The first ticket of "interned", and the next one.
+const FIRST: u64 = 0x1_0840;
+
+const SECOND: u64 = 0x2_0840;
+
+/// The end of a call that keeps what it did till it was refused.
+fn midway(is_refused: bool) -> End {
+    if is_refused {
+        End::RefusedMidway
+    } else {
+        End::Given
+    }
+}
+
+#[test]
+fn table_is_made(rt: HostRuntime) {
+    let alloc = rt.alloc();
+    let mut table: Table<EmptyStaticAtomSet> = at_last(&rt, || Table::new(alloc)).expect(
+        &rt,
+        "an answer",
+    );
+    assert!(rt; table.entries() == 0 && table.text_bytes() == 0);
+    assert!(rt; table.intern("interned").expect(&rt, "a word") == FIRST);
+}
+
+/// A refusal may leave room for further texts in the table, and nothing else.
+#[test]
+fn text_is_interned_in_a_table(rt: HostRuntime) -> Result<(), Fail> {
+    let mut table = Table::<EmptyStaticAtomSet>::new(rt.alloc())?;
+    begin(&rt);
+    let answer = table.intern("interned");
+    let is_refused = answer == Err(Fault::Memory);
+    finish(&rt, midway(is_refused));
+    let word = match answer {
+        Err(Fault::Memory) => {
+            assert!(rt; table.entries() == 0 && table.text_bytes() == 0);
+            table.intern("interned")?
+        }
+        made => made?,
+    };
+    assert!(rt; word == FIRST);
+    assert!(rt; table.text(word) == Some("interned"));
+    Ok(())
+}
+
+/// Interning a text twice, giving it twice, interning it again, and another one.
+fn calls(alloc: Global) -> Result<Vec<Call>, Fault> {
+    let mut calls = Vec::new(alloc);
+    calls.push(Call::Intern(String::from_str(alloc, "interned")?))?;
+    calls.push(Call::Intern(String::from_str(alloc, "interned")?))?;
+    calls.push(Call::Give(FIRST))?;
+    calls.push(Call::Give(FIRST))?;
+    calls.push(Call::Intern(String::from_str(alloc, "interned")?))?;
+    calls.push(Call::Intern(String::from_str(alloc, "tokenised")?))?;
+    Ok(calls)
+}
+
+/// By OpenSSL's SipHash the bucket of "tokenised" is 0xe77.
+const REPLIES: [TableReply; 6] = [
+    TableReply::Word(FIRST),
+    TableReply::Word(FIRST),
+    TableReply::Given,
+    TableReply::Given,
+    TableReply::Word(SECOND),
+    TableReply::Word(0x1_39dc),
+];
+
+/// How a run ended.
+fn end_of(answer: &Result<Vec<TableReply>, Fault>) -> End {
+    match answer {
+        Ok(replies) if replies.contains(&TableReply::Refused(Fault::Memory)) => End::RefusedMidway,
+        answer => End::of(answer),
+    }
+}
+
+/// An `Err` changes nothing, and the run is made again in the same table. Where one of the calls was refused, all are made again in
+/// a new one.
+#[test]
+fn calls_are_run(rt: HostRuntime) {
+    let alloc = rt.alloc();
+    let calls = calls(alloc).expect(&rt, "an answer");
+    let mut table = Table::<EmptyStaticAtomSet>::new(alloc).expect(&rt, "a table");
+    begin(&rt);
+    let answer = table.run(&calls);
+    let ended = end_of(&answer);
+    finish(&rt, ended);
+    let replies = match ended {
+        End::Given => answer.expect(&rt, "an answer"),
+        End::Refused => {
+            assert!(rt; table.entries() == 0 && table.text_bytes() == 0);
+            table.run(&calls).expect(&rt, "replies")
+        }
+        End::RefusedMidway => {
+            assert!(rt; answer.expect(&rt, "an answer").len() == calls.len());
+            Table::<EmptyStaticAtomSet>::new(alloc)
+                .expect(&rt, "a table")
+                .run(&calls)
+                .expect(&rt, "replies")
+        }
+    };
+    assert!(rt; replies.as_slice() == REPLIES.as_slice());
+}
+
+#[test]
+fn world_is_made(rt: HostRuntime) {
+    let alloc = rt.alloc();
+    let limits = Limits::greatest();
+    let mut world: World<EmptyStaticAtomSet> = at_last(&rt, || World::new(alloc, limits)).expect(
+        &rt,
+        "an answer",
+    );
+    assert!(rt; world.count(1).is_none());
+    let text = String::from_str(alloc, "interned").expect(&rt, "a text");
+    assert!(rt; world.step(1, Step::TakeIntern(text)).expect(&rt, "a reply") == StepReply::Taken);
+}
+
+/// Two parties that share an entry.
+fn steps(alloc: Global) -> Result<Vec<(u32, Step)>, Fault> {
+    let mut steps = Vec::new(alloc);
+    for step in [
+        (1, Step::TakeIntern(String::from_str(alloc, "interned")?)),
+        (2, Step::TakeIntern(String::from_str(alloc, "interned")?)),
+        (1, Step::Link(true)),
+        (1, Step::Leave),
+        (2, Step::TakeIntern(String::from_str(alloc, "interned")?)),
+        (2, Step::Link(true)),
+        (2, Step::Add(1)),
+        (2, Step::Leave),
+    ] {
+        steps.push(step)?;
+    }
+    Ok(steps)
+}
+
+const STEP_REPLIES: [StepReply; 8] = [
+    StepReply::Taken,
+    StepReply::No,
+    StepReply::Linked {
+        entry: 1,
+        ticket: FIRST,
+    },
+    StepReply::Left,
+    StepReply::Taken,
+    StepReply::No,
+    StepReply::Added {
+        ticket: FIRST,
+        holders: 2,
+    },
+    StepReply::Left,
+];
+
+/// A run that is refused goes on from the replies that were appended.
+#[test]
+fn steps_are_run(rt: HostRuntime) {
+    let alloc = rt.alloc();
+    let steps = steps(alloc).expect(&rt, "an answer");
+    let mut world = World::<EmptyStaticAtomSet>::new(alloc, Limits::greatest()).expect(
+        &rt, "a world",
+    );
+    let mut replies = Vec::new(alloc);
+    begin(&rt);
+    let answer = world.run(&steps, &mut replies);
+    let is_refused = answer == Err(Fault::Memory);
+    finish(&rt, midway(is_refused));
+    if is_refused {
+        let done = replies.len();
+        assert!(rt; STEP_REPLIES.starts_with(replies.as_slice()));
+        let rest = steps.get(done..).expect(&rt, "the steps that are left");
+        world.run(rest, &mut replies).expect(&rt, "replies");
+    } else {
+        answer.expect(&rt, "an answer");
+    }
+    assert!(rt; replies.as_slice() == STEP_REPLIES.as_slice());
+    assert!(rt; world.count(1) == Some(2));
+}

@@ -1,0 +1,8 @@
+//! Bytes that are read and written whole, over readers and writers that remember that they failed or ended, and what a
+//! program over them can fail with.
+#![tactic(auto)]
+
+pub mod faults;
+#[doc(hidden)]
+pub mod samples;
+pub mod streams;

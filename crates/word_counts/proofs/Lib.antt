@@ -1,0 +1,8 @@
+pub mod CutWords
+pub mod MergeLemmas
+pub mod PartLemmas
+pub mod SectionLemmas
+pub mod TallyLemmas
+pub mod WordCountLemmas
+pub mod WordLemmas
+pub mod WrittenLines

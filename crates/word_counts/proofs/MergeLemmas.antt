@@ -1,0 +1,178 @@
+-- The counts of two lists of words, merged, are those of the words joined.
+use Rattle.std.proofs.Common.{◌≡◌, ℕ, ◌+◌, ◌<◌, ◌^◌, Bool, true, false, cond, ◌||◌, List, [], ◌∷◌, ◌++◌, length, drop, map, refl, sym, ap, append_assoc, ◌∙◌, subst, arith, is_eq, is_lt, Ordering, Less, Equal, Greater}
+use Rattle.std.specs.Prelude.{Option, Some, None, MatchOption, option_to_list}
+use Rattle.std.specs.Cmp.Lexicographic.{bytes_decides, nat_list_eq_equiv, nat_list_cmp_total}
+use Rattle.std.specs.List.{All, AllByRecursion, list_any}
+use Rattle.std.specs.List.Sorted.{IsStrictlySortedBy}
+use Rattle.std.specs.Map.{keys_of, lookup}
+use Rattle.std.specs.Ordering.{match_ordering, ordering_reverse}
+use Rattle.std.specs.Str.{bytes_eq}
+use Rattle.std.proofs.lemmas.List.{map-append}
+use Rattle.std.proofs.lemmas.List.Elements.{All-cons, All-head, All-tail, All-nil}
+use Rattle.std.proofs.lemmas.List.Folds.{list_any-append}
+use Rattle.std.proofs.lemmas.List.Sums.{sum_by-append, count_by-le-length}
+use Rattle.std.proofs.lemmas.Map.Text.{is_eq-slice_cmp}
+use mathlib.Core.Bool.{true≢false}
+use Rattle.string_cache.specs.AtomValue.{AtomValue}
+use Rattle.word_counts.specs.MergedCounts.{first_order, merged}
+use Rattle.word_counts.specs.WordCounts.{counted_texts, distinct_words, word_counts}
+use Rattle.word_counts.specs.Words.{times_seen}
+use Rattle.word_counts.proofs.WordCountLemmas.{by_bytes, below_later, counts_law, counts_are, found_counts, none_seen}
+
+-- each word of the pairs is above k
+abbrev Above : List ℕ → List (List ℕ × ℕ) → Type 0
+Above k es = AllByRecursion (λ y. by_bytes k y ≡ Less) (keys_of es)
+
+-- ---- the order
+
+above_merged : (k : List ℕ) (xs ys : List (List ℕ × ℕ)) → Above k xs → Above k ys → Above k (merged xs ys)
+above_merged k [] ys f g = g
+above_merged k (a ∷ xs) [] f g = f
+above_merged k (a ∷ xs) (b ∷ ys) f g =
+    let less = above_merged k xs (b ∷ ys) f.1 g in
+    let same = above_merged k xs ys f.1 g.1 in
+    let more = above_merged k (a ∷ xs) ys f g.1 in
+    elim (by_bytes a.0 b.0) as (λ o. Above k (match_ordering o (a ∷ merged xs (b ∷ ys)) ((a.0, a.1 + b.1) ∷ merged xs ys) (b ∷ merged (a ∷ xs) ys))) [
+      | Less ↦ (f.0, less)
+      | Equal ↦ (f.0, same)
+      | Greater ↦ (g.0, more)
+    ]
+
+equal_keys : (a b : List ℕ) → by_bytes a b ≡ Equal → a ≡ b
+equal_keys a b e = (bytes_decides a b).0 (sym (is_eq-slice_cmp a b) ∙ ap is_eq e)
+
+sorted_merged : (xs ys : List (List ℕ × ℕ)) → IsStrictlySortedBy by_bytes (keys_of xs) → IsStrictlySortedBy by_bytes (keys_of ys) → IsStrictlySortedBy by_bytes (keys_of (merged xs ys))
+unfolding IsStrictlySortedBy
+sorted_merged [] ys f g = g
+sorted_merged (a ∷ xs) [] f g = f
+sorted_merged (a ∷ xs) (b ∷ ys) f g =
+    let less = sorted_merged xs (b ∷ ys) f.1 g in
+    let same = sorted_merged xs ys f.1 g.1 in
+    let more = sorted_merged (a ∷ xs) ys f g.1 in
+    elim (by_bytes a.0 b.0) as (λ o. by_bytes a.0 b.0 ≡ o → IsStrictlySortedBy by_bytes (keys_of (match_ordering o (a ∷ merged xs (b ∷ ys)) ((a.0, a.1 + b.1) ∷ merged xs ys) (b ∷ merged (a ∷ xs) ys)))) [
+      | Less ↦ λ e. (above_merged a.0 xs (b ∷ ys) f.0 (e, below_later a.0 b.0 (keys_of ys) e g.0), less)
+      | Equal ↦ λ e. (above_merged a.0 xs ys f.0 (subst (λ k. Above k ys) (sym (equal_keys a.0 b.0 e)) g.0), same)
+      | Greater ↦ λ e.
+          let under : by_bytes b.0 a.0 ≡ Less = nat_list_cmp_total.antisymm b.0 a.0 ∙ ap ordering_reverse e in
+          (above_merged b.0 (a ∷ xs) ys (under, below_later b.0 a.0 (keys_of xs) under f.0) g.0, more)
+    ] refl
+
+-- ---- the numbers
+
+-- a number that is there in either, added where it is in both
+abbrev plus : Option ℕ → Option ℕ → Option ℕ
+plus None o = o
+plus (Some m) None = Some m
+plus (Some m) (Some n) = Some (m + n)
+
+plus_none : (o : Option ℕ) → plus o None ≡ o
+plus_none None = refl
+plus_none (Some m) = refl
+
+front_first : (c : Bool) (n : ℕ) (rest fs ys : Option ℕ) → (c ≡ true → ys ≡ None) → rest ≡ plus fs ys → cond c (Some n) rest ≡ plus (cond c (Some n) fs) ys
+front_first true n rest fs ys none is = sym (ap (plus (Some n)) (none refl))
+front_first false n rest fs ys none is = is
+
+back_first : (c : Bool) (n : ℕ) (rest fs ys : Option ℕ) → (c ≡ true → fs ≡ None) → rest ≡ plus fs ys → cond c (Some n) rest ≡ plus fs (cond c (Some n) ys)
+back_first true n rest fs ys none is = sym (ap (λ f. plus f (Some n)) (none refl))
+back_first false n rest fs ys none is = is
+
+both_first : (c d : Bool) (m n : ℕ) (rest fs ys : Option ℕ) → c ≡ d → rest ≡ plus fs ys → cond c (Some (m + n)) rest ≡ plus (cond c (Some m) fs) (cond d (Some n) ys)
+both_first true true m n rest fs ys same is = refl
+both_first true false m n rest fs ys same is = absurd (true≢false same)
+both_first false true m n rest fs ys same is = absurd (true≢false (sym same))
+both_first false false m n rest fs ys same is = is
+
+-- no word above k is k
+absent : (k q : List ℕ) (es : List (List ℕ × ℕ)) → Above k es → bytes_eq q k ≡ true → lookup (bytes_eq q) es ≡ None
+absent k q [] h same = refl
+absent k q (e ∷ es) h same =
+    let other : bytes_eq q e.0 ≡ false = nat_list_eq_equiv.congr q k e.0 same ∙ sym (is_eq-slice_cmp k e.0) ∙ ap is_eq h.0 in
+    ap (λ b. cond b (Some e.1) (lookup (bytes_eq q) es)) other ∙ absent k q es h.1 same
+
+lookup_merged : (q : List ℕ) (xs ys : List (List ℕ × ℕ)) → IsStrictlySortedBy by_bytes (keys_of xs) → IsStrictlySortedBy by_bytes (keys_of ys)
+    → lookup (bytes_eq q) (merged xs ys) ≡ plus (lookup (bytes_eq q) xs) (lookup (bytes_eq q) ys)
+unfolding IsStrictlySortedBy
+lookup_merged q [] ys f g = refl
+lookup_merged q (a ∷ xs) [] f g = sym (plus_none (lookup (bytes_eq q) (a ∷ xs)))
+lookup_merged q (a ∷ xs) (b ∷ ys) f g =
+    let less = lookup_merged q xs (b ∷ ys) f.1 g in
+    let same = lookup_merged q xs ys f.1 g.1 in
+    let more = lookup_merged q (a ∷ xs) ys f g.1 in
+    elim (by_bytes a.0 b.0) as (λ o. by_bytes a.0 b.0 ≡ o → lookup (bytes_eq q) (match_ordering o (a ∷ merged xs (b ∷ ys)) ((a.0, a.1 + b.1) ∷ merged xs ys) (b ∷ merged (a ∷ xs) ys)) ≡ plus (lookup (bytes_eq q) (a ∷ xs)) (lookup (bytes_eq q) (b ∷ ys))) [
+      | Less ↦ λ e. front_first (bytes_eq q a.0) a.1 _ _ _ (absent a.0 q (b ∷ ys) (e, below_later a.0 b.0 (keys_of ys) e g.0)) less
+      | Equal ↦ λ e. both_first (bytes_eq q a.0) (bytes_eq q b.0) a.1 b.1 _ _ _ (ap (bytes_eq q) (equal_keys a.0 b.0 e)) same
+      | Greater ↦ λ e.
+          let under : by_bytes b.0 a.0 ≡ Less = nat_list_cmp_total.antisymm b.0 a.0 ∙ ap ordering_reverse e in
+          back_first (bytes_eq q b.0) b.1 _ _ _ (absent b.0 q (a ∷ xs) (under, below_later b.0 a.0 (keys_of xs) under f.0)) more
+    ] refl
+
+-- ---- the counts
+
+plus_found : (a b : Bool) (m n : ℕ) → (a ≡ false → m ≡ 0) → (b ≡ false → n ≡ 0) → plus (cond a (Some m) None) (cond b (Some n) None) ≡ cond (a || b) (Some (m + n)) None
+plus_found true true m n f g = refl
+plus_found true false m n f g = ap Some (omega (arith, g refl))
+plus_found false true m n f g = ap Some (omega (arith, f refl))
+plus_found false false m n f g = refl
+
+pub merged_counts : (xs ys : List (List ℕ)) → merged (word_counts xs) (word_counts ys) ≡ word_counts (xs ++ ys)
+merged_counts xs ys =
+    let front = counts_law xs in
+    let back = counts_law ys in
+    counts_are (merged (word_counts xs) (word_counts ys)) (xs ++ ys) (sorted_merged (word_counts xs) (word_counts ys) front.in_order back.in_order)
+    (λ q. lookup_merged q (word_counts xs) (word_counts ys) front.in_order back.in_order
+    ∙ ap (λ o. plus o (lookup (bytes_eq q) (word_counts ys))) (found_counts q xs)
+    ∙ ap (λ o. plus (cond (list_any (bytes_eq q) xs) (Some (times_seen xs q)) None) o) (found_counts q ys)
+    ∙ plus_found (list_any (bytes_eq q) xs) (list_any (bytes_eq q) ys) (times_seen xs q) (times_seen ys q) (none_seen q xs) (none_seen q ys)
+    ∙ ap (λ b. cond b (Some (times_seen xs q + times_seen ys q)) None) (sym (list_any-append (bytes_eq q) xs ys))
+    ∙ ap (λ n. cond (list_any (bytes_eq q) (xs ++ ys)) (Some n) None) (sym (sum_by-append (λ (x : List ℕ). cond (bytes_eq q x) 1 0) xs ys)))
+
+-- no number is above that of all words
+pub counts_fit : (words : List (List ℕ)) → length words < 2 ^ 63 → All (λ pair. pair.1 < 2 ^ 63) (word_counts words)
+counts_fit words small = each (distinct_words words)
+  where
+    each : (ks : List (List ℕ)) → All (λ (pair : List ℕ × ℕ). pair.1 < 2 ^ 63) (map (λ word. (word, times_seen words word)) ks)
+    each [] = All-nil (λ (pair : List ℕ × ℕ). pair.1 < 2 ^ 63)
+    each (k ∷ ks) = All-cons (λ (pair : List ℕ × ℕ). pair.1 < 2 ^ 63) (k, times_seen words k) (map (λ word. (word, times_seen words word)) ks) (omega (arith, small, count_by-le-length (bytes_eq k) words)) (each ks)
+
+-- ---- one step
+
+merged_none : (front : List (List ℕ × ℕ)) → merged front [] ≡ front
+merged_none [] = refl
+merged_none (p ∷ front) = refl
+
+abbrev step : List ℕ × ℕ → List (List ℕ × ℕ) → List ℕ × ℕ → List (List ℕ × ℕ) → Ordering → List (List ℕ × ℕ)
+step p front q back o = match_ordering o (p ∷ merged front (q ∷ back)) ((p.0, p.1 + q.1) ∷ merged front back) (q ∷ merged (p ∷ front) back)
+
+first_less : (p : List ℕ × ℕ) (front back : List (List ℕ × ℕ)) → first_order (p ∷ front) back ≡ Less → merged (p ∷ front) back ≡ p ∷ merged front back
+first_less p front [] e = ap (λ l. p ∷ l) (sym (merged_none front))
+first_less p front (q ∷ back) e = ap (step p front q back) e
+
+-- ---- what is left of a list whose first pair was taken
+
+abbrev Fit : List (AtomValue × ℕ) → Type 0
+Fit pairs = All (λ pair. pair.1 < 2 ^ 63) (counted_texts pairs)
+
+pub rest_fits : (old new : List (AtomValue × ℕ)) → new ≡ drop 1 old → Fit old → Fit new
+rest_fits [] new rest fit = subst Fit (sym rest) fit
+rest_fits (p ∷ old) new rest fit = subst Fit (sym rest) (All-tail (λ (pair : List ℕ × ℕ). pair.1 < 2 ^ 63) (p.0.text, p.1) (counted_texts old) fit)
+
+pub first_fits : (p : AtomValue × ℕ) (old new : List (AtomValue × ℕ)) → old ≡ p ∷ new → Fit old → p.1 < 2 ^ 63
+first_fits p old new is fit = All-head (λ (pair : List ℕ × ℕ). pair.1 < 2 ^ 63) (p.0.text, p.1) (counted_texts new) (subst Fit is fit)
+
+pub takes_less : (back : List (List ℕ × ℕ)) (old new : List (AtomValue × ℕ)) (o : Option (AtomValue × ℕ)) → old ≡ option_to_list o ++ new → new ≡ drop 1 old → first_order (counted_texts old) back ≡ Less
+    → MatchOption o (merged (counted_texts old) back ≡ []) (λ pair. merged (counted_texts old) back ≡ (pair.0.text, pair.1) ∷ merged (counted_texts new) back)
+takes_less back old new None is rest less = absurd (true≢false (sym (ap is_lt less) ∙ ap (λ l. is_lt (first_order (counted_texts l) back)) (none old (is ∙ rest))))
+  where
+    none : (l : List (AtomValue × ℕ)) → l ≡ drop 1 l → l ≡ []
+    none [] e = refl
+    none (x ∷ l) e = absurd (omega (arith, ap length e))
+takes_less back old new (Some p) is rest less =
+    ap (λ l. merged (counted_texts l) back) is ∙ first_less (p.0.text, p.1) (counted_texts new) back (ap (λ l. first_order (counted_texts l) back) (sym is) ∙ less)
+
+-- the pair that comes first goes behind those that are merged
+pub merges_one : (done : List (AtomValue × ℕ)) (p : AtomValue × ℕ) (before after whole : List (List ℕ × ℕ)) → before ≡ (p.0.text, p.1) ∷ after → counted_texts done ++ before ≡ whole
+    → counted_texts (done ++ (p ∷ [])) ++ after ≡ whole
+merges_one done p before after whole is all =
+    ap (λ l. l ++ after) (map-append (λ (x : AtomValue × ℕ). (x.0.text, x.1)) done (p ∷ [])) ∙ append_assoc (counted_texts done) ((p.0.text, p.1) ∷ []) after
+    ∙ ap (λ l. counted_texts done ++ l) (sym is) ∙ all

@@ -1,0 +1,8 @@
+pub mod CountLines
+pub mod Faults
+pub mod MergedCounts
+pub mod Sections
+pub mod Tally
+pub mod Told
+pub mod WordCounts
+pub mod Words

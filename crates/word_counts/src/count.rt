@@ -1,0 +1,69 @@
+// Counts the words of a text by several workers at once.
+#![tactic(auto)]
+
+ghost use Rattle.std.specs.Prelude.{◌≡◌, ◌≤◌, IfOk, IfErr};
+ghost use Rattle.word_counts.specs.Faults.{IsCountFault};
+ghost use Rattle.word_counts.specs.WordCounts.{AreWordCounts, counted_texts, word_counts};
+ghost use Rattle.word_counts.specs.Words.{words};
+
+mod cut;
+#[cfg(test)]
+mod gates;
+mod lines;
+mod marks;
+mod merge;
+mod tally;
+#[cfg(test)]
+mod tests;
+mod workers;
+
+pub use lines::tell_counts;
+use std::sync::Wait;
+use std::thread::Threads;
+use string_cache::dynamic_set::Set;
+use string_cache::{Atom, StaticAtomSet};
+use text_streams::faults::AppFault;
+use workers::counts_by_workers;
+
+/// Lets the workers of `count` in to their pieces, numbered from 1, and out of them.
+pub trait Gate: Sync {
+    /// Called by a worker before it interns the words of its piece.
+    fn enter<R: Wait>(&self, rt: &R, piece: u32);
+
+    /// Called by a worker once it has, or was refused, while it holds an atom of each of its words, and of each place of a
+    /// dynamic one.
+    fn leave<R: Wait>(&self, rt: &R, piece: u32);
+}
+
+/// A gate that holds nobody.
+pub struct Open;
+
+impl Gate for Open {
+    fn enter<R: Wait>(&self, _rt: &R, _piece: u32) {}
+
+    fn leave<R: Wait>(&self, _rt: &R, _piece: u32) {}
+}
+
+/// Each distinct word of the text once, in the order of bytes, with the number of its places.
+///
+/// The words are cut into `n` pieces, in order and about equally long, and each goes to a worker with a thread of its own.
+/// It interns every place of every word in the set, repeated ones again, between the gate's two calls.
+///
+/// `Worker` comes where a thread couldn't be started, and `Intern` where interning was refused, or memory. Where several
+/// workers are refused it is the fault of the lowest piece. After a fault no worker is left running, and none of their
+/// atoms is held.
+pub fn count<'s, R: Threads + Wait + Sync, Static: StaticAtomSet + Send + Sync, G: Gate>(
+    rt: &'s R,
+    set: &'s Set<Static>,
+    text: &'s str,
+    n: u32,
+    gate: &'s G,
+) -> Result<Vec<(Atom<'s, Static>, u64)>, AppFault>
+    requires low { 1 ≤ n }
+    requires high { n ≤ 64 }
+    ensures counts { IfOk result (λ counts. counted_texts counts.items ≡ word_counts (words text.now)) }
+    ensures law { IfOk result (λ counts. AreWordCounts (words text.now) (counted_texts counts.items)) }
+    ensures fault { IfErr result IsCountFault }
+{
+    counts_by_workers(rt, set, gate, text, n)
+}

@@ -1,0 +1,78 @@
+// The lines of counts.
+#![tactic(auto)]
+
+ghost use Rattle.std.specs.Prelude.{◌≡◌, ◌↔◌, ◌≤◌, ◌++◌, false, true, string_bytes, IfErr, OnOk, OnErr};
+ghost use Rattle.std.specs.Io.KnownBytes.{Appends};
+ghost use Rattle.std.specs.List.{flat_map};
+ghost use Rattle.word_counts.specs.CountLines.{count_line, count_lines};
+ghost use Rattle.word_counts.specs.Faults.{IsTellCountsFault, IsWritingFault};
+ghost use Rattle.text_streams.specs.Streams.{AppendsBeginning};
+ghost use Rattle.word_counts.specs.Told.{TellsLines};
+ghost use Rattle.word_counts.specs.WordCounts.{counted_texts};
+
+use super::{Open, count};
+use crate::buckets::buckets_for;
+use std::alloc::{AllocError, Global};
+use std::sync::Wait;
+use std::thread::Threads;
+use string_cache::dynamic_set::Set;
+use string_cache::word::Limits;
+use string_cache::{Atom, EmptyStaticAtomSet, StaticAtomSet};
+use text_streams::faults::AppFault;
+use text_streams::streams::{PIECE, Sink, Source, read_text, write_whole};
+
+/// Appends the line of a word and its number.
+fn append_count(out: &mut String, word: &str, n: u64) -> Result<(), AllocError>
+    ensures { OnOk result (string_bytes out.new ≡ string_bytes out.old ++ count_line (word.now, n)) }
+{
+    writeln!(out, "{n} {word}")
+}
+
+/// Writes a line for each word, in order.
+fn write_lines<Static: StaticAtomSet, K: Sink>(
+    alloc: Global,
+    counts: &[(Atom<'_, Static>, u64)],
+    writer: &mut K,
+) -> Result<(), AppFault>
+    requires { K.has_failed writer.old ≡ false }
+    ensures ok { OnOk result (Appends (K.contents writer.old) (K.contents writer.new) (flat_map count_line (counted_texts counts.now))) }
+    ensures err { OnErr result (AppendsBeginning (K.contents writer.old) (K.contents writer.new) (flat_map count_line (counted_texts counts.now))) }
+    ensures fault { IfErr result IsWritingFault }
+    ensures failed { (result ≡ Err AppFault.Write) ↔ (K.has_failed writer.new ≡ true) }
+{
+    let mut pending = String::new(alloc);
+    for (atom, n) in counts {
+        append_count(&mut pending, atom.as_str(), *n)?;
+        if pending.len() >= PIECE {
+            write_whole(writer, pending.as_bytes())?;
+            pending.clear();
+        }
+    }
+    write_whole(writer, pending.as_bytes())
+}
+
+/// Reads all, counts its words by `n` workers, and writes a line for each distinct one. They are interned in a set of this
+/// call's own, whose number of buckets fits the input.
+///
+/// `Read` and `Text`, input that isn't UTF-8, come before anything is written, and so does `Intern(Memory)` while the
+/// input is read. After another fault a beginning of the lines is written.
+pub fn tell_counts<R: Threads + Wait + Sync, S: Source, K: Sink>(
+    rt: &R,
+    alloc: Global,
+    n: u32,
+    reader: &mut S,
+    writer: &mut K,
+) -> Result<(), AppFault>
+    requires low { 1 ≤ n }
+    requires high { n ≤ 64 }
+    requires reader { S.has_failed reader.old ≡ false }
+    requires writer { K.has_failed writer.old ≡ false }
+    ensures { TellsLines S.remaining S.has_ended S.has_failed K.contents K.has_failed
+        count_lines IsTellCountsFault reader.old reader.new writer.old writer.new result }
+{
+    let text = read_text(alloc, reader)?;
+    let buckets = buckets_for(text.len());
+    let set = Set::<EmptyStaticAtomSet>::with_buckets(alloc, Limits::greatest(), buckets)?;
+    let counts = count(rt, &set, &text, n, &Open)?;
+    write_lines(alloc, &counts, writer)
+}

@@ -1,0 +1,19 @@
+// How many buckets a text gets.
+use crate::buckets::buckets_for;
+
+/// At each step of the choice, and on both sides of it.
+#[test]
+fn buckets_for_a_text(rt: HostRuntime) {
+    for (bytes, bits) in [
+        (0, 6),
+        (4095, 6),
+        (4096, 10),
+        (65_535, 10),
+        (65_536, 12),
+        (1_048_575, 12),
+        (1_048_576, 14),
+        (usize::MAX, 14),
+    ] {
+        assert_eq!(rt; buckets_for(bytes).bits(), bits, "of {bytes}");
+    }
+}
