@@ -1,10 +1,16 @@
 #!/usr/bin/env bash
 # The gate: every proof from nothing, every edit that the prover has to refuse, every test, each program as two compilers
 # build it (rt ci), then each request for memory or a thread refused under the tests that rt ci built, the schedules of small
-# scenes, the static type that a script wrote, the scripts that count over many machines, and each wrong body that a test has to
-# catch, which begin where rt ci leaves a processor idle. The last line sums up.
+# scenes, the static type that a script wrote, the scripts that count over many machines and that review wrong bodies, and each wrong
+# body that a test has to catch, which begin where rt ci leaves a processor idle. The last line sums up.
+#
+# `./test.sh quick [CRATE ..]` isn't the gate: it proves what changed over kept work, and runs the tests that see it (tools/quick.py).
 set -uo pipefail
 cd "$(dirname "$0")" || exit 1
+if [[ ${1:-} == quick ]]; then
+    shift
+    exec tools/quick.py "$@"
+fi
 
 said=$(mktemp -d)
 trap 'kill $(jobs -p) 2>/dev/null; rm -rf "$said"' EXIT
@@ -46,6 +52,7 @@ scenes=$!
 run refused tools/refused.py
 run static tools/static_type.py --check
 run many tools/count_many_test.py
+run review tools/review_test.py
 wait "$bodies"
 cat "$said/bodies"
 wait "$scenes"
@@ -55,6 +62,7 @@ add ci
 add refused
 add static
 add many
+add review
 add caught
 add schedules
 echo "$passed passed, $failed failed"

@@ -9,6 +9,7 @@ tests of these crates and of all that stand on them, each run once.
 usage: tools/quick.py [CRATE ..]     without names: the crates that differ from the last commit
 """
 
+import shutil
 import subprocess
 import sys
 import tempfile
@@ -52,6 +53,16 @@ def changed():
     _, lines = said_by("git", "status", "--porcelain", "--untracked-files=all", "--", "crates")
     paths = [path for line in lines.splitlines() for path in line[3:].split(" -> ")]
     return {path.split("/")[1] for path in paths if path.count("/") > 1}
+
+
+def copy_with_work(target, names):
+    """A copy of the repository in a new folder, with the libraries that were built, and with what earlier checks of these crates kept."""
+    shutil.copytree(TOP, target, ignore=shutil.ignore_patterns(".git", "out", "__pycache__"))
+    for out in TOP.glob("crates/*/out"):
+        for part in ("rlib", *(["incremental"] if out.parent.name in names else [])):
+            if (out / part).is_dir():
+                shutil.copytree(out / part, target / "crates" / out.parent.name / "out" / part)
+    return target
 
 
 def has_tests(name):
