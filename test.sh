@@ -1,8 +1,9 @@
 #!/usr/bin/env bash
 # The gate: every proof from nothing, every edit that the prover has to refuse, every test, each program as two compilers
 # build it (rt ci), then each request for memory or a thread refused under the tests that rt ci built, the schedules of small
-# scenes, the static type that a script wrote, the scripts that count over many machines and that review wrong bodies, and each wrong
-# body that a test has to catch, which begin where rt ci leaves a processor idle. The last line sums up.
+# scenes, the static type that a script wrote, the scripts that count over many machines and that review wrong bodies, what is said of
+# wrong bodies that no test sees, and each wrong body that a test has to catch, which begin where rt ci leaves a processor idle. The last
+# line sums up.
 #
 # `./test.sh quick [CRATE ..]` isn't the gate: it proves what changed over kept work, and runs the tests that see it (tools/quick.py).
 set -uo pipefail
@@ -53,6 +54,7 @@ run refused tools/refused.py
 run static tools/static_type.py --check
 run many tools/count_many_test.py
 run review tools/review_test.py
+run verdicts tools/caught_test.py
 wait "$bodies"
 cat "$said/bodies"
 wait "$scenes"
@@ -63,6 +65,7 @@ add refused
 add static
 add many
 add review
+add verdicts
 add caught
 add schedules
 echo "$passed passed, $failed failed"

@@ -1,19 +1,25 @@
 #!/usr/bin/env python3
 """Tries the wrong bodies that no contract sees (crates/NAME/caught/*.edit; tools/edits.py has what such a file says).
 
-Each is applied to a copy of the repository, and the tests are run or built there without proofs:
+They are applied to copies of the repository, and the tests are built there without proofs: all bodies for the tests of one crate side by
+side in one build, from which each body gets a program of its own (tools/shared_builds.py). One that changes more than bodies of functions,
+or doesn't compile beside its own, has a build to itself.
 
-- 'test: FUNCTION' has to fail. Before that, each named test has to pass over the crate as it is.
-- 'refused: FUNCTION', a test of a module `refusals`, has to be found WRONG as tools/refused.py judges it, and has to pass where
-  nothing is refused. Before that, each named test has to be found right over the repository as it is.
+- 'test: FUNCTION' has to fail. What threads do wrong may not show at once, so a test that passes is run again until a minute has gone. It
+  has to pass as often in the same build without the body.
+- 'refused: FUNCTION', a test of a module `refusals`, has to be found WRONG as tools/refused.py judges it, has to pass where nothing is refused, and has to be found right in the same build without the body.
 - 'error: TEXT': the compiler has to say this, where a type alone forbids the body.
 
-With --beside PID no edit is begun, while that process runs, unless a processor is idle.
+Each named test has to pass, or to be found right, over the crate as it is: built once more, with no body beside its own.
+
+With --beside PID no build is begun, while that process runs, unless a processor is idle.
 
 usage: tools/caught.py [--jobs N] [--beside PID] [WORD..]     with words: only the edits whose paths contain one of them
 """
 
 import argparse
+import functools
+import itertools
 import os
 import queue
 import shutil
@@ -24,13 +30,16 @@ import threading
 import time
 from pathlib import Path
 
-from edits import BadEdit, applied, ends_in, read_edit
+from edits import BadEdit, applied, edited, ends_in, read_edit
 from refused import refuser
+from shared_builds import SharedBuild, can_share
 from unproved import NotBuilt, build, outcomes
 
-SECONDS = 60  # for one test of a wrong body, which may hang
-BASE_SECONDS = 300  # for one test of the crate as it is, which only other work makes slow
+SECONDS = 60  # for one run with a wrong body, which may hang, and for all runs of a test that passes
+OWN_SECONDS = 300  # for one run without it, which only other work makes slow
 SAID = 600  # how much is told of what was said
+CANT_RUN = (OSError, subprocess.CalledProcessError)
+CANT_BUILD = (NotBuilt, *CANT_RUN)
 
 
 def named(paths, name):
@@ -39,80 +48,169 @@ def named(paths, name):
     return found[0] if len(found) == 1 else None
 
 
-def judge_test(edit, root):
-    """Whether the edit's test fails, and what to say."""
-    found, said = outcomes(root / "crates" / edit.of, SECONDS, edit.name)
-    test = named(found, edit.name)
+def tests_of(program):
+    """The names of a program's tests."""
+    listed = subprocess.run([program, "--list"], stdout=subprocess.PIPE, check=True).stdout.decode().splitlines()
+    return [name for name, _, kind in (line.rpartition(": ") for line in listed) if kind == "test"]
+
+
+def passes(program, test, seconds):
+    """Whether the test passes, and within this time."""
+    how = {name: subprocess.DEVNULL for name in ("stdin", "stdout", "stderr")}
+    try:
+        return subprocess.run([program, test], cwd=program.parent, env={}, timeout=seconds, **how).returncode == 0
+    except subprocess.TimeoutExpired:
+        return False
+
+
+def runs_to_fail(program, test):
+    """In which run the test fails, or None where it passes until the time has gone."""
+    end = time.monotonic() + SECONDS
+    for run in itertools.count(1):
+        if not passes(program, test, SECONDS):
+            return run
+        if time.monotonic() >= end:
+            return None
+
+
+def judge_test(name, wrong, own):
+    """Whether the test fails in the program with the wrong body, and not without it in the own one, and what to say."""
+    test = named(tests_of(wrong), name)
     if not test:
-        return False, f"BAD EDIT: no such test ran; it said: {said.strip()[:SAID]}"
-    if found[test] != "FAILED":
-        return False, f"NOT CAUGHT: {edit.name} ends with {found[test]}"
-    return True, f"{edit.name} fails, as it must"
+        return False, "BAD EDIT: there is no such test"
+    runs = runs_to_fail(wrong, test)
+    if not runs:
+        return False, f"NOT CAUGHT: {name} passes"
+    if not all(passes(own, test, OWN_SECONDS) for _ in range(runs)):
+        return False, f"NOT CAUGHT: {name} fails without the body as well"
+    return True, f"{name} fails, as it must"
+
+
+def judge_refused(name, wrong, own):
+    """Whether the test is wrong, as requests are refused, in the program with the wrong body, and right in the own one without it, and
+    what to say."""
+    tried, without = refuser(wrong, wrong.parent), refuser(own, own.parent)
+    test = named(tried.tests(), name)
+    if not test:
+        return False, "BAD EDIT: there is no such test"
+    if not tried.passes(test):
+        return False, f"BAD EDIT: {name} fails where nothing is refused: let 'test:' name it"
+    well, text = tried.judge(test)
+    if well:
+        return False, f"NOT CAUGHT: {name}: {text}"
+    if not without.judge(test)[0]:
+        return False, f"NOT CAUGHT: {name} is wrong without the body as well"
+    return True, f"{name} is wrong, as it must be: {text}"
+
+
+def judge(edit, wrong, own):
+    """Whether the edit's test sees the body in the program with it, and nothing in the one without, and what to say."""
+    try:
+        return (judge_test if edit.want == "test" else judge_refused)(edit.name, wrong, own)
+    except CANT_RUN as why:
+        return False, f"BAD EDIT: it can't be run: {why}"
 
 
 def judge_error(edit, root):
     """Whether the edit's error comes, and what to say."""
-    found, said = outcomes(root / "crates" / edit.of, SECONDS)
+    with applied(edit, root):
+        found, said = outcomes(root / "crates" / edit.of, SECONDS)
     if found or edit.name not in said:
         return False, f"COMPILED, or failed otherwise; it said: {said.strip()[:SAID]}"
     return True, f"doesn't compile, as it must not: {edit.name}"
 
 
-def refusals_of(crate, root, room):
-    """What refuses to the tests of the crate, built in the room, and the names of those tests."""
-    tried = refuser(build(root / "crates" / crate, Path(room)), room)
-    return tried, tried.tests()
-
-
-def judge_refused(edit, root):
-    """Whether the edit's test is wrong as requests are refused, and what to say."""
-    with tempfile.TemporaryDirectory(prefix="refused-") as room:
-        tried, tests = refusals_of(edit.of, root, room)
-        test = named(tests, edit.name)
-        if not test:
-            return False, "BAD EDIT: there is no such test"
-        if not tried.passes(test):
-            return False, f"BAD EDIT: {edit.name} fails where nothing is refused: let 'test:' name it"
-        well, text = tried.judge(test)
-    if well:
-        return False, f"NOT CAUGHT: {edit.name}: {text}"
-    return True, f"{edit.name} is wrong, as it must be: {text}"
-
-
-JUDGES = {"test": judge_test, "refused": judge_refused, "error": judge_error}
-
-
-def judge(edit, root):
-    """Whether what the edit wants comes of it, and what to say."""
-    try:
-        with applied(edit, root):
-            return JUDGES[edit.want](edit, root)
-    except BadEdit as why:
-        return False, f"BAD EDIT: {why}"
-    except (NotBuilt, OSError, subprocess.CalledProcessError) as why:
-        return False, f"BAD EDIT: it can't be built or run: {why}"
-
-
-def judge_tests(crate, names, root):
+def judge_tests(names, program):
     """Whether each of these names means one test that passes over the crate as it is, and what to say."""
-    found, said = outcomes(root / "crates" / crate, BASE_SECONDS)
-    bad = sorted(name for name in names if found.get(named(found, name)) != "ok")
+    tests = tests_of(program)
+    bad = sorted(name for name in names if not named(tests, name) or not passes(program, named(tests, name), OWN_SECONDS))
     if bad:
-        return False, f"these names aren't of one test that passes over the crate as it is: {', '.join(bad)}; it said: {said.strip()[:SAID]}"
+        return False, f"these names aren't of one test that passes over the crate as it is: {', '.join(bad)}"
     return True, f"{len(names)} tests that catch wrong bodies pass over the crate as it is"
 
 
-def judge_refusals(crate, names, root):
+def judge_refusals(names, program):
     """Whether each of these names means one test that is right, as requests are refused, over the crate as it is, and what to say."""
-    try:
-        with tempfile.TemporaryDirectory(prefix="refused-") as room:
-            tried, tests = refusals_of(crate, root, room)
-            bad = sorted(name for name in names if not named(tests, name) or not tried.judge(named(tests, name))[0])
-    except (NotBuilt, OSError, subprocess.CalledProcessError) as why:
-        return False, f"the tests can't be built or run: {why}"
+    tried = refuser(program, program.parent)
+    tests = tried.tests()
+    bad = sorted(name for name in names if not named(tests, name) or not tried.judge(named(tests, name))[0])
     if bad:
         return False, f"these names aren't of one test that is right over the crate as it is: {', '.join(bad)}"
     return True, f"{len(names)} tests that catch wrong bodies as requests are refused are right over the crate as it is"
+
+
+class Trials:
+    """What is still to be done, and what came of the rest. A task is given the trials and a copy of the repository."""
+
+    def __init__(self):
+        self.tasks = queue.Queue()
+        self.results = []
+
+    def add(self, task, *words):
+        self.tasks.put(functools.partial(task, *words))
+
+    def tell(self, label, passed, text):
+        print(f"caught {label}: {text}", flush=True)
+        self.results.append(passed)
+
+
+def try_crate(crate, edits, trials, root):
+    """Tries the tests of the crate that these edits name over the crate as it is. Where it can be built, the edits are to be tried too."""
+    names = {}
+    for edit in edits:
+        names.setdefault(edit.want, set()).add(edit.name)
+    with tempfile.TemporaryDirectory(prefix="own-") as room:
+        try:
+            own = build(root / "crates" / crate, Path(room))
+            for want, wanted in names.items():
+                trials.tell(crate, *(judge_tests if want == "test" else judge_refusals)(wanted, own))
+        except CANT_BUILD as why:
+            for label in [crate] * len(names) + edits:
+                trials.tell(label, False, f"the tests of {crate} can't be built or run: {why}")
+            return
+    together = [edit for edit in edits if can_share(edit, root)]
+    if together:
+        trials.add(try_together, crate, together)
+    for edit in edits:
+        if edit not in together:
+            trials.add(try_alone, edit)
+
+
+def try_together(crate, edits, trials, root):
+    """Tries edits in one build. Where that doesn't compile, each half of them is to have one, and the last one its own."""
+    with tempfile.TemporaryDirectory(prefix="shared-") as room:
+        try:
+            shared = SharedBuild(crate, edits, root, Path(room))
+        except NotBuilt:
+            half = len(edits) // 2
+            if half:
+                trials.add(try_together, crate, edits[:half])
+                trials.add(try_together, crate, edits[half:])
+            else:
+                trials.add(try_alone, *edits)
+            return
+        own = shared.program(0)
+        for number, edit in enumerate(edits, 1):
+            wrong = shared.program(number)
+            trials.tell(edit, *judge(edit, wrong, own))
+            wrong.unlink()
+
+
+def try_alone(edit, trials, root):
+    """Tries an edit by a build of its own, beside one without it."""
+    with tempfile.TemporaryDirectory(prefix="own-") as own_room, tempfile.TemporaryDirectory(prefix="wrong-") as room:
+        try:
+            own = build(root / "crates" / edit.of, Path(own_room))
+            with applied(edit, root):
+                wrong = build(root / "crates" / edit.of, Path(room))
+            trials.tell(edit, *judge(edit, wrong, own))
+        except CANT_BUILD as why:
+            trials.tell(edit, False, f"BAD EDIT: it can't be built: {why}")
+
+
+def try_error(edit, trials, root):
+    """Tries an edit that can't be built."""
+    trials.tell(edit, *judge_error(edit, root))
 
 
 def processor_times():
@@ -148,7 +246,7 @@ class Turns:
                 time.sleep(3)  # until the task that begins shows
 
 
-def works_in(tasks, turns, results, top):
+def works_in(trials, turns, top):
     """Takes tasks until none is left, in a copy of the repository of this worker's own."""
     with tempfile.TemporaryDirectory(prefix="caught-") as room:
         root = Path(room) / "copy"
@@ -156,40 +254,43 @@ def works_in(tasks, turns, results, top):
         while True:
             turns.wait()
             try:
-                label, task = tasks.get_nowait()
+                task = trials.tasks.get_nowait()
             except queue.Empty:
                 return
-            passed, text = task(root)
-            print(f"{label}: {text}", flush=True)
-            results.append(passed)
+            task(trials, root)
 
 
 def read_edits(top, words):
-    """The edits whose paths contain one of the words, all where there are none, and how many can't be read."""
-    edits, unread = [], 0
+    """The edits whose paths contain one of the words, all where there are none, and how many can't be read or applied."""
+    edits, bad = [], 0
     for path in sorted(top.glob("crates/*/caught/*.edit")):
         if words and not any(word in str(path) for word in words):
             continue
         try:
-            edits.append(read_edit(path))
+            edit = read_edit(path)
+            if edit.want == "scene":
+                raise BadEdit("a scene is for the folder 'scheduled'")
+            edited(edit, top)
+            edits.append(edit)
         except BadEdit as why:
             print(f"caught {path.parent.parent.name}/{path.name}: BAD EDIT: {why}")
-            unread += 1
-    return edits, unread
+            bad += 1
+    return edits, bad
 
 
-def tasks_of(edits):
-    """What is to be done, each with its label: the tests that the edits name, over the crates as they are, and then the edits."""
-    tests, refusals = {}, {}
+def add_tasks(edits, trials):
+    """Adds what is to be done at first, the crates with the most edits before the others. How many results there will be."""
+    crates, kinds = {}, set()
     for edit in edits:
         if edit.want != "error":
-            kind = tests if edit.want == "test" else refusals
-            kind.setdefault(edit.of, set()).add(edit.name)
-    for judge_base, kind in ((judge_tests, tests), (judge_refusals, refusals)):
-        for crate, names in sorted(kind.items()):
-            yield f"caught {crate}", lambda root, judge_base=judge_base, crate=crate, names=names: judge_base(crate, names, root)
+            crates.setdefault(edit.of, []).append(edit)
+            kinds.add((edit.of, edit.want))
+    for crate, own in sorted(crates.items(), key=lambda item: -len(item[1])):
+        trials.add(try_crate, crate, own)
     for edit in edits:
-        yield f"caught {edit}", lambda root, edit=edit: judge(edit, root)
+        if edit.want == "error":
+            trials.add(try_error, edit)
+    return len(edits) + len(kinds)
 
 
 def main():
@@ -199,19 +300,16 @@ def main():
     parser.add_argument("words", nargs="*")
     given = parser.parse_args()
     top = Path(__file__).resolve().parent.parent
-    edits, unread = read_edits(top, given.words)
-    tasks, results = queue.Queue(), []
-    for task in tasks_of(edits):
-        tasks.put(task)
-    expected = unread + tasks.qsize()
-    turns = Turns(given.beside)
-    workers = [threading.Thread(target=works_in, args=(tasks, turns, results, top)) for _ in range(max(1, given.jobs))]
+    edits, bad = read_edits(top, given.words)
+    trials, turns = Trials(), Turns(given.beside)
+    expected = bad + add_tasks(edits, trials)
+    workers = [threading.Thread(target=works_in, args=(trials, turns, top)) for _ in range(max(1, given.jobs))]
     for worker in workers:
         worker.start()
     for worker in workers:
         worker.join()
     # a worker that ended by an error of its own leaves tasks without a result
-    passed = results.count(True)
+    passed = trials.results.count(True)
     print(f"{passed} passed, {expected - passed} failed")
     return 0 if passed == expected else 1
 

@@ -87,9 +87,8 @@ def edited(edit, root):
 
 
 @contextlib.contextmanager
-def applied(edit, root):
-    """Changes the copy at root, and changes it back at the end."""
-    texts = edited(edit, root)
+def replaced(texts):
+    """Gives files these texts, and their own back at the end."""
     kept = {file: file.read_bytes() for file in texts}
     try:
         for file, text in texts.items():
@@ -98,6 +97,11 @@ def applied(edit, root):
     finally:
         for file, text in kept.items():
             file.write_bytes(text)
+
+
+def applied(edit, root):
+    """Changes the copy at root, and changes it back at the end."""
+    return replaced(edited(edit, root))
 
 
 def ends_in(path, name):

@@ -64,9 +64,10 @@ def end_hint(ran):
         time.sleep(0.1)
 
 
-def try_tests(crate, *words):
+def try_tests(crate, *words, **environment):
     """The lines that rt try says as it runs the tests of the crate in this folder."""
-    ran = subprocess.Popen([*words], cwd=crate, stdin=subprocess.DEVNULL, stdout=subprocess.PIPE, stderr=subprocess.STDOUT)
+    how = {"cwd": crate, "env": {**os.environ, **environment}, "stdin": subprocess.DEVNULL}
+    ran = subprocess.Popen([*words], stdout=subprocess.PIPE, stderr=subprocess.STDOUT, **how)
     end_hint(ran)
     for line in ran.stdout:
         yield line.decode(errors="replace")
@@ -105,20 +106,33 @@ def kit_with(clang, folder, own):
     wrapper.chmod(0o755)
 
 
-def build(crate, room):
-    """The program of the tests of the crate in this folder, made in the room, an empty folder."""
-    own, made, program = kit(), room / "tests.o", room / "tests"
+def object_of(crate, room, **environment):
+    """The object of the tests of the crate in this folder, made in the room, an empty folder."""
+    own, made = kit(), room / "tests.o"
     kit_with(WRAPPER.format(sanitized=SANITIZED, clang=compiler(own)[0], made=made), room / "kit", own)
     # The interpreter, which comes before the compiler, gets one step.
-    said = "".join(try_tests(crate, room / "kit" / "bin" / "rt", "try", "--test", "--steps", "1", "--seconds", "1"))
+    words = [room / "kit" / "bin" / "rt", "try", "--test", "--steps", "1", "--seconds", "1"]
+    said = "".join(try_tests(crate, *words, **environment))
+    shutil.rmtree(room / "kit")
     if not made.is_file():
         raise NotBuilt(said.strip()[-600:])
+    return made
+
+
+def link(objects, program):
+    """Links these objects with what programs of the kit stand on."""
+    own = kit()
     parts = own / "toolchain" / "lib"
     start = [parts / name for name in ("Scrt1.o", "crti.o", "crtbeginS.o")]
     end = [parts / name for name in ("libc.so.6", "libc_nonshared.a", "libgcc.a", "crtendS.o", "crtn.o")]
     libraries = [own / "c" / "libos_c.a", own / "c" / "liblibc_c.a"]
     loader = "-Wl,-dynamic-linker,/lib64/ld-linux-x86-64.so.2"
-    subprocess.run([*compiler(own), "-pie", loader, *start, made, *libraries, *end, "-o", program], check=True)
-    shutil.rmtree(room / "kit")
+    subprocess.run([*compiler(own), "-pie", loader, *start, *objects, *libraries, *end, "-o", program], check=True)
+
+
+def build(crate, room):
+    """The program of the tests of the crate in this folder, made in the room, an empty folder."""
+    made, program = object_of(crate, room), room / "tests"
+    link([made], program)
     made.unlink()
     return program
