@@ -216,7 +216,8 @@ class Build(InRoom):
 
     def test_each_body_is_judged_by_itself(self):
         crate_in(self.room)
-        first, meaningless, second = ("given > MOST", "given > 1_000"), ("        return MOST;", "        return MOST + 0;"), ("    2", "    4")
+        first, second = ("given > MOST", "given > 1_000"), ("    2", "    4")
+        meaningless = ("        return MOST;", "        return MOST + 0;")
         rows = {  # what each edit names and changes, and what has to be said of it
             "seen": ("firsts", first, "firsts fails, as it must"),
             "unseen": ("firsts", meaningless, "NOT CAUGHT: firsts passes"),
