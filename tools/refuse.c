@@ -92,12 +92,22 @@ __attribute__((constructor)) static void begin(void) {
     refuse_last = number("REFUSE_LAST");
 }
 
-/* How a built program ends. */
-__attribute__((noreturn)) void _exit(int status) {
+/* Writes the four numbers. */
+static void report(void) {
     dprintf((int)number("REFUSE_REPORT"), "%ld %ld %ld %ld\n", (long)requests, (long)refused, blocks_after - blocks_before,
             (long)blocks);
+}
+
+/* How a built program ends that can start threads. */
+__attribute__((noreturn)) void _exit(int status) {
+    report();
     for (;;)
         syscall(SYS_EXIT_GROUP, status);
+}
+
+/* How another one ends: the C library's `exit`, whose own `_exit` isn't the one above, comes by here. */
+__attribute__((destructor)) static void end(void) {
+    report();
 }
 
 /* Counts a request, and tells whether it is refused. */

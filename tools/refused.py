@@ -101,9 +101,11 @@ class Refuser:
             status, said = -1, f"it hasn't ended after {SECONDS} seconds"
         os.close(told)
         with os.fdopen(report) as it:
-            numbers = [int(word) for word in it.read().split()] or [0, 0, 0, 0]
+            numbers = [int(word) for word in it.read().split()]
         lines = [line[3:] for line in said.splitlines() if line.startswith("== ")]
         ended = lines[1] if len(lines) == 2 and lines[0] == "call" else f"no call, but {lines}"
+        if len(numbers) != 4:
+            numbers, ended = [0, 0, 0, 0], "no report, so that nothing was counted"
         return Run(status, ended, *numbers, said)
 
     def passes(self, test):
