@@ -7,7 +7,8 @@ or doesn't compile beside its own, has a build to itself.
 
 - 'test: FUNCTION' has to fail. What threads do wrong may not show at once, so a test that passes is run again until a minute has gone. It
   has to pass as often in the same build without the body.
-- 'refused: FUNCTION', a test of a module `refusals`, has to be found WRONG as tools/refused.py judges it, has to pass where nothing is refused, and has to be found right in the same build without the body.
+- 'refused: FUNCTION', a test of a module `refusals`, has to be found WRONG as tools/refused.py judges it, has to pass where nothing is
+  refused, and has to be found right in the same build without the body.
 - 'error: TEXT': the compiler has to say this, where a type alone forbids the body.
 
 Each named test has to pass, or to be found right, over the crate as it is: built once more, with no body beside its own.

@@ -43,10 +43,28 @@ class Edit:
         return f"{self.crate}/{self.path.name}"
 
 
+def changes_in(lines):
+    """What the lines of an edit replace by what, file by file."""
+    changes, file, old = [], None, None
+    for line in lines:
+        word, _, text = line.partition(": ")
+        if word == "file":
+            file = text.strip()
+        elif word == "old":
+            old = text
+        elif word in ("new", "new:"):
+            if not file or old is None:
+                raise BadEdit("a 'new:' line stands before any 'file:' or 'old:' line")
+            changes.append((file, old, text))
+            old = None
+    return changes
+
+
 def read_edit(path):
     """The edit in a file."""
-    edit, file, old = Edit(path), None, None
-    for line in path.read_text(encoding="utf-8").splitlines():
+    lines = path.read_text(encoding="utf-8").splitlines()
+    edit = Edit(path, changes=changes_in(lines))
+    for line in lines:
         word, _, text = line.partition(": ")
         if word in WANTS and not edit.want:
             edit.want, edit.name = word, text.strip()
@@ -54,15 +72,6 @@ def read_edit(path):
             raise BadEdit(f"it wants more than one of {', '.join(WANTS)}")
         elif word == "of":
             edit.of = text.strip()
-        elif word == "file":
-            file = text.strip()
-        elif word == "old":
-            old = text
-        elif word in ("new", "new:"):
-            if not file or old is None:
-                raise BadEdit("a 'new:' line stands before any 'file:' or 'old:' line")
-            edit.changes.append((file, old, text))
-            old = None
     if not edit.name or not edit.changes:
         raise BadEdit("it has no line 'test: FUNCTION', 'refused: FUNCTION', 'error: TEXT' or 'scene: NAME', or no pair 'old:' and 'new:'")
     if not edit.of:
@@ -70,13 +79,13 @@ def read_edit(path):
     return edit
 
 
-def edited(edit, root):
-    """The changed texts, by their files in the copy at root."""
+def changed(changes, folder):
+    """The changed texts, by their files in the folder of a crate."""
     texts = {}
-    for name, old, new in edit.changes:
-        file = root / "crates" / edit.crate / name
+    for name, old, new in changes:
+        file = folder / name
         if file not in texts:
-            if not name.startswith("src/") or not file.is_file():
+            if not file.is_file():
                 raise BadEdit(f"there is no file {name}")
             texts[file] = file.read_text(encoding="utf-8")
         found = texts[file].count(old)
@@ -84,6 +93,13 @@ def edited(edit, root):
             raise BadEdit(f"an 'old:' text stands {found} times in {name}, and not once")
         texts[file] = texts[file].replace(old, new)
     return texts
+
+
+def edited(edit, root):
+    """The changed texts, by their files in the copy at root."""
+    if not all(name.startswith("src/") for name, _, _ in edit.changes):
+        raise BadEdit("a 'file:' line names no file below src/")
+    return changed(edit.changes, root / "crates" / edit.crate)
 
 
 @contextlib.contextmanager

@@ -16,7 +16,7 @@ import tempfile
 from concurrent.futures import ThreadPoolExecutor
 from pathlib import Path
 
-from edits import BadEdit, edited, read_edit, read_refused
+from edits import BadEdit, changed, changes_in
 from unproved import NotBuilt, build
 
 TOP = Path(__file__).resolve().parent.parent
@@ -48,7 +48,7 @@ def stands_on(listed, name):
     return found
 
 
-def changed():
+def differing():
     """The names of the crates that differ from the last commit."""
     _, lines = said_by("git", "status", "--porcelain", "--untracked-files=all", "--", "crates")
     paths = [path for line in lines.splitlines() for path in line[3:].split(" -> ")]
@@ -74,7 +74,7 @@ def texts_stand(name):
     folder, wrong = TOP / "crates" / name, []
     for path in sorted(folder.glob("*/*.edit")):
         try:
-            edited(read_refused(path) if path.parent.name == "must-fail" else read_edit(path), TOP)
+            changed(changes_in(path.read_text(encoding="utf-8").splitlines()), folder)
         except BadEdit as why:
             wrong.append(f"{path.name}: {why}")
     return not wrong, "; ".join(wrong) or "the old texts of its wrong bodies stand once each"
@@ -109,7 +109,7 @@ def main():
     named = set(sys.argv[1:])
     if named - set(listed):
         sys.exit(f"quick: crates.txt has no crate {', '.join(sorted(named - set(listed)))}")
-    named = [name for name in listed if name in (named or changed())]
+    named = [name for name in listed if name in (named or differing())]
     above = [name for name in listed if has_tests(name) and stands_on(listed, name) & set(named)]
     results = []
 

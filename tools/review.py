@@ -14,8 +14,8 @@ The function is named by the end of its name as `rt check` prints it. TEXT is on
 pairs, and lines 'file:', may follow. Bodies of different functions of a crate share a check, since the checker goes on behind a function
 that it can't prove, and says which goal was left: a body is refused where its own function is not proved. One that a function beside it
 hides, or that only its callers may refuse, is checked once more alone. Those that nothing refused are built beside the bodies that they
-replace (tools/shared_builds.py), and all tests that stand on the crate are run with each. What is proved and passes them all is printed
-last: nothing holds it.
+replace (tools/shared_builds.py), and the tests of their crate are run with each, or of all that stand on it where it has none. What is
+proved and passes them all is printed last: nothing holds it.
 
 usage: tools/review.py FILE
 """
@@ -28,7 +28,7 @@ from dataclasses import dataclass, field
 from pathlib import Path
 
 from caught import passes, tests_of
-from edits import BadEdit, applied, edited, replaced
+from edits import BadEdit, applied, changes_in, edited, replaced
 from quick import copy_with_work, crates_listed, has_tests, said_by, stands_on
 from shared_builds import SharedBuild, can_share
 from unproved import NotBuilt, build
@@ -54,27 +54,22 @@ class Body:
 
 def read_bodies(path):
     """The bodies in a file."""
-    bodies, file, old = [], "", None
-    for number, line in enumerate(path.read_text(encoding="utf-8").splitlines(), 1):
+    bodies, lines = [], []
+    for line in path.read_text(encoding="utf-8").splitlines():
         word, _, text = line.partition(": ")
         if word == "body":
-            bodies.append(Body(text.strip()))
+            lines = []
+            bodies.append((Body(text.strip()), lines))
         elif word in ("crate", "function") and bodies:
-            setattr(bodies[-1], word, text.strip())
-        elif word == "file":
-            file = text.strip()
-        elif word == "old":
-            old = text
-        elif word in ("new", "new:") and bodies and file and old is not None:
-            bodies[-1].changes.append((file, old, text))
-            old = None
-        elif line.strip() and not line.startswith("#"):
-            raise BadEdit(f"line {number} can't be read: {line}")
-    for body in bodies:
+            setattr(bodies[-1][0], word, text.strip())
+        else:
+            lines.append(line)
+    for body, lines in bodies:
+        body.changes = changes_in(lines)
         if not (body.crate and body.function and body.changes):
             raise BadEdit(f"{body.name} lacks a crate, a function, or a pair 'old:' and 'new:'")
         edited(body, TOP)
-    return bodies
+    return [body for body, _ in bodies]
 
 
 def batches(bodies):
@@ -99,12 +94,6 @@ def together(batch, root):
         with replaced(texts):
             texts.update(edited(body, root))
     return texts
-
-
-def told_of(said, function):
-    """What a check said of the function, and nothing where it had no line for it."""
-    found = [text for name, text in TOLD.findall(said) if f"::{name}".endswith(f"::{function}")]
-    return found[0] if len(found) == 1 else ""
 
 
 def refusals(said):
@@ -165,11 +154,16 @@ def failures(crate, bodies, root):
     return found
 
 
+def seeing(listed, crate):
+    """The crates whose tests are to see a body of this crate: itself, and where it has none, those that stand on it."""
+    return [crate] if has_tests(crate) else [name for name in listed if has_tests(name) and crate in stands_on(listed, name)]
+
+
 def held_by_nothing(bodies, root):
-    """Runs the tests that stand on the bodies' crates with each body. Those that pass all of them."""
+    """Runs the tests that are to see each body with it. The bodies that pass all of them."""
     listed, left = crates_listed(), list(bodies)
-    for crate in [name for name in listed if has_tests(name)]:
-        seen = [body for body in left if body.crate in stands_on(listed, crate)]
+    for crate in listed:
+        seen = [body for body in left if crate in seeing(listed, body.crate)]
         for name, test in (failures(crate, seen, root) if seen else {}).items():
             if test:
                 body = next(body for body in left if body.name == name)
