@@ -11,14 +11,17 @@ import tempfile
 import textwrap
 import unittest
 from pathlib import Path
+from types import SimpleNamespace
 
 import caught
 import shared_builds
 from edits import read_edit
+from unproved import NotBuilt
 
-# A program of the tests tests::one and tests::other, which pass while there are digits 0 in the files of their names, a digit a run.
+# A program whose tests::one and tests::other end with the digits in the files of their names, a digit a run. Two more tests have one
+# name, and are never run.
 PROGRAM = """#!/bin/sh
-[ "$1" = --list ] && printf 'tests::one: test\\ntests::other: test\\n' && exit 0
+[ "$1" = --list ] && printf '%s: test\\n' tests::one tests::other tests::twice tests::more::twice && exit 0
 read -r digits < "{rows}/$1"
 [ "${{#digits}}" -gt 1 ] && echo "${{digits#?}}" > "{rows}/$1"
 exit "${{digits%"${{digits#?}}"}}"
@@ -87,9 +90,7 @@ class InRoom(unittest.TestCase):
         self.room = Path(room.name)
 
 
-class Verdicts(InRoom):
-    """What is said of a program with a wrong body, beside one without it."""
-
+class WithPrograms(InRoom):
     def setUp(self):
         super().setUp()
         self.count = itertools.count()
@@ -106,6 +107,10 @@ class Verdicts(InRoom):
         program.write_text(PROGRAM.format(rows=rows), encoding="ascii")
         program.chmod(0o755)
         return program
+
+
+class Verdicts(WithPrograms):
+    """What is said of a program with a wrong body, beside one without it."""
 
     def said(self, wrong, own, name="one"):
         passed, text = caught.judge_test(name, wrong, own)
@@ -131,7 +136,7 @@ class Verdicts(InRoom):
         self.assertEqual(self.said(self.program("001"), self.program("001")), "NOT CAUGHT: one fails without the body as well")
 
     def test_a_name_is_of_one_test(self):
-        for name in ("two", "tests", "ne"):
+        for name in ("two", "tests", "ne", "twice"):
             self.assertEqual(self.said(self.program("1"), self.program(), name), "BAD EDIT: there is no such test")
 
     def test_a_test_has_to_pass_over_the_crate_as_it_is(self):
@@ -209,6 +214,35 @@ class Sharing(InRoom):
             ("#[cfg(test)]", "fn more() {} #[cfg(test)]"),
         ):
             self.assertFalse(shared_builds.can_share(self.edit((old, new)), self.room), old)
+
+
+class Halves(WithPrograms):
+    """Which edits are tried, and how, where one of them doesn't compile beside the others."""
+
+    def setUp(self):
+        super().setUp()
+        self.addCleanup(setattr, caught, "SharedBuild", caught.SharedBuild)
+        self.addCleanup(setattr, caught, "try_alone", caught.try_alone)
+        caught.SharedBuild = self.built
+        caught.try_alone = lambda edit, trials, root: trials.tell(edit, False, "tried alone")
+
+    def built(self, crate, edits, root, room):
+        """Stands for a build. One with the edit `bad` isn't built, and in the others each body is seen by its test."""
+        if any(edit.path.stem == "bad" for edit in edits):
+            raise NotBuilt("an error")
+        programs = [self.program("0"), *(self.program("1") for _ in edits)]
+        return SimpleNamespace(program=programs.__getitem__)
+
+    def test_each_edit_is_tried_once_and_the_bad_one_alone(self):
+        crate_in(self.room)
+        names = ("a", "b", "bad", "c", "d")
+        edits = [edit_in(self.room, name, "test: one", "file: src/lib.rt", "old: MOST;", "new: 5;") for name in names]
+        trials, said = caught.Trials(), []
+        trials.tell = lambda edit, passed, text: said.append((edit.path.stem, text))
+        trials.add(caught.try_together, "few", edits)
+        while not trials.tasks.empty():
+            trials.tasks.get()(trials, self.room)
+        self.assertEqual(sorted(said), [(name, "tried alone" if name == "bad" else "one fails, as it must") for name in names])
 
 
 class Build(InRoom):
