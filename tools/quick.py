@@ -17,7 +17,7 @@ from concurrent.futures import ThreadPoolExecutor
 from pathlib import Path
 
 from edits import BadEdit, changed, changes_in
-from unproved import NotBuilt, build
+from unproved import NotBuilt, build, kit
 
 TOP = Path(__file__).resolve().parent.parent
 SECONDS = 120  # for one test
@@ -81,7 +81,9 @@ def texts_stand(name):
 
 
 def is_laid_out(name):
-    status, said = said_by("rt", "fmt", "--check", folder=TOP / "crates" / name)
+    folder = TOP / "crates" / name
+    files = [path for part in ("src", "specs", "proofs") for path in (folder / part).rglob("*") if path.suffix in (".rt", ".antt")]
+    status, said = said_by(kit() / "bin" / "rattle", "fmt", "--check", *files)
     return not status, said.strip()[-300:] or "its layout is that of rt fmt"
 
 
