@@ -19,8 +19,7 @@ from pathlib import Path
 CRATE = Path(__file__).resolve().parent.parent / "crates" / "uses"
 SAMPLE = (CRATE / "data" / "dishes.tables", "Dishes", CRATE / "src" / "dishes.rt")
 
-SOURCE = '''// A static type over generated tables.
-#![tactic(auto)]
+SOURCE = '''//! A static type over generated tables.
 
 ghost use Rattle.std.specs.Prelude.{{[], ◌∷◌, codes}};
 
