@@ -1,20 +1,8 @@
-//! Words of the standard input: listed with how often each came before, or counted by several workers; and scripts of steps.
+//! Words of the standard input: listed with how often each came before, or counted by several workers; scripts of steps; and static
+//! tables.
 #![tactic(auto)]
 
-#[cfg(test)]
-mod failures;
-mod generate;
-#[cfg(test)]
-mod memory;
-mod program;
-#[cfg(test)]
-mod refusals;
-mod replay;
-#[cfg(test)]
-mod tests;
-mod words;
-
-use program::{arguments, run};
+use commands::program::{arguments, run};
 use std::process::ExitCode;
 use text_streams::streams::Io;
 

@@ -1,4 +1,5 @@
-// A static type over the tables of a real vocabulary.
+//! A static type over the tables of a real vocabulary.
+
 mod static_names;
 
 use static_names::Names;

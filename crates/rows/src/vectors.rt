@@ -1,5 +1,4 @@
-// What atoms tell and print: one list of texts, with values that come from outside.
-#![tactic(auto)]
+//! What atoms tell and print: one list of texts, with values that come from outside.
 
 mod limits;
 mod long;

@@ -1,5 +1,4 @@
-// What the program can fail with.
-#![tactic(auto)]
+//! What the program can fail with.
 
 ghost use Rattle.std.specs.Prelude.{◌≡◌};
 

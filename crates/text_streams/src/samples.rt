@@ -1,6 +1,5 @@
-// How tests watch a call that may be refused memory, or a thread: for the tests of the crates above, and for nothing else.
-// `tools/refused.py` refuses the requests that come between the two lines printed round the call.
-#![tactic(auto)]
+//! How tests watch a call that may be refused memory, or a thread: for the tests of the crates above, and for nothing else.
+//! `tools/refused.py` refuses the requests that come between the two lines printed round the call.
 
 use crate::faults::AppFault;
 use std::io::Print;

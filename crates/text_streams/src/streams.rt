@@ -1,5 +1,4 @@
-// Readers and writers that remember that they failed or ended.
-#![tactic(auto)]
+//! Readers and writers that remember that they failed or ended.
 
 ghost use Rattle.std.specs.Prelude.{◌≡◌, ◌↔◌, ◌||◌, ℕ, List, Bool, Option, is_err, length, false, true, string_bytes, IfOk, IfErr, IfSome, OnOk, OnErr};
 ghost use Rattle.std.specs.Str.{IsUtf8};

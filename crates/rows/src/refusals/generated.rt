@@ -1,4 +1,5 @@
-// Tables of a list of texts, and checks of table texts: a call that is made again gives what it gives the first time.
+//! Tables of a list of texts, and checks of table texts: a call that is made again gives what it gives the first time.
+
 use table_generator::check::check_tables;
 use table_generator::generate::generate;
 use text_streams::samples::at_last;

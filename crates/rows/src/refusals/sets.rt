@@ -1,4 +1,5 @@
-// Sets and their atoms: a call that is made again gives the ticket that it would have given the first time.
+//! Sets and their atoms: a call that is made again gives the ticket that it would have given the first time.
+
 use std::borrow::CowStr;
 use std::test::Fail;
 use string_cache::dynamic_set::Set;

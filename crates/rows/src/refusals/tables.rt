@@ -1,4 +1,5 @@
-// Tables and worlds of steps.
+//! Tables and worlds of steps.
+
 use std::alloc::Global;
 use std::test::Fail;
 use string_cache::steps::{Step, StepReply, World};

@@ -1,4 +1,5 @@
-// Calls that ask for no memory: `tools/refused.py` refuses every request between the two lines, and wants that there is none.
+//! Calls that ask for no memory: `tools/refused.py` refuses every request between the two lines, and wants that there is none.
+
 use std::cmp::Ordering;
 use string_cache::dynamic_set::Set;
 use string_cache::table::Table;

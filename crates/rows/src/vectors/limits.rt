@@ -1,4 +1,5 @@
-// Sets with small limits, and no other thread.
+//! Sets with small limits, and no other thread.
+
 use string_cache::dynamic_set::Set;
 use string_cache::word::Limits;
 use string_cache::{DefaultAtom, EmptyStaticAtomSet, Fault};

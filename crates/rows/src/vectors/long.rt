@@ -1,4 +1,5 @@
-// Texts of hundreds of kilobytes, and of two megabytes beyond ASCII. OpenSSL's SipHash tells their hashes.
+//! Texts of hundreds of kilobytes, and of two megabytes beyond ASCII. OpenSSL's SipHash tells their hashes.
+
 use std::alloc::{AllocError, Global};
 use string_cache::dynamic_set::Set;
 use string_cache::table::Table;

@@ -1,4 +1,5 @@
-// Words that are odd, or of nothing, and tables that are odd.
+//! Words that are odd, or of nothing, and tables that are odd.
+
 use string_cache::dynamic_set::Set;
 use string_cache::static_sets::{PhfStrSet, StaticAtomSet};
 use string_cache::steps::World;

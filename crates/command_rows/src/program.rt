@@ -1,0 +1,348 @@
+//! What the program prints and answers, by its arguments and its input.
+
+mod texts;
+
+use crate::memory::{Page, Streams};
+use crate::words::EXAMPLE_LINES;
+use commands::program::{arguments, program, refuse, run};
+use std::alloc::{AllocError, Global};
+use std::env::FillError;
+use std::io;
+use std::rt::Env;
+use std::sync::Wait;
+use std::thread::Threads;
+use string_cache::Fault;
+use table_generator::tables::GenFault;
+use text_streams::faults::AppFault;
+use word_counts::samples::EXAMPLE;
+
+const USAGE: &[u8] = b"usage: atoms words | count N | replay | generate KEY BOUND | check\n";
+
+pub const NO_MEMORY: &[u8] = b"atoms: no memory\n";
+
+const NOT_TEXT: &[u8] = b"atoms: input is not UTF-8\n";
+
+/// What the program answers and writes.
+#[derive(Drop)]
+pub struct Answer {
+    pub status: u8,
+    pub output: Page,
+    pub faults: Page,
+}
+
+pub fn answer_of<R: Threads + Wait + Sync>(
+    rt: &R,
+    alloc: Global,
+    args: &[String],
+    streams: &Streams,
+) -> Answer {
+    let mut output = streams.writer();
+    let mut faults = Page::new(3, 0);
+    let status = program(
+        rt,
+        alloc,
+        args,
+        &mut streams.reader(),
+        &mut output,
+        &mut faults,
+    );
+    Answer {
+        status,
+        output,
+        faults,
+    }
+}
+
+/// The arguments of a line, parted by single spaces.
+pub fn words_of_line(alloc: Global, line: &str) -> Result<Vec<String>, AllocError> {
+    let mut args = Vec::new(alloc);
+    for word in line.split(' ') {
+        args.push(String::from_str(alloc, word)?)?;
+    }
+    Ok(args)
+}
+
+#[test]
+fn other_arguments(rt: HostRuntime) {
+    let answer = answer_of(&rt, rt.alloc(), &[], &Streams::ample(EXAMPLE));
+    assert_eq!(rt; answer.status, 2);
+    assert!(rt; answer.faults.written() == USAGE);
+    for line in [
+        "",
+        "jump",
+        "Words",
+        "words words",
+        "words ",
+        "count",
+        "count ",
+        "count 0",
+        "count 65",
+        "count 01",
+        "count +1",
+        "count -1",
+        "count 1 2",
+        "Count 1",
+        "replay replay",
+    ] {
+        let args = words_of_line(rt.alloc(), line).expect(&rt, "an answer");
+        let answer = answer_of(&rt, rt.alloc(), &args, &Streams::ample(EXAMPLE));
+        assert_eq!(rt; answer.status, 2, "at {line:?}");
+        assert!(rt; answer.output.written().is_empty(), "at {line:?}");
+        assert!(rt; answer.faults.written() == USAGE, "at {line:?}");
+    }
+}
+
+/// An argument that begins with a space is no number.
+#[test]
+fn other_number_of_workers(rt: HostRuntime) {
+    let alloc = rt.alloc();
+    let mut args = words_of_line(alloc, "count").expect(&rt, "an answer");
+    args.push(String::from_str(alloc, " 1").expect(&rt, "a text"))
+        .expect(&rt, "room");
+    let answer = answer_of(&rt, alloc, &args, &Streams::ample(EXAMPLE));
+    assert_eq!(rt; answer.status, 2);
+    assert!(rt; answer.output.written().is_empty());
+    assert!(rt; answer.faults.written() == USAGE);
+}
+
+pub const EXAMPLE_COUNTS: &[u8] = b"1 a
+3 and
+1 be
+1 here
+1 interned
+2 is
+2 of
+1 repeated
+1 sentence
+1 some
+2 text
+1 that
+1 tokenised
+1 tokens
+1 will
+";
+
+pub const NO_WORKER: &[u8] = b"atoms: worker not started\n";
+
+#[test]
+fn program_of_counts(rt: HostRuntime) {
+    for (line, input, status, output, faults) in [
+        ("count 1", EXAMPLE, 0, EXAMPLE_COUNTS, b"".as_slice()),
+        ("count 2", EXAMPLE, 0, EXAMPLE_COUNTS, b"".as_slice()),
+        ("count 64", EXAMPLE, 0, EXAMPLE_COUNTS, b"".as_slice()),
+        (
+            "count 2",
+            b"a".as_slice(),
+            0,
+            b"1 a\n".as_slice(),
+            b"".as_slice(),
+        ),
+        ("count 3", b"".as_slice(), 0, b"".as_slice(), b"".as_slice()),
+        ("count 2", b"\xff".as_slice(), 1, b"".as_slice(), NOT_TEXT),
+    ] {
+        let args = words_of_line(rt.alloc(), line).expect(&rt, "an answer");
+        let answer = answer_of(&rt, rt.alloc(), &args, &Streams::ample(input));
+        assert_eq!(rt; answer.status, status, "at {line:?}");
+        assert!(rt; answer.output.written() == output, "at {line:?}");
+        assert!(rt; answer.faults.written() == faults, "at {line:?}");
+    }
+}
+
+#[test]
+fn program_of_words(rt: HostRuntime) {
+    let args = words_of_line(rt.alloc(), "words").expect(&rt, "an answer");
+    for (input, status, output, faults) in [
+        (EXAMPLE, 0, EXAMPLE_LINES, b"".as_slice()),
+        (b"".as_slice(), 0, b"".as_slice(), b"".as_slice()),
+        (b"\xff".as_slice(), 1, b"".as_slice(), NOT_TEXT),
+    ] {
+        let answer = answer_of(&rt, rt.alloc(), &args, &Streams::ample(input));
+        assert_eq!(rt; answer.status, status, "of {input:?}");
+        assert!(rt; answer.output.written() == output, "of {input:?}");
+        assert!(rt; answer.faults.written() == faults, "of {input:?}");
+    }
+}
+
+#[test]
+fn program_fails_at_its_streams(rt: HostRuntime) {
+    for (line, input) in [
+        ("words", EXAMPLE),
+        ("count 3", EXAMPLE),
+        ("replay", b"1 link\n1 leave\n".as_slice()),
+    ] {
+        let args = words_of_line(rt.alloc(), line).expect(&rt, "an answer");
+        for (read_fails_at, takes, faults) in [
+            (2, usize::MAX, b"atoms: read failed\n".as_slice()),
+            (0, 0, b"atoms: write failed\n".as_slice()),
+        ] {
+            let streams = Streams {
+                text: input,
+                gives: 10,
+                read_fails_at,
+                takes,
+                write_fails_at: 0,
+            };
+            let answer = answer_of(&rt, rt.alloc(), &args, &streams);
+            assert_eq!(rt; answer.status, 1, "at {line:?}");
+            assert!(rt; answer.faults.written() == faults, "at {line:?}");
+            assert!(rt; answer.output.written().is_empty(), "at {line:?}");
+        }
+    }
+}
+
+/// What can't be said on standard error changes no status.
+#[test]
+fn faults_fail(rt: HostRuntime) {
+    for (line, status) in [("words", 1), ("jump", 2)] {
+        let args = words_of_line(rt.alloc(), line).expect(&rt, "an answer");
+        let streams = Streams::ample(b"\xff");
+        assert_eq!(rt;
+            program(
+                &rt,
+                rt.alloc(),
+                &args,
+                &mut streams.reader(),
+                &mut streams.writer(),
+                &mut Page::new(0, 0)
+            ),
+            status
+        );
+    }
+}
+
+#[test]
+fn printed_faults(rt: HostRuntime) {
+    for (fault, line) in [
+        (AppFault::Read, b"atoms: read failed\n".as_slice()),
+        (AppFault::Write, b"atoms: write failed\n".as_slice()),
+        (AppFault::Text, NOT_TEXT),
+        (
+            AppFault::Script(12),
+            b"atoms: line 12: not a step\n".as_slice(),
+        ),
+        (AppFault::Worker, b"atoms: worker not started\n".as_slice()),
+        (AppFault::Intern(Fault::Memory), NO_MEMORY),
+        (
+            AppFault::Intern(Fault::FullCount),
+            b"atoms: count is full\n".as_slice(),
+        ),
+        (
+            AppFault::Intern(Fault::TicketsSpent),
+            b"atoms: tickets are spent\n".as_slice(),
+        ),
+        (
+            AppFault::Intern(Fault::NotText),
+            b"atoms: not a text\n".as_slice(),
+        ),
+        (AppFault::Gen(GenFault::Memory), NO_MEMORY),
+    ] {
+        let mut faults = Page::wide();
+        assert_eq!(rt; refuse(&mut faults, fault), 1);
+        assert!(rt; faults.written() == line, "of {fault:?}");
+    }
+}
+
+/// The words of a command line, the program's name first.
+pub type CommandLine = &'static [&'static [u8]];
+
+/// A process that was given a command line.
+#[derive(Drop)]
+struct Given {
+    line: CommandLine,
+}
+
+impl Env for Given {
+    fn arg(&self, i: usize, buf: &mut [u8]) -> Result<usize, FillError> {
+        let Some(arg) = self.line.get(i) else {
+            return Err(FillError::NotPresent);
+        };
+        let len = arg.len();
+        if len > buf.len() {
+            return Err(FillError::TooLong);
+        }
+        buf[..len].copy_from_slice(arg);
+        Ok(len)
+    }
+
+    fn var(&self, _name: &str, _buf: &mut [u8]) -> Result<usize, FillError> {
+        Err(FillError::NotPresent)
+    }
+
+    fn var_at(&self, _i: usize, _buf: &mut [u8]) -> Result<usize, FillError> {
+        Err(FillError::NotPresent)
+    }
+}
+
+/// The arguments of a command line.
+pub fn arguments_of(alloc: Global, line: CommandLine) -> Result<Option<Vec<String>>, AppFault> {
+    arguments(&(Given { line }, alloc))
+}
+
+pub const COUNT_LINE: CommandLine = &[b"atoms", b"count", b"3"];
+
+const EMPTY_LINE: CommandLine = &[];
+
+const NAME_LINE: CommandLine = &[b"atoms"];
+
+const BYTES_LINE: CommandLine = &[b"atoms", b"words", b"\xff"];
+
+#[test]
+fn arguments_without_the_name(rt: HostRuntime) {
+    let args = arguments_of(rt.alloc(), COUNT_LINE)
+        .expect(&rt, "an answer")
+        .expect(&rt, "texts");
+    let wanted = words_of_line(rt.alloc(), "count 3").expect(&rt, "an answer");
+    assert!(rt; args.as_slice() == wanted.as_slice());
+    for line in [EMPTY_LINE, NAME_LINE] {
+        let args = arguments_of(rt.alloc(), line)
+            .expect(&rt, "an answer")
+            .expect(&rt, "texts");
+        assert!(rt; args.is_empty());
+    }
+    assert!(rt;
+        arguments_of(rt.alloc(), BYTES_LINE)
+            .expect(&rt, "an answer")
+            .is_none()
+    );
+}
+
+/// What is run for an outcome of reading the arguments. The input isn't a text.
+fn ran<R: Threads + Wait + Sync>(
+    rt: &R,
+    alloc: Global,
+    args: Result<Option<Vec<String>>, AppFault>,
+) -> Answer {
+    let streams = Streams::ample(b"\xff");
+    let mut output = streams.writer();
+    let mut faults = Page::wide();
+    let status = run(
+        rt,
+        alloc,
+        args,
+        &mut streams.reader(),
+        &mut output,
+        &mut faults,
+    );
+    Answer {
+        status,
+        output,
+        faults,
+    }
+}
+
+#[test]
+fn outcomes_of_arguments(rt: HostRuntime) {
+    let words = words_of_line(rt.alloc(), "words").expect(&rt, "an answer");
+    let jump = words_of_line(rt.alloc(), "jump").expect(&rt, "an answer");
+    for (args, status, faults) in [
+        (Ok(Some(words)), 1, NOT_TEXT),
+        (Ok(Some(jump)), 2, USAGE),
+        (Ok(None), 2, USAGE),
+        (Err(AppFault::Intern(Fault::Memory)), 1, NO_MEMORY),
+    ] {
+        let answer = ran(&rt, rt.alloc(), args);
+        assert_eq!(rt; answer.status, status);
+        assert!(rt; answer.output.written().is_empty());
+        assert!(rt; answer.faults.written() == faults);
+    }
+}

@@ -1,0 +1,6 @@
+pub mod Commands
+pub mod TimesSeen
+pub mod Faults
+pub mod Replay
+pub mod TableCommands
+pub mod WordLines

@@ -1,0 +1,117 @@
+//! The commands that make static tables of a list of texts, and check a table text.
+
+ghost use Rattle.std.specs.Prelude.{◌≡◌, ◌≢◌, ◌↔◌, ◌++◌, false, true, string_bytes, IfOk, IfErr, IfSome, OnOk, OnErr, Err};
+ghost use Rattle.std.specs.Str.{IsUtf8};
+ghost use Rattle.std.specs.Io.KnownBytes.{IsAtEnd, Keeps};
+ghost use Rattle.table_generator.specs.Generated.{texts_of, TellsTables};
+ghost use Rattle.replay_script.specs.Script.{script_lines};
+ghost use Rattle.table_generator.specs.declared.tables.GenFault.{GenFault};
+ghost use Rattle.text_streams.specs.Faults.{IsReadingFault};
+ghost use Rattle.commands.specs.Faults.{IsCheckFault, IsGenerateFault, IsMakingFault};
+ghost use Rattle.commands.specs.TableCommands.{IsTableOutput, IsAnswer, WritesTables, BeginsTables, WritesAnswer, BeginsAnswer};
+
+use replay_script::next_line;
+use std::alloc::{AllocError, Global};
+use table_generator::check::check_tables;
+use table_generator::generate::generate;
+use text_streams::faults::AppFault;
+use text_streams::streams::{Sink, Source, read_text, write_whole};
+
+/// The lines of a text, of which the last may lack its line feed.
+fn lines_in(alloc: Global, text: &str) -> Result<Vec<&str>, AllocError>
+    ensures { IfOk result (λ list. texts_of list.items ≡ script_lines text.now) }
+{
+    let mut list = Vec::new(alloc);
+    let mut rest = text;
+    while let Some((line, behind)) = next_line(rest) {
+        list.push(line)?;
+        rest = behind;
+    }
+    Ok(list)
+}
+
+/// The printed form of tables of the text's lines.
+fn output_of(alloc: Global, key: u64, bound: u32, text: &str) -> Result<String, AppFault>
+    ensures ok { IfOk result (λ out. IsTableOutput key bound text.now (string_bytes out)) }
+    ensures fault { IfErr result (IsMakingFault (λ g. TellsTables (script_lines text.now) key bound (Err g))) }
+{
+    let list = lines_in(alloc, text)?;
+    let tables = generate(alloc, &list, key, bound)?;
+    Ok(format!(in alloc; "{tables}")?)
+}
+
+/// Reads one text a line, and writes the printed form of tables of them: a key, displacements below the bound, and the texts.
+///
+/// `Read`, `Text`, input that isn't UTF-8, `Intern(Memory)` and `Gen` come before anything is written. After `Write` a beginning
+/// of the tables is.
+pub fn generate_command<S: Source, K: Sink>(
+    alloc: Global,
+    key: u64,
+    bound: u32,
+    reader: &mut S,
+    writer: &mut K,
+) -> Result<(), AppFault>
+    requires reader { S.has_failed reader.old ≡ false }
+    requires writer { K.has_failed writer.old ≡ false }
+    ensures ended { OnOk result (S.has_ended reader.new ≡ true × IsAtEnd (S.remaining reader.new)) }
+    ensures utf8 { OnOk result (IfSome (S.remaining reader.old) IsUtf8) }
+    ensures tables { OnOk result (IfSome (S.remaining reader.old) (λ bytes.
+        WritesTables key bound bytes (K.contents writer.old) (K.contents writer.new))) }
+    ensures beginning { OnErr result (IfSome (S.remaining reader.old) (λ bytes.
+        BeginsTables key bound bytes (K.contents writer.old) (K.contents writer.new))) }
+    ensures unwritten { IfErr result (λ fault. fault ≢ AppFault.Write → Keeps (K.contents writer.old) (K.contents writer.new)) }
+    ensures fault { IfErr result IsGenerateFault }
+    ensures reading { IfErr result (λ fault. S.has_ended reader.new ≡ false → IsReadingFault fault) }
+    ensures text { result ≡ Err AppFault.Text → S.has_ended reader.new ≡ true
+        × IfSome (S.remaining reader.old) (λ bytes. ¬ (IsUtf8 bytes)) }
+    ensures refused { (g : GenFault) → result ≡ Err (AppFault.Gen g) → S.has_ended reader.new ≡ true
+        × IfSome (S.remaining reader.old) (λ bytes. TellsTables (script_lines bytes) key bound (Err g)) }
+    ensures read { (result ≡ Err AppFault.Read) ↔ (S.has_failed reader.new ≡ true) }
+    ensures write { (result ≡ Err AppFault.Write) ↔ (K.has_failed writer.new ≡ true) }
+{
+    let text = read_text(alloc, reader)?;
+    let output = output_of(alloc, key, bound, &text)?;
+    write_whole(writer, output.as_bytes())
+}
+
+/// The answer's line of a text: whether it is the printed form of perfect tables.
+fn answer_of(alloc: Global, text: &str) -> Result<&'static str, AppFault>
+    ensures ok { IfOk result (λ answer. IsAnswer text.now answer.now) }
+    ensures fault { IfErr result (IsMakingFault (λ g. ⊥)) }
+{
+    if check_tables(alloc, text)? {
+        Ok("yes\n")
+    } else {
+        Ok("no\n")
+    }
+}
+
+/// Reads a table text, and writes `yes` or `no`.
+///
+/// `Read`, `Text`, input that isn't UTF-8, and `Intern(Memory)` come before anything is written. After `Write` a beginning of the
+/// answer is.
+pub fn check_command<S: Source, K: Sink>(
+    alloc: Global,
+    reader: &mut S,
+    writer: &mut K,
+) -> Result<(), AppFault>
+    requires reader { S.has_failed reader.old ≡ false }
+    requires writer { K.has_failed writer.old ≡ false }
+    ensures ended { OnOk result (S.has_ended reader.new ≡ true × IsAtEnd (S.remaining reader.new)) }
+    ensures utf8 { OnOk result (IfSome (S.remaining reader.old) IsUtf8) }
+    ensures answer { OnOk result (IfSome (S.remaining reader.old) (λ bytes.
+        WritesAnswer bytes (K.contents writer.old) (K.contents writer.new))) }
+    ensures beginning { OnErr result (IfSome (S.remaining reader.old) (λ bytes.
+        BeginsAnswer bytes (K.contents writer.old) (K.contents writer.new))) }
+    ensures unwritten { IfErr result (λ fault. fault ≢ AppFault.Write → Keeps (K.contents writer.old) (K.contents writer.new)) }
+    ensures fault { IfErr result IsCheckFault }
+    ensures reading { IfErr result (λ fault. S.has_ended reader.new ≡ false → IsReadingFault fault) }
+    ensures text { result ≡ Err AppFault.Text → S.has_ended reader.new ≡ true
+        × IfSome (S.remaining reader.old) (λ bytes. ¬ (IsUtf8 bytes)) }
+    ensures read { (result ≡ Err AppFault.Read) ↔ (S.has_failed reader.new ≡ true) }
+    ensures write { (result ≡ Err AppFault.Write) ↔ (K.has_failed writer.new ≡ true) }
+{
+    let text = read_text(alloc, reader)?;
+    let answer = answer_of(alloc, &text)?;
+    write_whole(writer, answer.as_bytes())
+}

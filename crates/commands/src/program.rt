@@ -1,0 +1,277 @@
+//! All that the program does, over any reader and writers.
+
+ghost use Rattle.std.specs.Prelude.{◌≡◌, ◌≢◌, ℕ, ◌≤◌, List, codes, false, IfSome, IsErr, IfErr, MatchOption, OnOk, OnErr};
+ghost use Rattle.std.specs.Str.{IsUtf8};
+ghost use Rattle.std.specs.Io.KnownBytes.{Appends};
+ghost use Rattle.text_streams.specs.Streams.{AppendsBeginning};
+ghost use Rattle.word_counts.specs.CountLines.{count_lines};
+ghost use Rattle.commands.specs.Commands.{AreCheck, AreCount, AreGenerate, AreWords, AreReplay, IsRequest, IsWorkers};
+ghost use Rattle.commands.specs.Replay.{BeginsReplay};
+ghost use Rattle.commands.specs.WordLines.{word_lines};
+ghost use Rattle.commands.specs.TableCommands.{WritesTables, BeginsTables, WritesAnswer, BeginsAnswer};
+ghost use Rattle.replay_script.specs.Replay.{IsReplay};
+ghost use Rattle.string_cache.specs.Tables.{empty_tables};
+
+use crate::generate::{check_command, generate_command};
+use crate::replay::replay;
+use crate::words::words_command;
+use std::alloc::Global;
+use std::fmt::Write;
+use std::io::ErrorKind;
+use std::rt::Env;
+use std::sync::Wait;
+use std::thread::Threads;
+use std::{env, fmt};
+use string_cache::Fault;
+use table_generator::numbers::{number_of, short_number_of};
+use text_streams::faults::AppFault;
+use text_streams::streams::{Sink, Source, write_whole};
+use word_counts::count::tell_counts;
+
+const USAGE: &str = "usage: atoms words | count N | replay | generate KEY BOUND | check\n";
+
+/// The arguments without the program's name. `None` where one isn't UTF-8, and `Intern(Memory)` where they found no room.
+pub fn arguments(rt: &(impl Env + AllocGlobal)) -> Result<Option<Vec<String>>, AppFault>
+    ensures { IfErr result (λ fault. fault ≡ AppFault.Intern Fault.Memory) }
+{
+    let mut given = match env::args(rt) {
+        Ok(given) => given,
+        Err(error) if error.kind() == ErrorKind::OutOfMemory => {
+            return Err(AppFault::Intern(Fault::Memory));
+        }
+        Err(_) => return Ok(None),
+    };
+    let _ = given.next();
+    let mut args = Vec::new(rt.alloc());
+    for arg in given {
+        args.push(arg)?;
+    }
+    Ok(Some(args))
+}
+
+/// What the arguments ask for.
+enum Command {
+    Words,
+    /// By this number of workers.
+    Count(u32),
+    Replay,
+    /// Tables under this key, with displacements below this bound.
+    Generate(u64, u32),
+    Check,
+}
+
+/// The most workers that count.
+const MOST_WORKERS: u64 = 64;
+
+/// The number of workers that a text spells. `None` where it spells none from 1 to 64.
+fn workers_of(text: &str) -> Option<u32>
+    ensures { MatchOption result ((n : ℕ) → ¬ (IsWorkers text.now n))
+        (λ n. IsWorkers text.now n × ((m : ℕ) → IsWorkers text.now m → m ≡ n)) }
+{
+    let Some(n) = number_of(text) else {
+        return None;
+    };
+    if n == 0 || n > MOST_WORKERS {
+        return None;
+    }
+    Some(n as u32)
+}
+
+/// The key and the bound that two texts spell. `None` where they spell none.
+fn request_of(key: &str, bound: &str) -> Option<(u64, u32)>
+    ensures { MatchOption result ((k b : ℕ) → IsRequest key.now bound.now k b → ⊥)
+        (λ found. IsRequest key.now bound.now found.0 found.1
+        × ((k b : ℕ) → IsRequest key.now bound.now k b → (k ≡ found.0) × (b ≡ found.1))) }
+{
+    let Some(key) = number_of(key) else {
+        return None;
+    };
+    let Some(bound) = short_number_of(bound) else {
+        return None;
+    };
+    Some((key, bound))
+}
+
+/// The command that one word asks for.
+fn alone(word: &str) -> Option<Command>
+    ensures words { word.now ≡ codes "words" → result ≡ Some Command.Words }
+    ensures replay { word.now ≡ codes "replay" → result ≡ Some Command.Replay }
+    ensures check { word.now ≡ codes "check" → result ≡ Some Command.Check }
+    ensures workers { (n : ℕ) → result ≡ Some (Command.Count n) → ⊥ }
+    ensures other { word.now ≢ codes "words" → word.now ≢ codes "replay" → word.now ≢ codes "check" → result ≡ None }
+{
+    match word {
+        "words" => Some(Command::Words),
+        "replay" => Some(Command::Replay),
+        "check" => Some(Command::Check),
+        _ => None,
+    }
+}
+
+/// The command that a word with a number asks for.
+fn counting(word: &str, number: &str) -> Option<Command>
+    ensures count { word.now ≡ codes "count" → (n : ℕ) → IsWorkers number.now n → result ≡ Some (Command.Count n) }
+    ensures workers { (n : ℕ) → result ≡ Some (Command.Count n) → (1 ≤ n) × (n ≤ 64) }
+    ensures other { (word.now ≡ codes "count" → (n : ℕ) → ¬ (IsWorkers number.now n)) → result ≡ None }
+{
+    if word != "count" {
+        return None;
+    }
+    let Some(n) = workers_of(number) else {
+        return None;
+    };
+    Some(Command::Count(n))
+}
+
+/// The command that a word with two numbers asks for.
+fn making(word: &str, key: &str, bound: &str) -> Option<Command>
+    ensures generate { word.now ≡ codes "generate" → (k b : ℕ) → IsRequest key.now bound.now k b → result ≡ Some (Command.Generate k b) }
+    ensures workers { (n : ℕ) → result ≡ Some (Command.Count n) → ⊥ }
+    ensures other { (word.now ≡ codes "generate" → (k b : ℕ) → ¬ (IsRequest key.now bound.now k b)) → result ≡ None }
+{
+    if word != "generate" {
+        return None;
+    }
+    let Some((key, bound)) = request_of(key, bound) else {
+        return None;
+    };
+    Some(Command::Generate(key, bound))
+}
+
+/// `None` where the arguments aren't those of a command.
+fn command_of(args: &[String]) -> Option<Command>
+    ensures words { AreWords args.now → result ≡ Some Command.Words }
+    ensures count { (n : ℕ) → AreCount args.now n → result ≡ Some (Command.Count n) }
+    ensures workers { (n : ℕ) → result ≡ Some (Command.Count n) → (1 ≤ n) × (n ≤ 64) }
+    ensures replay { AreReplay args.now → result ≡ Some Command.Replay }
+    ensures generate { (key bound : ℕ) → AreGenerate args.now key bound → result ≡ Some (Command.Generate key bound) }
+    ensures check { AreCheck args.now → result ≡ Some Command.Check }
+    ensures other { ¬ (AreWords args.now) → ((n : ℕ) → ¬ (AreCount args.now n)) → ¬ (AreReplay args.now)
+        → ((key bound : ℕ) → ¬ (AreGenerate args.now key bound)) → ¬ (AreCheck args.now) → result ≡ None }
+{
+    match args {
+        [word] => alone(word.as_str()),
+        [word, number] => counting(word.as_str(), number.as_str()),
+        [word, key, bound] => making(word.as_str(), key.as_str(), bound.as_str()),
+        _ => None,
+    }
+}
+
+/// Prints to a sink, without memory.
+#[derive(Drop)]
+struct Printer<'a, K: Sink> {
+    sink: &'a mut K,
+}
+
+impl<K: Sink> fmt::Write for Printer<'_, K> {
+    fn write_str(&mut self, s: &str) -> fmt::Result {
+        if self.sink.failed() {
+            return Err(fmt::Error);
+        }
+        match write_whole(self.sink, s.as_bytes()) {
+            Ok(()) => Ok(()),
+            Err(_) => Err(fmt::Error),
+        }
+    }
+}
+
+/// Writes a fault's line, and answers the exit status 1. A failure to write it changes nothing.
+pub fn refuse<F: Sink>(faults: &mut F, fault: AppFault) -> u8
+    ensures { result ≡ 1 }
+{
+    let mut printer = Printer { sink: faults };
+    let _ = writeln!(printer, "atoms: {fault}");
+    1
+}
+
+/// Writes the usage line, and answers the exit status 2. A failure to write it changes nothing.
+pub fn usage<F: Sink>(faults: &mut F) -> u8
+    ensures { result ≡ 2 }
+{
+    let mut printer = Printer { sink: faults };
+    let _ = write!(printer, "{USAGE}");
+    2
+}
+
+/// Runs the command that the arguments, without the program's name, ask for, and answers the exit status: 0, or 1 after
+/// a fault's line, or 2 after the usage line, where nothing was read or written.
+pub fn program<R: Threads + Wait + Sync, S: Source, K: Sink, F: Sink>(
+    rt: &R,
+    alloc: Global,
+    args: &[String],
+    input: &mut S,
+    output: &mut K,
+    faults: &mut F,
+) -> u8
+    requires input { S.has_failed input.old ≡ false }
+    requires output { K.has_failed output.old ≡ false }
+    requires faults { F.has_failed faults.old ≡ false }
+    ensures utf8 { result ≡ 0 → IfSome (S.remaining input.old) IsUtf8 }
+    ensures words { AreWords args.now → result ≡ 0 → IfSome (S.remaining input.old) (λ bytes.
+        Appends (K.contents output.old) (K.contents output.new) (word_lines bytes)) }
+    ensures beginning { AreWords args.now → result ≡ 1 → IfSome (S.remaining input.old) (λ bytes.
+        AppendsBeginning (K.contents output.old) (K.contents output.new) (word_lines bytes)) }
+    ensures status { AreWords args.now → result ≤ 1 }
+    ensures count { (n : ℕ) → AreCount args.now n → result ≡ 0 → IfSome (S.remaining input.old) (λ bytes.
+        Appends (K.contents output.old) (K.contents output.new) (count_lines bytes)) }
+    ensures count_beginning { (n : ℕ) → AreCount args.now n → result ≡ 1 → IfSome (S.remaining input.old) (λ bytes.
+        AppendsBeginning (K.contents output.old) (K.contents output.new) (count_lines bytes)) }
+    ensures count_status { (n : ℕ) → AreCount args.now n → result ≤ 1 }
+    ensures replay { AreReplay args.now → result ≡ 0 → IfSome (S.remaining input.old) (λ bytes.
+        (lines : List ℕ) × IsReplay empty_tables bytes lines
+        × Appends (K.contents output.old) (K.contents output.new) lines) }
+    ensures replay_beginning { AreReplay args.now → result ≡ 1 → IfSome (S.remaining input.old) (λ bytes.
+        BeginsReplay empty_tables bytes (K.contents output.old) (K.contents output.new)) }
+    ensures replay_status { AreReplay args.now → result ≤ 1 }
+    ensures generate { (key bound : ℕ) → AreGenerate args.now key bound → result ≡ 0 → IfSome (S.remaining input.old) (λ bytes.
+        WritesTables key bound bytes (K.contents output.old) (K.contents output.new)) }
+    ensures generate_beginning { (key bound : ℕ) → AreGenerate args.now key bound → result ≡ 1
+        → IfSome (S.remaining input.old) (λ bytes. BeginsTables key bound bytes (K.contents output.old) (K.contents output.new)) }
+    ensures generate_status { (key bound : ℕ) → AreGenerate args.now key bound → result ≤ 1 }
+    ensures check { AreCheck args.now → result ≡ 0 → IfSome (S.remaining input.old) (λ bytes.
+        WritesAnswer bytes (K.contents output.old) (K.contents output.new)) }
+    ensures check_beginning { AreCheck args.now → result ≡ 1 → IfSome (S.remaining input.old) (λ bytes.
+        BeginsAnswer bytes (K.contents output.old) (K.contents output.new)) }
+    ensures check_status { AreCheck args.now → result ≤ 1 }
+    ensures other { ¬ (AreWords args.now) → ((n : ℕ) → ¬ (AreCount args.now n)) → ¬ (AreReplay args.now)
+        → ((key bound : ℕ) → ¬ (AreGenerate args.now key bound)) → ¬ (AreCheck args.now)
+        → (result ≡ 2) × (input.new ≡ input.old) × (output.new ≡ output.old) }
+{
+    let Some(command) = command_of(args) else {
+        return usage(faults);
+    };
+    let outcome = match command {
+        Command::Words => words_command(rt, alloc, input, output),
+        Command::Count(n) => tell_counts(rt, alloc, n, input, output),
+        Command::Replay => replay(alloc, input, output),
+        Command::Generate(key, bound) => generate_command(alloc, key, bound, input, output),
+        Command::Check => check_command(alloc, input, output),
+    };
+    match outcome {
+        Ok(()) => 0,
+        Err(fault) => refuse(faults, fault),
+    }
+}
+
+/// All that main does once its arguments are read, with the exit status as its answer: it runs the program on them, and
+/// where they aren't UTF-8 it writes the usage line. That they found no room is a fault.
+pub fn run<R: Threads + Wait + Sync, S: Source, K: Sink, F: Sink>(
+    rt: &R,
+    alloc: Global,
+    args: Result<Option<Vec<String>>, AppFault>,
+    input: &mut S,
+    output: &mut K,
+    faults: &mut F,
+) -> u8
+    requires input { S.has_failed input.old ≡ false }
+    requires output { K.has_failed output.old ≡ false }
+    requires faults { F.has_failed faults.old ≡ false }
+    ensures refused { IsErr args → (result ≡ 1) × (input.new ≡ input.old) × (output.new ≡ output.old) }
+    ensures usage { args ≡ Ok None → (result ≡ 2) × (input.new ≡ input.old) × (output.new ≡ output.old) }
+{
+    match args {
+        Ok(Some(args)) => program(rt, alloc, &args, input, output, faults),
+        Ok(None) => usage(faults),
+        Err(no_room) => refuse(faults, no_room),
+    }
+}

@@ -1,0 +1,188 @@
+//! For each word of a text, a line that tells how often it came before.
+
+ghost use Rattle.std.specs.Prelude.{◌≡◌, ◌↔◌, ◌+◌, ◌^◌, ◌<◌, ◌++◌, IfOk, IfSome, OnOk, OnErr, IfErr, false, true, string_bytes};
+ghost use Rattle.std.specs.Io.KnownBytes.{Appends};
+ghost use Rattle.std.specs.Str.{IsUtf8};
+ghost use Rattle.string_cache.specs.Faults.{IsInternFault};
+ghost use Rattle.commands.specs.TimesSeen.{count_of, CountsOneMore};
+ghost use Rattle.text_streams.specs.Streams.{AppendsBeginning};
+ghost use Rattle.word_counts.specs.Faults.{IsWritingFault};
+ghost use Rattle.word_counts.specs.Told.{TellsLines};
+ghost use Rattle.commands.specs.Faults.{IsWordsFault};
+ghost use Rattle.commands.specs.WordLines.{seen_line, word_lines};
+
+use std::alloc::{AllocError, Global};
+use std::collections::HashMap;
+use std::sync::Wait;
+use string_cache::dynamic_set::Set;
+use string_cache::table::Table;
+use string_cache::word::Limits;
+use string_cache::{Atom, EmptyStaticAtomSet, Fault, StaticAtomSet};
+use text_streams::faults::AppFault;
+use text_streams::streams::{PIECE, Sink, Source, read_text, write_whole};
+use word_counts::buckets::buckets_for;
+
+/// What words are interned in, and kept by until its end.
+trait Interner {
+    fn intern(&mut self, word: &str) -> Result<(), Fault>
+        ensures { IfErr result IsInternFault };
+}
+
+impl Interner for Table<EmptyStaticAtomSet> {
+    fn intern(&mut self, word: &str) -> Result<(), Fault> {
+        self.intern(word)?;
+        Ok(())
+    }
+}
+
+/// Interns words in a set, and holds the atom of each place of a dynamic one. Inline and static atoms hold nothing of the
+/// set, so they aren't kept.
+#[derive(Drop)]
+struct Holder<'r, 's, R: Wait, Static: StaticAtomSet> {
+    rt: &'r R,
+    set: &'s Set<Static>,
+    atoms: Vec<Atom<'s, Static>>,
+}
+
+impl<'r, 's, R: Wait, Static: StaticAtomSet> Holder<'r, 's, R, Static> {
+    fn new(rt: &'r R, set: &'s Set<Static>) -> Self {
+        Holder {
+            rt,
+            set,
+            atoms: Vec::new(set.allocator()),
+        }
+    }
+}
+
+impl<R: Wait, Static: StaticAtomSet> Interner for Holder<'_, '_, R, Static> {
+    fn intern(&mut self, word: &str) -> Result<(), Fault> {
+        let atom = Atom::from_str_in(self.rt, self.set, word)?;
+        if atom.is_dynamic() {
+            self.atoms.push(atom)?;
+        }
+        Ok(())
+    }
+}
+
+/// How often each word came, found by the word where it lies in the text.
+type TimesSeen<'t> = HashMap<&'t str, u64>;
+
+/// Counts the word once more, and tells how often it was counted before.
+fn count_word<'t>(counts: &mut TimesSeen<'t>, word: &'t str) -> Result<u64, AllocError>
+    requires { count_of counts.old word.now + 1 < 2 ^ 64 }
+    ensures before { IfOk result (λ n. n ≡ count_of counts.old word.now) }
+    ensures counted { OnOk result (CountsOneMore counts.old counts.new word.now) }
+{
+    let number = counts.entry(word)?.or_insert(0);
+    let n = *number;
+    *number += 1;
+    Ok(n)
+}
+
+/// Appends the line of a word with `n` equal words before it.
+fn append_line(out: &mut String, word: &str, n: u64) -> Result<(), AllocError>
+    ensures { OnOk result (string_bytes out.new ≡ string_bytes out.old ++ seen_line word.now n) }
+{
+    if n > 0 {
+        writeln!(out, "Seen the word \"{word}\" {n} times")
+    } else {
+        writeln!(out, "Not seen the word \"{word}\" before")
+    }
+}
+
+/// Interns the words of the text in order, and writes a line for each, once it is interned.
+fn write_words<I: Interner, K: Sink>(
+    alloc: Global,
+    interner: &mut I,
+    text: &str,
+    writer: &mut K,
+) -> Result<(), AppFault>
+    requires { K.has_failed writer.old ≡ false }
+    ensures ok { OnOk result (Appends (K.contents writer.old) (K.contents writer.new) (word_lines text.now)) }
+    ensures err { OnErr result (AppendsBeginning (K.contents writer.old) (K.contents writer.new) (word_lines text.now)) }
+    ensures fault { IfErr result IsWritingFault }
+    ensures failed { (result ≡ Err AppFault.Write) ↔ (K.has_failed writer.new ≡ true) }
+{
+    let mut counts = HashMap::new(alloc);
+    let mut pending = String::new(alloc);
+    for word in text.split_whitespace() {
+        interner.intern(word)?;
+        let n = count_word(&mut counts, word)?;
+        append_line(&mut pending, word, n)?;
+        if pending.len() >= PIECE {
+            write_whole(writer, pending.as_bytes())?;
+            pending.clear();
+        }
+    }
+    write_whole(writer, pending.as_bytes())
+}
+
+/// Reads all, interns its words in order, and writes a line for each.
+fn tell<I: Interner, S: Source, K: Sink>(
+    alloc: Global,
+    interner: &mut I,
+    reader: &mut S,
+    writer: &mut K,
+) -> Result<(), AppFault>
+    requires reader { S.has_failed reader.old ≡ false }
+    requires writer { K.has_failed writer.old ≡ false }
+    ensures { TellsLines S.remaining S.has_ended S.has_failed K.contents K.has_failed
+        word_lines IsWordsFault reader.old reader.new writer.old writer.new result }
+{
+    let text = read_text(alloc, reader)?;
+    write_words(alloc, interner, &text, writer)
+}
+
+/// For each word that the reader gives, a line that tells how often it came before. The words are interned in the set,
+/// repeated ones again, and the atoms of dynamic ones are held to the end of the call; others hold nothing of the set.
+///
+/// `Read` and `Text`, input that isn't UTF-8, come before anything is written, and so does `Intern(Memory)` while the
+/// input is read. After another fault a beginning of the lines is written.
+pub fn words<R: Wait, Static: StaticAtomSet, S: Source, K: Sink>(
+    rt: &R,
+    set: &Set<Static>,
+    reader: &mut S,
+    writer: &mut K,
+) -> Result<(), AppFault>
+    requires reader { S.has_failed reader.old ≡ false }
+    requires writer { K.has_failed writer.old ≡ false }
+    ensures { TellsLines S.remaining S.has_ended S.has_failed K.contents K.has_failed
+        word_lines IsWordsFault reader.old reader.new writer.old writer.new result }
+{
+    let alloc = set.allocator();
+    tell(alloc, &mut Holder::new(rt, set), reader, writer)
+}
+
+/// As `words`, over a set of this call's own, whose number of buckets fits the input.
+pub fn words_command<R: Wait, S: Source, K: Sink>(
+    rt: &R,
+    alloc: Global,
+    reader: &mut S,
+    writer: &mut K,
+) -> Result<(), AppFault>
+    requires reader { S.has_failed reader.old ≡ false }
+    requires writer { K.has_failed writer.old ≡ false }
+    ensures { TellsLines S.remaining S.has_ended S.has_failed K.contents K.has_failed
+        word_lines IsWordsFault reader.old reader.new writer.old writer.new result }
+{
+    let text = read_text(alloc, reader)?;
+    let buckets = buckets_for(text.len());
+    let set = Set::<EmptyStaticAtomSet>::with_buckets(alloc, Limits::greatest(), buckets)?;
+    write_words(alloc, &mut Holder::new(rt, &set), &text, writer)
+}
+
+/// The same lines and faults as those of `words`. The words are interned in a table of this call's own, which ends with it,
+/// so that no lock is taken.
+pub fn words_alone<S: Source, K: Sink>(
+    alloc: Global,
+    reader: &mut S,
+    writer: &mut K,
+) -> Result<(), AppFault>
+    requires reader { S.has_failed reader.old ≡ false }
+    requires writer { K.has_failed writer.old ≡ false }
+    ensures { TellsLines S.remaining S.has_ended S.has_failed K.contents K.has_failed
+        word_lines IsWordsFault reader.old reader.new writer.old writer.new result }
+{
+    let mut table = Table::<EmptyStaticAtomSet>::new(alloc)?;
+    tell(alloc, &mut table, reader, writer)
+}
