@@ -7,7 +7,7 @@ use crate::words::EXAMPLE_LINES;
 use commands::program::{arguments, program, refuse, run};
 use std::alloc::{AllocError, Global};
 use std::env::FillError;
-use std::io;
+use std::process::Abort;
 use std::rt::Env;
 use std::sync::Wait;
 use std::thread::Threads;
@@ -20,7 +20,7 @@ const USAGE: &[u8] = b"usage: atoms words | count N | replay | generate KEY BOUN
 
 pub const NO_MEMORY: &[u8] = b"atoms: no memory\n";
 
-const NOT_TEXT: &[u8] = b"atoms: input is not UTF-8\n";
+pub const NOT_TEXT: &[u8] = b"atoms: input is not UTF-8\n";
 
 /// What the program answers and writes.
 #[derive(Drop)]
@@ -62,34 +62,111 @@ pub fn words_of_line(alloc: Global, line: &str) -> Result<Vec<String>, AllocErro
     Ok(args)
 }
 
+/// A run of the program: its line of arguments and its input, and what has to come of it.
+#[derive(Clone, Copy)]
+pub struct Run {
+    line: &'static str,
+    input: &'static [u8],
+    status: u8,
+    output: &'static [u8],
+    faults: &'static [u8],
+}
+
+impl Run {
+    /// One that writes this output, and no fault.
+    pub fn given(line: &'static str, input: &'static [u8], output: &'static [u8]) -> Run {
+        Run {
+            line,
+            input,
+            status: 0,
+            output,
+            faults: b"",
+        }
+    }
+
+    /// One that writes this fault's line and no output.
+    pub fn refused(line: &'static str, input: &'static [u8], faults: &'static [u8]) -> Run {
+        Run {
+            line,
+            input,
+            status: 1,
+            output: b"",
+            faults,
+        }
+    }
+
+    /// One whose arguments are those of no command.
+    pub fn of_no_command(line: &'static str) -> Run {
+        Run {
+            line,
+            input: EXAMPLE,
+            status: 2,
+            output: b"",
+            faults: USAGE,
+        }
+    }
+
+    /// Whether that comes of it.
+    pub fn is_right<R: Threads + Wait + Sync>(&self, rt: &R, alloc: Global) -> bool {
+        let Ok(args) = words_of_line(alloc, self.line) else {
+            return false;
+        };
+        let answer = answer_of(rt, alloc, &args, &Streams::ample(self.input));
+        answer.status == self.status
+            && answer.output.written() == self.output
+            && answer.faults.written() == self.faults
+    }
+}
+
+/// Each of these runs has to be right.
+pub fn try_runs<R: Threads + Wait + Sync + Abort>(rt: &R, alloc: Global, runs: &[Run]) {
+    for run in runs {
+        assert!(rt;
+            run.is_right(rt, alloc),
+            "at {:?} of {:?}",
+            run.line,
+            run.input
+        );
+    }
+}
+
 #[test]
-fn other_arguments(rt: HostRuntime) {
+fn no_arguments(rt: HostRuntime) {
     let answer = answer_of(&rt, rt.alloc(), &[], &Streams::ample(EXAMPLE));
     assert_eq!(rt; answer.status, 2);
     assert!(rt; answer.faults.written() == USAGE);
-    for line in [
-        "",
-        "jump",
-        "Words",
-        "words words",
-        "words ",
-        "count",
-        "count ",
-        "count 0",
-        "count 65",
-        "count 01",
-        "count +1",
-        "count -1",
-        "count 1 2",
-        "Count 1",
-        "replay replay",
-    ] {
-        let args = words_of_line(rt.alloc(), line).expect(&rt, "an answer");
-        let answer = answer_of(&rt, rt.alloc(), &args, &Streams::ample(EXAMPLE));
-        assert_eq!(rt; answer.status, 2, "at {line:?}");
-        assert!(rt; answer.output.written().is_empty(), "at {line:?}");
-        assert!(rt; answer.faults.written() == USAGE, "at {line:?}");
+}
+
+/// Lines of arguments that are those of no command.
+pub fn try_lines<R: Threads + Wait + Sync + Abort>(rt: &R, alloc: Global, lines: &[&'static str]) {
+    for line in lines {
+        assert!(rt; Run::of_no_command(line).is_right(rt, alloc), "at {line:?}");
     }
+}
+
+#[test]
+fn other_arguments(rt: HostRuntime) {
+    try_lines(
+        &rt,
+        rt.alloc(),
+        &[
+            "",
+            "jump",
+            "Words",
+            "words words",
+            "words ",
+            "count",
+            "count ",
+            "count 0",
+            "count 65",
+            "count 01",
+            "count +1",
+            "count -1",
+            "count 1 2",
+            "Count 1",
+            "replay replay",
+        ],
+    );
 }
 
 /// An argument that begins with a space is no number.
@@ -126,41 +203,60 @@ pub const NO_WORKER: &[u8] = b"atoms: worker not started\n";
 
 #[test]
 fn program_of_counts(rt: HostRuntime) {
-    for (line, input, status, output, faults) in [
-        ("count 1", EXAMPLE, 0, EXAMPLE_COUNTS, b"".as_slice()),
-        ("count 2", EXAMPLE, 0, EXAMPLE_COUNTS, b"".as_slice()),
-        ("count 64", EXAMPLE, 0, EXAMPLE_COUNTS, b"".as_slice()),
-        (
-            "count 2",
-            b"a".as_slice(),
-            0,
-            b"1 a\n".as_slice(),
-            b"".as_slice(),
-        ),
-        ("count 3", b"".as_slice(), 0, b"".as_slice(), b"".as_slice()),
-        ("count 2", b"\xff".as_slice(), 1, b"".as_slice(), NOT_TEXT),
-    ] {
-        let args = words_of_line(rt.alloc(), line).expect(&rt, "an answer");
-        let answer = answer_of(&rt, rt.alloc(), &args, &Streams::ample(input));
-        assert_eq!(rt; answer.status, status, "at {line:?}");
-        assert!(rt; answer.output.written() == output, "at {line:?}");
-        assert!(rt; answer.faults.written() == faults, "at {line:?}");
-    }
+    try_runs(
+        &rt,
+        rt.alloc(),
+        &[
+            Run::given("count 1", EXAMPLE, EXAMPLE_COUNTS),
+            Run::given("count 2", EXAMPLE, EXAMPLE_COUNTS),
+            Run::given("count 64", EXAMPLE, EXAMPLE_COUNTS),
+            Run::given("count 2", b"a", b"1 a\n"),
+            Run::given("count 3", b"", b""),
+            Run::refused("count 2", b"\xff", NOT_TEXT),
+        ],
+    );
 }
 
 #[test]
 fn program_of_words(rt: HostRuntime) {
-    let args = words_of_line(rt.alloc(), "words").expect(&rt, "an answer");
-    for (input, status, output, faults) in [
-        (EXAMPLE, 0, EXAMPLE_LINES, b"".as_slice()),
-        (b"".as_slice(), 0, b"".as_slice(), b"".as_slice()),
-        (b"\xff".as_slice(), 1, b"".as_slice(), NOT_TEXT),
-    ] {
-        let answer = answer_of(&rt, rt.alloc(), &args, &Streams::ample(input));
-        assert_eq!(rt; answer.status, status, "of {input:?}");
-        assert!(rt; answer.output.written() == output, "of {input:?}");
-        assert!(rt; answer.faults.written() == faults, "of {input:?}");
-    }
+    try_runs(
+        &rt,
+        rt.alloc(),
+        &[
+            Run::given("words", EXAMPLE, EXAMPLE_LINES),
+            Run::given("words", b"", b""),
+            Run::refused("words", b"\xff", NOT_TEXT),
+        ],
+    );
+}
+
+/// Whether the program writes the fault of a reader that fails at its second read and of a writer that takes nothing, and no output.
+pub fn failures_are_told<R: Threads + Wait + Sync>(
+    rt: &R,
+    alloc: Global,
+    line: &str,
+    input: &[u8],
+) -> bool {
+    let reading = Streams {
+        text: input,
+        gives: 10,
+        read_fails_at: 2,
+        takes: usize::MAX,
+        write_fails_at: 0,
+    };
+    let mut writing = Streams::ample(input);
+    writing.takes = 0;
+    let Ok(args) = words_of_line(alloc, line) else {
+        return false;
+    };
+    let unread = answer_of(rt, alloc, &args, &reading);
+    let unwritten = answer_of(rt, alloc, &args, &writing);
+    fails_with(&unread, b"atoms: read failed\n") && fails_with(&unwritten, b"atoms: write failed\n")
+}
+
+/// Whether this fault's line is written, and no output.
+fn fails_with(answer: &Answer, faults: &[u8]) -> bool {
+    answer.status == 1 && answer.faults.written() == faults && answer.output.written().is_empty()
 }
 
 #[test]
@@ -170,23 +266,10 @@ fn program_fails_at_its_streams(rt: HostRuntime) {
         ("count 3", EXAMPLE),
         ("replay", b"1 link\n1 leave\n".as_slice()),
     ] {
-        let args = words_of_line(rt.alloc(), line).expect(&rt, "an answer");
-        for (read_fails_at, takes, faults) in [
-            (2, usize::MAX, b"atoms: read failed\n".as_slice()),
-            (0, 0, b"atoms: write failed\n".as_slice()),
-        ] {
-            let streams = Streams {
-                text: input,
-                gives: 10,
-                read_fails_at,
-                takes,
-                write_fails_at: 0,
-            };
-            let answer = answer_of(&rt, rt.alloc(), &args, &streams);
-            assert_eq!(rt; answer.status, 1, "at {line:?}");
-            assert!(rt; answer.faults.written() == faults, "at {line:?}");
-            assert!(rt; answer.output.written().is_empty(), "at {line:?}");
-        }
+        assert!(rt;
+            failures_are_told(&rt, rt.alloc(), line, input),
+            "at {line:?}"
+        );
     }
 }
 

@@ -1,7 +1,7 @@
 //! The worked scripts, and scripts that are large or no scripts.
 
 use crate::memory::{Page, Streams};
-use crate::program::{answer_of, words_of_line};
+use crate::program::{NOT_TEXT, Run, try_runs};
 use commands::replay::replay;
 use std::alloc::Global;
 use std::test::Fail;
@@ -243,12 +243,9 @@ freed
 
 #[test]
 fn worked_scripts(rt: HostRuntime) {
-    let args = words_of_line(rt.alloc(), "replay").expect(&rt, "an answer");
-    for (script, output) in WORKED {
-        let answer = answer_of(&rt, rt.alloc(), &args, &Streams::ample(script));
-        assert_eq!(rt; answer.status, 0, "of {script:?}");
-        assert!(rt; answer.output.written() == output, "of {script:?}");
-        assert!(rt; answer.faults.written().is_empty(), "of {script:?}");
+    for (script, output) in &WORKED {
+        let is_right = Run::given("replay", script, output).is_right(&rt, rt.alloc());
+        assert!(rt; is_right, "of {script:?}");
     }
 }
 
@@ -311,32 +308,19 @@ fn large_script(rt: HostRuntime) {
 
 #[test]
 fn program_of_scripts(rt: HostRuntime) {
-    let args = words_of_line(rt.alloc(), "replay").expect(&rt, "an answer");
-    for (script, status, output, faults) in [
-        (SCRIPT, 0, OUTPUT, b"".as_slice()),
-        (b"".as_slice(), 0, b"".as_slice(), b"".as_slice()),
-        (
-            b"1 jump".as_slice(),
-            1,
-            b"".as_slice(),
-            b"atoms: line 1: not a step\n".as_slice(),
-        ),
-        (
-            b"1 link\n1 jump\n1 jump\n".as_slice(),
-            1,
-            b"".as_slice(),
-            b"atoms: line 2: not a step\n".as_slice(),
-        ),
-        (
-            b"\xff".as_slice(),
-            1,
-            b"".as_slice(),
-            b"atoms: input is not UTF-8\n".as_slice(),
-        ),
-    ] {
-        let answer = answer_of(&rt, rt.alloc(), &args, &Streams::ample(script));
-        assert_eq!(rt; answer.status, status, "of {script:?}");
-        assert!(rt; answer.output.written() == output, "of {script:?}");
-        assert!(rt; answer.faults.written() == faults, "of {script:?}");
-    }
+    try_runs(
+        &rt,
+        rt.alloc(),
+        &[
+            Run::given("replay", SCRIPT, OUTPUT),
+            Run::given("replay", b"", b""),
+            Run::refused("replay", b"1 jump", b"atoms: line 1: not a step\n"),
+            Run::refused(
+                "replay",
+                b"1 link\n1 jump\n1 jump\n",
+                b"atoms: line 2: not a step\n",
+            ),
+            Run::refused("replay", b"\xff", NOT_TEXT),
+        ],
+    );
 }

@@ -65,25 +65,32 @@ fn tell<R: Wait>(
     (answer, writer)
 }
 
+/// Texts with their lines.
+const TEXTS: [(&[u8], &[u8]); 5] = [
+    (EXAMPLE, EXAMPLE_LINES),
+    (
+        b"\x61\xc2\xa0\x61",
+        b"Not seen the word \"a\" before\nSeen the word \"a\" 1 times\n",
+    ),
+    (b"", b""),
+    (b" \t\r\n\x0b\x0c", b""),
+    (b"\x1c", b"Not seen the word \"\x1c\" before\n"),
+];
+
+/// Whether exactly the lines of the text are written.
+fn is_told<R: Wait>(rt: &R, alloc: Global, over: Over, text: &[u8], lines: &[u8]) -> bool {
+    let (answer, written) = tell(rt, alloc, over, &Streams::ample(text));
+    answer == Ok(()) && written.written() == lines
+}
+
 #[test]
 fn words_of_texts(rt: HostRuntime) {
-    for over in WAYS {
-        for (bytes, lines) in [
-            (EXAMPLE, EXAMPLE_LINES),
-            (
-                b"\x61\xc2\xa0\x61".as_slice(),
-                b"Not seen the word \"a\" before\nSeen the word \"a\" 1 times\n".as_slice(),
-            ),
-            (b"".as_slice(), b"".as_slice()),
-            (b" \t\r\n\x0b\x0c".as_slice(), b"".as_slice()),
-            (
-                b"\x1c".as_slice(),
-                b"Not seen the word \"\x1c\" before\n".as_slice(),
-            ),
-        ] {
-            let (answer, written) = tell(&rt, rt.alloc(), over, &Streams::ample(bytes));
-            assert_eq!(rt; answer, Ok(()), "over {over:?} of {bytes:?}");
-            assert!(rt; written.written() == lines, "over {over:?} of {bytes:?}");
+    for (text, lines) in &TEXTS {
+        for over in WAYS {
+            assert!(rt;
+                is_told(&rt, rt.alloc(), over, text, lines),
+                "over {over:?} of {text:?}"
+            );
         }
     }
 }

@@ -105,11 +105,16 @@ Seen the word \"interned\" 2 times
     ),
 ];
 
+/// Whether the program writes the output of a row.
+fn is_written<R: Threads + Wait + Sync>(rt: &R, alloc: Global, row: &Row) -> bool {
+    let (line, input, output) = *row;
+    matches!(writes(rt, alloc, line, input, output), Ok(true))
+}
+
 #[test]
 fn beyond_ascii(rt: HostRuntime) {
-    for (line, input, output) in ROWS {
-        let is_written = writes(&rt, rt.alloc(), line, input, output).expect(&rt, "an answer");
-        assert!(rt; is_written, "{line:?} of {input:?}");
+    for row in &ROWS {
+        assert!(rt; is_written(&rt, rt.alloc(), row), "{row:?}");
     }
 }
 
@@ -126,28 +131,57 @@ fn long_text(alloc: Global, thousands: u32) -> Result<String, AllocError> {
     Ok(text)
 }
 
+/// A text with the lines that `words` and `count` write of it.
+#[derive(Drop)]
+struct Told {
+    text: String,
+    words: String,
+    counts: String,
+}
+
+impl Told {
+    /// The one word "interned".
+    fn of_interned(alloc: Global) -> Result<Told, AllocError> {
+        Ok(Told {
+            text: String::from_str(alloc, "interned")?,
+            words: String::from_str(alloc, "Not seen the word \"interned\" before\n")?,
+            counts: String::new(alloc),
+        })
+    }
+
+    /// Goes on with a new word, once more that word, and "interned", which came `n` times before.
+    fn go_on(&mut self, word: &str, n: u32) -> Result<(), AllocError> {
+        write!(self.text, " {word}{n:03}\n{word}{n:03} interned")?;
+        writeln!(self.words, "Not seen the word \"{word}{n:03}\" before")?;
+        writeln!(self.words, "Seen the word \"{word}{n:03}\" 1 times")?;
+        writeln!(self.words, "Seen the word \"interned\" {n} times")?;
+        writeln!(self.counts, "2 {word}{n:03}")
+    }
+}
+
 /// More than two megabytes: each of 350 long words comes twice, and between them the same word 351 times.
+fn two_megabytes(alloc: Global) -> Result<Told, AllocError> {
+    let word = long_text(alloc, 1)?;
+    let mut told = Told::of_interned(alloc)?;
+    told.counts.push_str("351 interned\n")?;
+    for n in 1..=350 {
+        told.go_on(&word, n)?;
+    }
+    Ok(told)
+}
+
 #[test]
 fn two_megabytes_of_words(rt: HostRuntime) {
     let alloc = rt.alloc();
-    let word = long_text(alloc, 1).expect(&rt, "room");
-    let mut text = String::from_str(alloc, "interned").expect(&rt, "room");
-    let mut seen = String::from_str(alloc, "Not seen the word \"interned\" before\n").expect(
-        &rt, "room",
-    );
-    let mut counts = String::from_str(alloc, "351 interned\n").expect(&rt, "room");
-    for n in 1..=350 {
-        write!(text, " {word}{n:03}\n{word}{n:03} interned").expect(&rt, "room");
-        writeln!(seen, "Not seen the word \"{word}{n:03}\" before").expect(&rt, "room");
-        writeln!(seen, "Seen the word \"{word}{n:03}\" 1 times").expect(&rt, "room");
-        writeln!(seen, "Seen the word \"interned\" {n} times").expect(&rt, "room");
-        writeln!(counts, "2 {word}{n:03}").expect(&rt, "room");
-    }
+    let Told {
+        text,
+        words,
+        counts,
+    } = two_megabytes(alloc).expect(&rt, "room");
     assert!(rt; text.len() > 2_000_000);
-    for (line, output) in [("words", &seen), ("count 1", &counts), ("count 3", &counts)] {
-        let is_written = writes(&rt, alloc, line, &text, output).expect(&rt, "an answer");
-        assert!(rt; is_written, "at {line:?}");
-    }
+    assert!(rt; writes(&rt, alloc, "words", &text, &words).expect(&rt, "an answer"));
+    assert!(rt; writes(&rt, alloc, "count 1", &text, &counts).expect(&rt, "an answer"));
+    assert!(rt; writes(&rt, alloc, "count 3", &text, &counts).expect(&rt, "an answer"));
 }
 
 /// One text of more than two megabytes. Its hash was worked out by another program.
