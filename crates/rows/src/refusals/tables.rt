@@ -1,7 +1,9 @@
 //! Tables and worlds of steps.
 
+use crate::begun::new_table;
 use std::alloc::Global;
-use std::test::Fail;
+use std::io::Print;
+use std::process::Abort;
 use string_cache::steps::{Step, StepReply, World};
 use string_cache::table::{Call, Table, TableReply};
 use string_cache::word::Limits;
@@ -33,24 +35,32 @@ fn table_is_made(rt: HostRuntime) {
     assert!(rt; table.intern("interned").expect(&rt, "a word") == FIRST);
 }
 
-/// A refusal may leave room for further texts in the table, and nothing else.
-#[test]
-fn text_is_interned_in_a_table(rt: HostRuntime) -> Result<(), Fail> {
-    let mut table = Table::<EmptyStaticAtomSet>::new(rt.alloc())?;
-    begin(&rt);
+fn is_empty(table: &Table<EmptyStaticAtomSet>) -> bool {
+    table.entries() == 0 && table.text_bytes() == 0
+}
+
+/// The word of "interned". A refusal may leave room for further texts in the table, and nothing else, and the call is made again.
+fn word_at_last<R: Print + Abort>(
+    rt: &R,
+    table: &mut Table<EmptyStaticAtomSet>,
+) -> Result<u64, Fault> {
+    begin(rt);
     let answer = table.intern("interned");
     let is_refused = answer == Err(Fault::Memory);
-    finish(&rt, midway(is_refused));
-    let word = match answer {
-        Err(Fault::Memory) => {
-            assert!(rt; table.entries() == 0 && table.text_bytes() == 0);
-            table.intern("interned")?
-        }
-        made => made?,
-    };
+    finish(rt, midway(is_refused));
+    if is_refused {
+        assert!(rt; is_empty(table));
+        return table.intern("interned");
+    }
+    answer
+}
+
+#[test]
+fn text_is_interned_in_a_table(rt: HostRuntime) {
+    let mut table: Table<EmptyStaticAtomSet> = new_table(&rt, rt.alloc());
+    let word = word_at_last(&rt, &mut table).expect(&rt, "a word");
     assert!(rt; word == FIRST);
     assert!(rt; table.text(word) == Some("interned"));
-    Ok(())
 }
 
 /// Interning a text twice, giving it twice, interning it again, and another one.
@@ -83,31 +93,51 @@ fn end_of(answer: &Result<Vec<TableReply>, Fault>) -> End {
     }
 }
 
+/// The replies of a new table.
+fn run_in_new_table(alloc: Global, calls: &[Call]) -> Result<Vec<TableReply>, Fault> {
+    let mut table = Table::<EmptyStaticAtomSet>::new(alloc)?;
+    table.run(calls)
+}
+
+/// Runs the calls, and tells how that ended.
+fn run_watched<R: Print>(
+    rt: &R,
+    table: &mut Table<EmptyStaticAtomSet>,
+    calls: &[Call],
+) -> (Result<Vec<TableReply>, Fault>, End) {
+    begin(rt);
+    let answer = table.run(calls);
+    let ended = end_of(&answer);
+    finish(rt, ended);
+    (answer, ended)
+}
+
 /// An `Err` changes nothing, and the run is made again in the same table. Where one of the calls was refused, all are made again in
 /// a new one.
-#[test]
-fn calls_are_run(rt: HostRuntime) {
-    let alloc = rt.alloc();
-    let calls = calls(alloc).expect(&rt, "an answer");
-    let mut table = Table::<EmptyStaticAtomSet>::new(alloc).expect(&rt, "a table");
-    begin(&rt);
-    let answer = table.run(&calls);
-    let ended = end_of(&answer);
-    finish(&rt, ended);
-    let replies = match ended {
-        End::Given => answer.expect(&rt, "an answer"),
+fn replies_at_last<R: Print + Abort>(
+    rt: &R,
+    alloc: Global,
+    calls: &[Call],
+) -> Result<Vec<TableReply>, Fault> {
+    let mut table = Table::<EmptyStaticAtomSet>::new(alloc)?;
+    let (answer, ended) = run_watched(rt, &mut table, calls);
+    match ended {
+        End::Given => answer,
         End::Refused => {
-            assert!(rt; table.entries() == 0 && table.text_bytes() == 0);
-            table.run(&calls).expect(&rt, "replies")
+            assert!(rt; is_empty(&table));
+            table.run(calls)
         }
         End::RefusedMidway => {
-            assert!(rt; answer.expect(&rt, "an answer").len() == calls.len());
-            Table::<EmptyStaticAtomSet>::new(alloc)
-                .expect(&rt, "a table")
-                .run(&calls)
-                .expect(&rt, "replies")
+            assert!(rt; answer?.len() == calls.len());
+            run_in_new_table(alloc, calls)
         }
-    };
+    }
+}
+
+#[test]
+fn calls_are_run(rt: HostRuntime) {
+    let calls = calls(rt.alloc()).expect(&rt, "an answer");
+    let replies = replies_at_last(&rt, rt.alloc(), &calls).expect(&rt, "replies");
     assert!(rt; replies.as_slice() == REPLIES.as_slice());
 }
 
@@ -159,6 +189,15 @@ const STEP_REPLIES: [StepReply; 8] = [
     StepReply::Left,
 ];
 
+/// Makes steps in a world, and appends their replies.
+fn go_on(
+    world: &mut World<EmptyStaticAtomSet>,
+    steps: &[(u32, Step)],
+    replies: &mut Vec<StepReply>,
+) -> Result<(), Fault> {
+    world.run(steps, replies)
+}
+
 /// A run that is refused goes on from the replies that were appended.
 #[test]
 fn steps_are_run(rt: HostRuntime) {
@@ -169,14 +208,14 @@ fn steps_are_run(rt: HostRuntime) {
     );
     let mut replies = Vec::new(alloc);
     begin(&rt);
-    let answer = world.run(&steps, &mut replies);
+    let answer = go_on(&mut world, &steps, &mut replies);
     let is_refused = answer == Err(Fault::Memory);
     finish(&rt, midway(is_refused));
     if is_refused {
         let done = replies.len();
         assert!(rt; STEP_REPLIES.starts_with(replies.as_slice()));
         let rest = steps.get(done..).expect(&rt, "the steps that are left");
-        world.run(rest, &mut replies).expect(&rt, "replies");
+        go_on(&mut world, rest, &mut replies).expect(&rt, "replies");
     } else {
         answer.expect(&rt, "an answer");
     }

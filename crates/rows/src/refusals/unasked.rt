@@ -1,7 +1,12 @@
 //! Calls that ask for no memory: `tools/refused.py` refuses every request between the two lines, and wants that there is none.
 
+use crate::begun::{new_set, new_table};
+use serde_json::Value;
+use std::alloc::Global;
 use std::cmp::Ordering;
+use std::sync::Wait;
 use string_cache::dynamic_set::Set;
+use string_cache::static_sets::StaticAtomSet;
 use string_cache::table::Table;
 use string_cache::word::Limits;
 use string_cache::{Atom, DefaultAtom, EmptyStaticAtomSet, Fault};
@@ -10,8 +15,8 @@ use text_streams::samples::{End, begin, finish};
 
 #[test]
 fn short_text_is_interned(rt: HostRuntime) {
-    let set: Set<EmptyStaticAtomSet> = Set::new(rt.alloc()).expect(&rt, "a set");
-    let mut table = Table::<EmptyStaticAtomSet>::new(rt.alloc()).expect(&rt, "a table");
+    let set: Set<EmptyStaticAtomSet> = new_set(&rt, rt.alloc());
+    let mut table: Table<EmptyStaticAtomSet> = new_table(&rt, rt.alloc());
     begin(&rt);
     let atom = DefaultAtom::from_str_in(&rt, &set, "abcdefg");
     let word = table.intern("abcdefg");
@@ -22,8 +27,8 @@ fn short_text_is_interned(rt: HostRuntime) {
 
 #[test]
 fn static_text_is_interned(rt: HostRuntime) {
-    let set: Set<One> = Set::new(rt.alloc()).expect(&rt, "a set");
-    let mut table = Table::<One>::new(rt.alloc()).expect(&rt, "a table");
+    let set: Set<One> = new_set(&rt, rt.alloc());
+    let mut table: Table<One> = new_table(&rt, rt.alloc());
     begin(&rt);
     let atom = Atom::from_str_in(&rt, &set, "sentence");
     let word = table.intern("sentence");
@@ -32,18 +37,21 @@ fn static_text_is_interned(rt: HostRuntime) {
     assert!(rt; word.expect(&rt, "an answer") == 2);
 }
 
+/// The JSON value of a text.
+fn value_of<R: Wait, Static: StaticAtomSet>(
+    rt: &R,
+    set: &Set<Static>,
+    text: &str,
+) -> Result<Value, Fault> {
+    Atom::from_str_in(rt, set, text)?.to_json(set.allocator())
+}
+
 /// The values of a short text and of a static one.
 #[test]
 fn json_is_read(rt: HostRuntime) {
-    let set: Set<One> = Set::new(rt.alloc()).expect(&rt, "a set");
-    let short = Atom::from_str_in(&rt, &set, "abcdefg")
-        .expect(&rt, "an atom")
-        .to_json(rt.alloc())
-        .expect(&rt, "an answer");
-    let long = Atom::from_str_in(&rt, &set, "sentence")
-        .expect(&rt, "an atom")
-        .to_json(rt.alloc())
-        .expect(&rt, "an answer");
+    let set: Set<One> = new_set(&rt, rt.alloc());
+    let short = value_of(&rt, &set, "abcdefg").expect(&rt, "a value");
+    let long = value_of(&rt, &set, "sentence").expect(&rt, "a value");
     begin(&rt);
     let (short, long) = (
         Atom::from_json_in(&rt, &set, &short),
@@ -56,7 +64,7 @@ fn json_is_read(rt: HostRuntime) {
 
 #[test]
 fn lower_case_is_a_static_text(rt: HostRuntime) {
-    let set: Set<One> = Set::new(rt.alloc()).expect(&rt, "a set");
+    let set: Set<One> = new_set(&rt, rt.alloc());
     let upper = Atom::from_str_in(&rt, &set, "SENTENCE").expect(&rt, "an atom");
     begin(&rt);
     let lower = upper.to_ascii_lowercase_in(&rt, &set);
@@ -64,19 +72,26 @@ fn lower_case_is_a_static_text(rt: HostRuntime) {
     assert!(rt; lower.expect(&rt, "an answer").unsafe_data() == 2);
 }
 
+/// Whether clones of the atom of "interned", and the one that is found again, are equal to it. They end here.
+fn are_cloned<R: Wait>(
+    rt: &R,
+    set: &Set<EmptyStaticAtomSet>,
+    first: &DefaultAtom<'_>,
+) -> Result<bool, Fault> {
+    let clone = first.clone_atom(rt)?;
+    let again = DefaultAtom::from_atom(rt, first)?;
+    let found = DefaultAtom::from_str_in(rt, set, "interned")?;
+    Ok(clone == *first && again == *first && found == *first)
+}
+
 #[test]
 fn atoms_are_cloned_compared_and_dropped(rt: HostRuntime) {
-    let set: Set<EmptyStaticAtomSet> = Set::new(rt.alloc()).expect(&rt, "a set");
+    let set: Set<EmptyStaticAtomSet> = new_set(&rt, rt.alloc());
     let first = DefaultAtom::from_str_in(&rt, &set, "interned").expect(&rt, "an atom");
     let other = DefaultAtom::from_str_in(&rt, &set, "tokenised").expect(&rt, "an atom");
     begin(&rt);
-    let clone = first.clone_atom(&rt);
-    let again = DefaultAtom::from_atom(&rt, &first);
-    let found = DefaultAtom::from_str_in(&rt, &set, "interned");
+    let are_same = are_cloned(&rt, &set, &first) == Ok(true);
     let is_other = first != other && first.cmp(&other) == Ordering::Less;
-    let are_same =
-        matches!((&clone, &again, &found), (Ok(one), Ok(two), Ok(three)) if *one == first && *two == first && *three == first);
-    drop((clone, again, found));
     drop(first);
     let linked = set.linked(&rt);
     finish(&rt, End::Given);
@@ -86,7 +101,7 @@ fn atoms_are_cloned_compared_and_dropped(rt: HostRuntime) {
 
 #[test]
 fn sets_are_swept(rt: HostRuntime) {
-    let set: Set<EmptyStaticAtomSet> = Set::new(rt.alloc()).expect(&rt, "a set");
+    let set: Set<EmptyStaticAtomSet> = new_set(&rt, rt.alloc());
     let atom = DefaultAtom::from_str_in(&rt, &set, "interned").expect(&rt, "an atom");
     begin(&rt);
     set.sweep(&rt);
@@ -98,28 +113,40 @@ fn sets_are_swept(rt: HostRuntime) {
     assert!(rt; (held, left) == (1, 0));
 }
 
+/// A table whose one serial of the bucket of "interned" is spent.
+fn spent_table(alloc: Global, limits: Limits) -> Result<Table<EmptyStaticAtomSet>, Fault> {
+    let mut table = Table::with_limits(alloc, limits)?;
+    let word = table.intern("interned")?;
+    table.give(word);
+    Ok(table)
+}
+
+/// What the set answers to the text, in each way to hand it in.
+fn refused_thrice<R: Wait>(
+    rt: &R,
+    set: &Set<EmptyStaticAtomSet>,
+    text: String,
+    value: &Value,
+) -> [Option<Fault>; 3] {
+    [
+        DefaultAtom::from_str_in(rt, set, "interned").err(),
+        DefaultAtom::from_string_in(rt, set, text).err(),
+        DefaultAtom::from_json_in(rt, set, value).err(),
+    ]
+}
+
 /// Whether or not memory is there.
 #[test]
 fn tickets_are_spent(rt: HostRuntime) {
     let limits = Limits::new(9, 1).expect(&rt, "limits");
     let set: Set<EmptyStaticAtomSet> = Set::with_limits(rt.alloc(), limits).expect(&rt, "a set");
-    let mut table = Table::<EmptyStaticAtomSet>::with_limits(rt.alloc(), limits).expect(
-        &rt, "a table",
-    );
-    let word = table.intern("interned").expect(&rt, "a word");
-    table.give(word);
-    let value = DefaultAtom::from_str_in(&rt, &set, "interned")
-        .expect(&rt, "an atom")
-        .to_json(rt.alloc())
-        .expect(&rt, "an answer");
+    let mut table = spent_table(rt.alloc(), limits).expect(&rt, "a table");
+    let value = value_of(&rt, &set, "interned").expect(&rt, "a value");
     let text = String::from_str(rt.alloc(), "interned").expect(&rt, "a text");
     begin(&rt);
-    let borrowed = DefaultAtom::from_str_in(&rt, &set, "interned").err();
-    let owned = DefaultAtom::from_string_in(&rt, &set, text).err();
-    let of_json = DefaultAtom::from_json_in(&rt, &set, &value).err();
+    let in_set = refused_thrice(&rt, &set, text, &value);
     let in_table = table.intern("interned").err();
     finish(&rt, End::Given);
-    for refused in [borrowed, owned, of_json, in_table] {
-        assert_eq!(rt; refused, Some(Fault::TicketsSpent));
-    }
+    assert!(rt; in_set == [Some(Fault::TicketsSpent); 3]);
+    assert!(rt; in_table == Some(Fault::TicketsSpent));
 }

@@ -1,5 +1,8 @@
 //! Sets with small limits, and no other thread.
 
+use std::alloc::Global;
+use std::process::Abort;
+use std::sync::Wait;
 use string_cache::dynamic_set::Set;
 use string_cache::word::Limits;
 use string_cache::{DefaultAtom, EmptyStaticAtomSet, Fault};
@@ -9,73 +12,87 @@ const FIRST: u64 = 0x1_0840;
 
 const TICKET_UNIT: u64 = 65536;
 
+/// A set with these limits, of which nothing else is known.
+fn limited<R: Abort>(rt: &R, alloc: Global, holders: u64, serials: u64) -> Set<EmptyStaticAtomSet> {
+    let limits = Limits::new(holders, serials).expect(rt, "limits");
+    Set::with_limits(alloc, limits).expect(rt, "a set")
+}
+
+/// The atom of "interned" in the set, where it has this word.
+fn interned<'s, R: Wait>(
+    rt: &R,
+    set: &'s Set<EmptyStaticAtomSet>,
+    word: u64,
+) -> Option<DefaultAtom<'s>> {
+    let atom = DefaultAtom::from_str_in(rt, set, "interned").ok()?;
+    if atom.unsafe_data() != word {
+        return None;
+    }
+    Some(atom)
+}
+
+/// Why "interned" is refused.
+fn refused<R: Wait>(rt: &R, set: &Set<EmptyStaticAtomSet>) -> Option<Fault> {
+    DefaultAtom::from_str_in(rt, set, "interned").err()
+}
+
+/// Why the text of the atom is refused, handed in as a JSON value and in small letters.
+fn refused_again<R: Wait>(
+    rt: &R,
+    set: &Set<EmptyStaticAtomSet>,
+    atom: &DefaultAtom<'_>,
+) -> Result<[Option<Fault>; 2], Fault> {
+    let json = atom.to_json(set.allocator())?;
+    Ok([
+        DefaultAtom::from_json_in(rt, set, &json).err(),
+        atom.to_ascii_lowercase_in(rt, set).err(),
+    ])
+}
+
 #[test]
 fn one_holder_and_one_serial(rt: HostRuntime) {
-    let limits = Limits::new(1, 1).expect(&rt, "limits");
-    let set: Set<EmptyStaticAtomSet> = Set::with_limits(rt.alloc(), limits).expect(&rt, "a set");
-    let atom = DefaultAtom::from_str_in(&rt, &set, "interned").expect(&rt, "an atom");
-    assert!(rt; atom.unsafe_data() == FIRST);
-    let json = atom.to_json(rt.alloc()).expect(&rt, "an answer");
-    for again in [
-        DefaultAtom::from_str_in(&rt, &set, "interned").err(),
-        DefaultAtom::from_json_in(&rt, &set, &json).err(),
-        atom.to_ascii_lowercase_in(&rt, &set).err(),
-    ] {
-        assert_eq!(rt; again, Some(Fault::FullCount));
-    }
+    let set = limited(&rt, rt.alloc(), 1, 1);
+    let atom = interned(&rt, &set, FIRST).expect(&rt, "an atom");
+    assert!(rt; refused(&rt, &set) == Some(Fault::FullCount));
+    assert!(rt; refused_again(&rt, &set, &atom) == Ok([Some(Fault::FullCount); 2]));
     drop(atom);
-    let next = DefaultAtom::from_str_in(&rt, &set, "interned").err();
-    assert_eq!(rt; next, Some(Fault::TicketsSpent));
-    assert!(rt;
-        DefaultAtom::from_str_in(&rt, &set, "abc")
-            .expect(&rt, "an atom")
-            .unsafe_data()
-            == 0x6362_6131
-    );
+    assert!(rt; refused(&rt, &set) == Some(Fault::TicketsSpent));
+    let short = DefaultAtom::from_str_in(&rt, &set, "abc").expect(&rt, "an atom");
+    assert!(rt; short.unsafe_data() == 0x6362_6131);
 }
 
 #[test]
 fn two_holders_and_two_serials(rt: HostRuntime) {
-    let limits = Limits::new(2, 2).expect(&rt, "limits");
-    let set: Set<EmptyStaticAtomSet> = Set::with_limits(rt.alloc(), limits).expect(&rt, "a set");
-    let first = DefaultAtom::from_str_in(&rt, &set, "interned").expect(&rt, "an atom");
-    let second = DefaultAtom::from_str_in(&rt, &set, "interned").expect(&rt, "an atom");
-    assert!(rt; first.unsafe_data() == FIRST && second.unsafe_data() == FIRST);
-    let third = DefaultAtom::from_str_in(&rt, &set, "interned").err();
-    assert_eq!(rt; third, Some(Fault::FullCount));
+    let set = limited(&rt, rt.alloc(), 2, 2);
+    let first = interned(&rt, &set, FIRST).expect(&rt, "an atom");
+    let second = interned(&rt, &set, FIRST).expect(&rt, "an atom");
+    assert!(rt; refused(&rt, &set) == Some(Fault::FullCount));
     drop(first);
     drop(second);
-    let next = DefaultAtom::from_str_in(&rt, &set, "interned").expect(&rt, "an atom");
-    assert!(rt; next.unsafe_data() == FIRST + TICKET_UNIT);
-    drop(next);
-    let spent = DefaultAtom::from_str_in(&rt, &set, "interned").err();
-    assert_eq!(rt; spent, Some(Fault::TicketsSpent));
+    drop(interned(&rt, &set, FIRST + TICKET_UNIT).expect(&rt, "an atom"));
+    assert!(rt; refused(&rt, &set) == Some(Fault::TicketsSpent));
+}
+
+/// Whether a clone of the atom has its word.
+fn is_cloned<R: Wait>(rt: &R, atom: &DefaultAtom<'_>) -> Result<bool, Fault> {
+    Ok(atom.clone_atom(rt)?.unsafe_data() == atom.unsafe_data())
 }
 
 /// Holders come and go below their limit, and have one word as long as one of them is left.
 #[test]
 fn holders_come_and_go(rt: HostRuntime) {
-    let limits = Limits::new(2, 9).expect(&rt, "limits");
-    let set: Set<EmptyStaticAtomSet> = Set::with_limits(rt.alloc(), limits).expect(&rt, "a set");
-    let first = DefaultAtom::from_str_in(&rt, &set, "interned").expect(&rt, "an atom");
-    let second = DefaultAtom::from_str_in(&rt, &set, "interned").expect(&rt, "an atom");
-    assert!(rt; first.unsafe_data() == FIRST && second.unsafe_data() == FIRST);
+    let set = limited(&rt, rt.alloc(), 2, 9);
+    let first = interned(&rt, &set, FIRST).expect(&rt, "an atom");
+    let second = interned(&rt, &set, FIRST).expect(&rt, "an atom");
     assert!(rt; set.linked(&rt) == 1);
-    for third in [
-        DefaultAtom::from_str_in(&rt, &set, "interned").err(),
-        first.clone_atom(&rt).err(),
-    ] {
-        assert_eq!(rt; third, Some(Fault::FullCount));
-    }
+    assert!(rt; refused(&rt, &set) == Some(Fault::FullCount));
+    assert!(rt; is_cloned(&rt, &first) == Err(Fault::FullCount));
     drop(second);
-    let cloned = first.clone_atom(&rt).expect(&rt, "an atom");
-    assert!(rt; cloned.unsafe_data() == FIRST);
-    drop(cloned);
+    assert!(rt; is_cloned(&rt, &first) == Ok(true));
     let copied = DefaultAtom::from_atom(&rt, &first).expect(&rt, "an atom");
     assert!(rt; copied.unsafe_data() == FIRST);
     drop(first);
     drop(copied);
     assert!(rt; set.linked(&rt) == 0);
-    let next = DefaultAtom::from_str_in(&rt, &set, "interned").expect(&rt, "an atom");
-    assert!(rt; next.unsafe_data() == FIRST + TICKET_UNIT);
+    drop(interned(&rt, &set, FIRST + TICKET_UNIT).expect(&rt, "an atom"));
 }

@@ -1,5 +1,6 @@
 //! Texts of hundreds of kilobytes, and of two megabytes beyond ASCII. OpenSSL's SipHash tells their hashes.
 
+use crate::begun::{new_set, new_table};
 use std::alloc::{AllocError, Global};
 use string_cache::dynamic_set::Set;
 use string_cache::table::Table;
@@ -21,7 +22,7 @@ const UPPER_TICKET: u64 = 0x1_0aec;
 
 #[test]
 fn quarter_of_a_megabyte(rt: HostRuntime) {
-    let set: Set<EmptyStaticAtomSet> = Set::new(rt.alloc()).expect(&rt, "a set");
+    let set: Set<EmptyStaticAtomSet> = new_set(&rt, rt.alloc());
     let text = "a".repeat(rt.alloc(), 262_144).expect(&rt, "a text");
     let atom = Atom::from_str_in(&rt, &set, &text).expect(&rt, "an atom");
     assert!(rt; atom.unsafe_data() == 0x1_23ac && atom.eq_str(&text));
@@ -31,8 +32,8 @@ fn quarter_of_a_megabyte(rt: HostRuntime) {
 #[test]
 fn long_text_is_an_atom(rt: HostRuntime) {
     let text = long_text(rt.alloc()).expect(&rt, "a text");
-    let set: Set<EmptyStaticAtomSet> = Set::new(rt.alloc()).expect(&rt, "a set");
-    let other: Set<EmptyStaticAtomSet> = Set::new(rt.alloc()).expect(&rt, "a set");
+    let set: Set<EmptyStaticAtomSet> = new_set(&rt, rt.alloc());
+    let other: Set<EmptyStaticAtomSet> = new_set(&rt, rt.alloc());
     let atom = Atom::from_str_in(&rt, &set, &text).expect(&rt, "an atom");
     assert!(rt; atom.unsafe_data() == LONG_TICKET && atom.as_str() == text.as_str());
     assert!(rt; atom.get_hash() == 0xcb0c_ec29_045a_244d);
@@ -44,7 +45,7 @@ fn long_text_is_an_atom(rt: HostRuntime) {
 #[test]
 fn long_text_changes_case(rt: HostRuntime) {
     let text = long_text(rt.alloc()).expect(&rt, "a text");
-    let set: Set<EmptyStaticAtomSet> = Set::new(rt.alloc()).expect(&rt, "a set");
+    let set: Set<EmptyStaticAtomSet> = new_set(&rt, rt.alloc());
     let atom = Atom::from_str_in(&rt, &set, &text).expect(&rt, "an atom");
     let upper = atom.to_ascii_uppercase_in(&rt, &set).expect(&rt, "an atom");
     assert!(rt; upper.unsafe_data() == UPPER_TICKET && upper != atom);
@@ -54,8 +55,8 @@ fn long_text_changes_case(rt: HostRuntime) {
 #[test]
 fn long_text_is_sent_as_json(rt: HostRuntime) {
     let text = long_text(rt.alloc()).expect(&rt, "a text");
-    let set: Set<EmptyStaticAtomSet> = Set::new(rt.alloc()).expect(&rt, "a set");
-    let other: Set<EmptyStaticAtomSet> = Set::new(rt.alloc()).expect(&rt, "a set");
+    let set: Set<EmptyStaticAtomSet> = new_set(&rt, rt.alloc());
+    let other: Set<EmptyStaticAtomSet> = new_set(&rt, rt.alloc());
     let atom = Atom::from_str_in(&rt, &set, &text).expect(&rt, "an atom");
     let json = atom.to_json(rt.alloc()).expect(&rt, "an answer");
     assert!(rt; json.as_str() == Some(text.as_str()));
@@ -66,7 +67,7 @@ fn long_text_is_sent_as_json(rt: HostRuntime) {
 #[test]
 fn long_text_lies_in_a_table(rt: HostRuntime) {
     let text = long_text(rt.alloc()).expect(&rt, "a text");
-    let mut table = Table::<EmptyStaticAtomSet>::new(rt.alloc()).expect(&rt, "a table");
+    let mut table: Table<EmptyStaticAtomSet> = new_table(&rt, rt.alloc());
     let word = table.intern(&text).expect(&rt, "a word");
     assert!(rt; word == LONG_TICKET && table.text(word) == Some(text.as_str()));
     assert!(rt; table.entries() == 1 && table.text_bytes() == 2_097_160);

@@ -1,11 +1,13 @@
 //! Words that are odd, or of nothing, and tables that are odd.
 
+use crate::begun::new_set;
+use std::alloc::Global;
 use string_cache::dynamic_set::Set;
 use string_cache::static_sets::{PhfStrSet, StaticAtomSet};
 use string_cache::steps::World;
 use string_cache::table::Table;
 use string_cache::word::{Form, InlineText, Limits, form_of, ticket_word};
-use string_cache::{Atom, DefaultAtom, EmptyStaticAtomSet};
+use string_cache::{Atom, DefaultAtom, EmptyStaticAtomSet, Fault};
 use string_cache_core::samples::{One, Short, Twice};
 
 /// Tags that no form has, a length above 7, bytes behind the text, bytes that aren't UTF-8, low bits beside a static tag, and a
@@ -60,25 +62,35 @@ fn words_of_each_form(rt: HostRuntime) {
     assert_eq!(rt; ticket_word((1 << 48) - 1, 16383), 0xffff_ffff_ffff_fffc);
 }
 
+/// Holders and serials that limits can't have.
+const OUT_OF_RANGE: [(u64, u64); 6] = [
+    (0, 1),
+    (1, 0),
+    (1 << 63, 1),
+    (1, 1 << 48),
+    (1, 1 << 50),
+    ((1 << 63) - 1, (1 << 50) - 1),
+];
+
+/// Holders and serials that limits can have.
+const IN_RANGE: [(u64, u64); 3] = [(1, 1), (1, (1 << 48) - 1), ((1 << 63) - 1, (1 << 48) - 1)];
+
+/// The holders and serials of limits that are made of these.
+fn made_of(holders: u64, serials: u64) -> Option<(u64, u64)> {
+    let limits = Limits::new(holders, serials)?;
+    Some((limits.holders(), limits.serials()))
+}
+
 #[test]
 fn limits_in_range(rt: HostRuntime) {
-    for (holders, serials) in [
-        (0, 1),
-        (1, 0),
-        (1 << 63, 1),
-        (1, 1 << 48),
-        (1, 1 << 50),
-        ((1 << 63) - 1, (1 << 50) - 1),
-    ] {
-        assert_eq!(rt;
-            Limits::new(holders, serials),
-            None,
+    for (holders, serials) in &OUT_OF_RANGE {
+        assert!(rt;
+            made_of(*holders, *serials).is_none(),
             "of {holders}, {serials}"
         );
     }
-    for (holders, serials) in [(1, 1), (1, (1 << 48) - 1), ((1 << 63) - 1, (1 << 48) - 1)] {
-        let limits = Limits::new(holders, serials).expect(&rt, "limits");
-        assert_eq!(rt; (limits.holders(), limits.serials()), (holders, serials));
+    for pair in &IN_RANGE {
+        assert!(rt; made_of(pair.0, pair.1) == Some(*pair), "of {pair:?}");
     }
 }
 
@@ -111,7 +123,7 @@ fn checked_tables(rt: HostRuntime) {
 /// By OpenSSL's SipHash f2 of "sentence" is 0x56e93a5c, so its place among two is 0.
 #[test]
 fn text_listed_twice(rt: HostRuntime) {
-    let set: Set<Twice> = Set::new(rt.alloc()).expect(&rt, "a set");
+    let set: Set<Twice> = new_set(&rt, rt.alloc());
     let atom = Atom::from_str_in(&rt, &set, "sentence").expect(&rt, "an atom");
     assert!(rt; atom.is_static() && atom.unsafe_data() == 2);
     assert!(rt; atom.get_hash() == 1);
@@ -121,21 +133,30 @@ fn text_listed_twice(rt: HostRuntime) {
 
 #[test]
 fn short_text_in_tables(rt: HostRuntime) {
-    let set: Set<Short> = Set::new(rt.alloc()).expect(&rt, "a set");
+    let set: Set<Short> = new_set(&rt, rt.alloc());
     let atom = Atom::from_str_in(&rt, &set, "short").expect(&rt, "an atom");
     assert!(rt; atom.unsafe_data() == 0x7472_6f68_7351);
     assert!(rt; Atom::<Short>::try_static("short").is_none());
     assert!(rt; Atom::<Short>::pack_static(0).is_none());
 }
 
+/// How many replies a new table gives to no calls.
+fn replies_of_table(alloc: Global) -> Result<usize, Fault> {
+    let mut table = Table::<EmptyStaticAtomSet>::new(alloc)?;
+    let replies = table.run(&[])?;
+    Ok(replies.len())
+}
+
+/// How many replies a new world appends for no steps.
+fn replies_of_world(alloc: Global) -> Result<usize, Fault> {
+    let mut world = World::<EmptyStaticAtomSet>::new(alloc, Limits::greatest())?;
+    let mut replies = Vec::new(alloc);
+    world.run(&[], &mut replies)?;
+    Ok(replies.len())
+}
+
 #[test]
 fn empty_lists(rt: HostRuntime) {
-    let mut table = Table::<EmptyStaticAtomSet>::new(rt.alloc()).expect(&rt, "a table");
-    assert!(rt; table.run(&[]).expect(&rt, "an answer").is_empty());
-    let mut world = World::<EmptyStaticAtomSet>::new(rt.alloc(), Limits::greatest()).expect(
-        &rt, "a world",
-    );
-    let mut replies = Vec::new(rt.alloc());
-    world.run(&[], &mut replies).expect(&rt, "an answer");
-    assert!(rt; replies.is_empty());
+    assert!(rt; replies_of_table(rt.alloc()) == Ok(0));
+    assert!(rt; replies_of_world(rt.alloc()) == Ok(0));
 }
