@@ -1,5 +1,4 @@
-// How many buckets the program's sets have.
-#![tactic(auto)]
+//! How many buckets the program's sets have.
 
 use string_cache::word::Buckets;
 

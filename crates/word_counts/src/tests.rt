@@ -1,4 +1,5 @@
-// How many buckets a text gets.
+//! How many buckets a text gets.
+
 use crate::buckets::buckets_for;
 
 /// At each step of the choice, and on both sides of it.

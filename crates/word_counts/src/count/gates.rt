@@ -1,5 +1,4 @@
-// Gates that hold workers until others have come or gone, and note what is linked then.
-#![tactic(auto)]
+//! Gates that hold workers until others have come or gone, and note what is linked then.
 
 use crate::count::Gate;
 use std::sync::Wait;

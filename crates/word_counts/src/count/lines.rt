@@ -1,5 +1,4 @@
-// The lines of counts.
-#![tactic(auto)]
+//! The lines of counts.
 
 ghost use Rattle.std.specs.Prelude.{◌≡◌, ◌↔◌, ◌≤◌, ◌++◌, false, true, string_bytes, IfErr, OnOk, OnErr};
 ghost use Rattle.std.specs.Io.KnownBytes.{Appends};
