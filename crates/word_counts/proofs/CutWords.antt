@@ -1,11 +1,15 @@
 -- How far the cutting of a text into words has come.
-use Rattle.std.proofs.Common.{◌≡◌, List, [], ◌∷◌, ◌++◌, ℕ, refl, sym, ap, ◌∙◌, ◌+◌, ◌≤◌, map, length, subst, arith, append_assoc, append-nil, length-append}
+use Rattle.std.proofs.Common.{◌≡◌, List, [], ◌∷◌, ◌++◌, ℕ, refl, sym, ap, ◌∙◌, map, length, arith, append_assoc, append-nil}
 use Rattle.std.specs.Prelude.{encode_utf8_all}
 use Rattle.std.specs.Char.{is_not_whitespace}
+use Rattle.std.specs.Iterator.{Yields}
 use Rattle.std.specs.Str.{chars, IsUtf8, NoCharPasses}
+use Rattle.std.specs.declared.str.SplitWhitespace.{SplitWhitespace}
+use Rattle.std.specs.Str.Iter.{split_whitespace_rest, split_whitespace_steps}
 use Rattle.std.proofs.lemmas.Str.{encodes-chars}
+use denote.Ref.{Bor}
 use Rattle.word_counts.specs.Words.{char_words, words}
-use Rattle.word_counts.proofs.WordLemmas.{WordComes, no_words}
+use Rattle.word_counts.proofs.WordLemmas.{WordComes, no_words, word_comes_off}
 
 -- these words are done, and the rest of the text holds the others
 pub record Cutting (text rest : List ℕ) (done : List (List ℕ)) : Type 0 where
@@ -29,29 +33,10 @@ module _ {text rest : List ℕ} {done : List (List ℕ)} (p : Cutting text rest 
 
 -- ---- counting them
 
--- n words are done, each of a byte or more
-pub record Counted (text rest : List ℕ) (n : ℕ) : Type 0 where
-  pub done : List (List ℕ)
-  pub cutting : Cutting text rest done
-  pub number : n ≡ length done
-  pub bound : n + length rest ≤ length text
-
-pub counted_begins : (text rest : List ℕ) → IsUtf8 text → rest ≡ text → Counted text rest 0
-counted_begins text rest utf8 is = record {
-  done = [];
-  cutting = subst (λ r. Cutting text r []) (sym is) (cutting_begins text utf8);
-  number = refl;
-  bound = omega (arith, ap length is);
-}
-
-module _ {text rest : List ℕ} {n : ℕ} (p : Counted text rest n) where
-  pub counted_next : {w rest' : List ℕ} → WordComes p.cutting.left rest w rest' → Counted text rest' (n + 1)
-  counted_next {w} {rest'} comes = record {
-    done = p.done ++ (w ∷ []);
-    cutting = cut_next p.cutting comes;
-    number = omega (arith, p.number, length-append p.done (w ∷ []));
-    bound = omega (arith, p.bound, comes.shorter);
-  }
-
-  pub counted_all : NoCharPasses is_not_whitespace rest → n ≡ length (words text)
-  counted_all blank = p.number ∙ ap length (cut_ends p.cutting blank)
+-- the words that come off the front one by one are as many as the text has
+pub words_number : (ws : List (Bor (List ℕ))) (s t : SplitWhitespace) (left : List ℕ) → encode_utf8_all left ≡ split_whitespace_rest s → Yields split_whitespace_steps s ws t
+    → NoCharPasses is_not_whitespace (split_whitespace_rest t) → length ws ≡ length (map encode_utf8_all (char_words left))
+words_number [] s t left spells same blank = sym (ap (λ v. length (map encode_utf8_all v)) (no_words left (split_whitespace_rest t) (spells ∙ ap split_whitespace_rest same) blank))
+words_number (w ∷ ws) s t left spells yields blank =
+    let comes = word_comes_off left (split_whitespace_rest s) w.now (split_whitespace_rest yields.0) spells yields.1 in
+    omega (arith, ap length comes.first, words_number ws yields.0 t comes.left comes.spells yields.2 blank)

@@ -1,20 +1,20 @@
--- The counts of two lists of words, merged, are those of the words joined.
-use Rattle.std.proofs.Common.{◌≡◌, ℕ, ◌+◌, ◌<◌, ◌^◌, Bool, true, false, cond, ◌||◌, List, [], ◌∷◌, ◌++◌, length, drop, map, refl, sym, ap, append_assoc, ◌∙◌, subst, arith, is_eq, is_lt, Ordering, Less, Equal, Greater}
-use Rattle.std.specs.Prelude.{Option, Some, None, MatchOption, option_to_list}
+-- The counts of lists of words, merged, are those of the words joined.
+use Rattle.std.proofs.Common.{◌≡◌, ℕ, ◌+◌, ◌<◌, ◌≤◌, ◌^◌, Bool, true, false, cond, ◌||◌, List, [], ◌∷◌, ◌++◌, length, length-append, drop, map, refl, sym, ap, append_assoc, append-nil, ◌∙◌, subst, arith, is_eq, is_lt, Ordering, Less, Equal, Greater}
+use Rattle.std.specs.Prelude.{Option, Some, None, MatchOption, option_to_list, unwrap_or}
 use Rattle.std.specs.Cmp.Lexicographic.{bytes_decides, nat_list_eq_equiv, nat_list_cmp_total}
 use Rattle.std.specs.List.{All, AllByRecursion, list_any}
 use Rattle.std.specs.List.Sorted.{IsStrictlySortedBy}
 use Rattle.std.specs.Map.{keys_of, lookup}
 use Rattle.std.specs.Ordering.{match_ordering, ordering_reverse}
 use Rattle.std.specs.Str.{bytes_eq}
-use Rattle.std.proofs.lemmas.List.{map-append}
+use Rattle.std.proofs.lemmas.List.{map-append, nil_from_length}
 use Rattle.std.proofs.lemmas.List.Elements.{All-cons, All-head, All-tail, All-nil}
 use Rattle.std.proofs.lemmas.List.Folds.{list_any-append}
 use Rattle.std.proofs.lemmas.List.Sums.{sum_by-append, count_by-le-length}
 use Rattle.std.proofs.lemmas.Map.Text.{is_eq-slice_cmp}
 use mathlib.Core.Bool.{true≢false}
 use Rattle.string_cache.specs.AtomValue.{AtomValue}
-use Rattle.word_counts.specs.MergedCounts.{first_order, merged}
+use Rattle.word_counts.specs.MergedCounts.{AreCountsOf, AreCountsOfFew, first_order, merged}
 use Rattle.word_counts.specs.WordCounts.{counted_texts, distinct_words, word_counts}
 use Rattle.word_counts.specs.Words.{times_seen}
 use Rattle.word_counts.proofs.WordCountLemmas.{by_bytes, below_later, counts_law, counts_are, found_counts, none_seen}
@@ -160,13 +160,14 @@ rest_fits (p ∷ old) new rest fit = subst Fit (sym rest) (All-tail (λ (pair : 
 pub first_fits : (p : AtomValue × ℕ) (old new : List (AtomValue × ℕ)) → old ≡ p ∷ new → Fit old → p.1 < 2 ^ 63
 first_fits p old new is fit = All-head (λ (pair : List ℕ × ℕ). pair.1 < 2 ^ 63) (p.0.text, p.1) (counted_texts new) (subst Fit is fit)
 
+-- where nothing was taken, nothing was there
+none_first : {A : Type 0} (l : List A) → l ≡ drop 1 l → l ≡ []
+none_first [] e = refl
+none_first (x ∷ l) e = absurd (omega (arith, ap length e))
+
 pub takes_less : (back : List (List ℕ × ℕ)) (old new : List (AtomValue × ℕ)) (o : Option (AtomValue × ℕ)) → old ≡ option_to_list o ++ new → new ≡ drop 1 old → first_order (counted_texts old) back ≡ Less
     → MatchOption o (merged (counted_texts old) back ≡ []) (λ pair. merged (counted_texts old) back ≡ (pair.0.text, pair.1) ∷ merged (counted_texts new) back)
-takes_less back old new None is rest less = absurd (true≢false (sym (ap is_lt less) ∙ ap (λ l. is_lt (first_order (counted_texts l) back)) (none old (is ∙ rest))))
-  where
-    none : (l : List (AtomValue × ℕ)) → l ≡ drop 1 l → l ≡ []
-    none [] e = refl
-    none (x ∷ l) e = absurd (omega (arith, ap length e))
+takes_less back old new None is rest less = absurd (true≢false (sym (ap is_lt less) ∙ ap (λ l. is_lt (first_order (counted_texts l) back)) (none_first old (is ∙ rest))))
 takes_less back old new (Some p) is rest less =
     ap (λ l. merged (counted_texts l) back) is ∙ first_less (p.0.text, p.1) (counted_texts new) back (ap (λ l. first_order (counted_texts l) back) (sym is) ∙ less)
 
@@ -176,3 +177,56 @@ pub merges_one : (done : List (AtomValue × ℕ)) (p : AtomValue × ℕ) (before
 merges_one done p before after whole is all =
     ap (λ l. l ++ after) (map-append (λ (x : AtomValue × ℕ). (x.0.text, x.1)) done (p ∷ [])) ∙ append_assoc (counted_texts done) ((p.0.text, p.1) ∷ []) after
     ∙ ap (λ l. counted_texts done ++ l) (sym is) ∙ all
+
+-- ---- many lists
+
+abbrev FitsHalf : List (List ℕ × ℕ) → Type 0
+FitsHalf counts = All (λ pair. pair.1 < 2 ^ 63) counts
+
+two_fit : (done : List (List (List ℕ × ℕ))) (a b : List (List ℕ × ℕ)) (rest : List (List (List ℕ × ℕ))) (ws : List (List ℕ)) → length ws < 2 ^ 63 → AreCountsOf ws (done ++ (a ∷ b ∷ rest)) → FitsHalf a × FitsHalf b
+two_fit [] a b rest ws few (p, more, is, first, (q, last, then, second, _)) = (
+  subst FitsHalf (sym first) (counts_fit p (omega (arith, few, ap length is, length-append p more))),
+  subst FitsHalf (sym second) (counts_fit q (omega (arith, few, ap length is, length-append p more, ap length then, length-append q last))),
+)
+two_fit (d ∷ done) a b rest ws few (p, more, is, first, others) = two_fit done a b rest more (omega (arith, few, ap length is, length-append p more)) others
+
+two_merged : (done : List (List (List ℕ × ℕ))) (a b : List (List ℕ × ℕ)) (rest : List (List (List ℕ × ℕ))) (ws : List (List ℕ)) → AreCountsOf ws (done ++ (a ∷ b ∷ rest)) → AreCountsOf ws (done ++ (merged a b ∷ rest))
+two_merged [] a b rest ws (p, more, is, first, (q, last, then, second, others)) =
+    (p ++ q, last, is ∙ ap (λ l. p ++ l) then ∙ sym (append_assoc p q last), ap (λ l. merged l b) first ∙ ap (merged (word_counts p)) second ∙ merged_counts p q, others)
+two_merged (d ∷ done) a b rest ws (p, more, is, first, others) = (p, more, is, first, two_merged done a b rest more others)
+
+-- some lists are done, and those at the front of the others come next
+module _ {V : Type 0} (t : V → List (List ℕ × ℕ)) (done lists rest : List V) where
+  -- the first goes behind those that are done
+  pub first_done : (a : V) (ws : List (List ℕ)) → lists ≡ a ∷ rest → AreCountsOf ws (map t done ++ map t lists) → AreCountsOf ws (map t (done ++ (a ∷ [])) ++ map t rest)
+  first_done a ws is counts =
+      subst (AreCountsOf ws) (ap (λ l. map t done ++ map t l) is ∙ sym (ap (λ l. l ++ map t rest) (map-append t done (a ∷ [])) ∙ append_assoc (map t done) (t a ∷ []) (map t rest))) counts
+
+  -- the first two do, merged
+  pub pair_done : (a b c : V) (ws : List (List ℕ)) → lists ≡ a ∷ b ∷ rest → t c ≡ merged (t a) (t b) → AreCountsOf ws (map t done ++ map t lists) → AreCountsOf ws (map t (done ++ (c ∷ [])) ++ map t rest)
+  pair_done a b c ws is both counts =
+      let two = two_merged (map t done) (t a) (t b) (map t rest) ws (subst (λ l. AreCountsOf ws (map t done ++ map t l)) is counts) in
+      subst (AreCountsOf ws) (sym (ap (λ l. l ++ map t rest) (map-append t done (c ∷ [])) ∙ append_assoc (map t done) (t c ∷ []) (map t rest) ∙ ap (λ l. map t done ++ (l ∷ map t rest)) both)) two
+
+  -- and their numbers fit
+  pub pair_fits : (a b : V) (all : List (List (List ℕ × ℕ))) → AreCountsOfFew all → ((ws : List (List ℕ)) → AreCountsOf ws all → AreCountsOf ws (map t done ++ map t lists)) → lists ≡ a ∷ b ∷ rest
+      → FitsHalf (t a) × FitsHalf (t b)
+  pair_fits a b all (ws, few, counts) whole is = two_fit (map t done) (t a) (t b) (map t rest) ws few (subst (λ l. AreCountsOf ws (map t done ++ map t l)) is (whole ws counts))
+
+module _ {V : Type 0} (t : V → List (List ℕ × ℕ)) where
+  -- all are done
+  pub all_done : (done lists rest : List V) (ws : List (List ℕ)) → lists ≡ rest → rest ≡ drop 1 lists → AreCountsOf ws (map t done ++ map t lists) → AreCountsOf ws (map t done)
+  all_done done lists rest ws is left counts =
+      subst (AreCountsOf ws) (ap (λ l. map t done ++ map t l) (none_first lists (is ∙ left)) ∙ append-nil (map t done)) counts
+
+  -- one list is left, or none was there
+  pub last_counts : (lists rest : List V) (o : Option V) (none : V) (ws : List (List ℕ)) → lists ≡ option_to_list o ++ rest → rest ≡ drop 1 lists → length lists ≤ 1 → t none ≡ [] → AreCountsOf ws (map t lists)
+      → t (unwrap_or o none) ≡ word_counts ws
+  last_counts lists rest (Some a) none ws is left few nothing counts =
+      let one : lists ≡ a ∷ [] = is ∙ ap (λ l. a ∷ l) (nil_from_length rest (omega (arith, few, ap length is))) in
+      of_one (subst (λ l. AreCountsOf ws (map t l)) one counts)
+    where
+      of_one : AreCountsOf ws (t a ∷ []) → t a ≡ word_counts ws
+      of_one (p, more, whole, first, ended) = first ∙ ap word_counts (sym (whole ∙ ap (λ l. p ++ l) ended ∙ append-nil p))
+  last_counts lists rest None none ws is left few nothing counts =
+      nothing ∙ ap word_counts (sym (subst (λ l. AreCountsOf ws (map t l)) (none_first lists (is ∙ left)) counts))

@@ -1,20 +1,20 @@
--- How far a worker has come in its part of a text's words, and the parts joined.
-use Rattle.std.proofs.Common.{◌≡◌, ℕ, ◌+◌, ◌-◌, ◌*◌, ◌/◌, ◌<◌, ◌≤◌, ◌^◌, cond, List, [], ◌∷◌, ◌++◌, length, take, drop, refl, sym, ap, ◌∙◌, subst, arith, length-append, length-drop, drop_of_length-le}
-use Rattle.std.specs.List.{All}
+-- How far a worker has come in its part of a text's words, and the pieces that are all of them.
+use Rattle.std.proofs.Common.{◌≡◌, ℕ, ◌+◌, ◌-◌, ◌*◌, ◌/◌, ◌<◌, ◌≤◌, cond, List, [], ◌∷◌, ◌++◌, length, take, drop, refl, sym, ap, ◌∙◌, subst, arith, append-nil, length-append, length-drop, drop_of_length-le, ⊎_elim}
 use Rattle.std.specs.Str.{bytes_eq, IsUtf8, NoCharPasses}
 use Rattle.std.specs.Char.{is_not_whitespace}
-use Rattle.std.proofs.lemmas.List.{drop-append-le, drop-take, length-take, take_all}
+use Rattle.std.proofs.lemmas.List.{drop-append-le, drop-take, flat_map_more, take-append-le, take_all}
 use Rattle.std.proofs.lemmas.List.Sums.{sum_by_push, count_by-le-length}
+use Rattle.std.proofs.lemmas.Bool.{cases_lt}
 use Rattle.std.proofs.lemmas.Nat.{le-div}
-use Rattle.std.proofs.Math.Nat.{div-mul-le_self, mul-div_cancel_left}
+use Rattle.std.proofs.Math.Nat.{div-mul-le_self, mul-div_cancel_left, zero-div}
 use Rattle.std.proofs.Math.Seq.{take-append_seam, take-add}
 use Rattle.std.specs.Prelude.{encode_utf8_all, map}
-use Rattle.string_cache.specs.AtomValue.{AtomValue}
-use Rattle.word_counts.specs.MergedCounts.{merged}
-use Rattle.word_counts.specs.WordCounts.{counted_texts, word_counts}
+use Rattle.word_counts.specs.MergedCounts.{AreCountsOf}
+use Rattle.word_counts.specs.Parts.{words_of_part, words_of_parts}
+use Rattle.word_counts.specs.WordCounts.{word_counts}
 use Rattle.word_counts.specs.Words.{char_words, times_seen, words}
+use Rattle.word_counts.specs.declared.count.parts.Part.{Part}
 use Rattle.word_counts.proofs.CutWords.{Cutting, cutting_begins, cut_next, cut_ends}
-use Rattle.word_counts.proofs.MergeLemmas.{counts_fit, merged_counts}
 use Rattle.word_counts.proofs.WordLemmas.{WordComes}
 
 -- `index` words were passed, and those from index `from` on were seen
@@ -77,32 +77,65 @@ module _ {text rest : List ℕ} {from to index : ℕ} {seen : List ℕ → ℕ} 
       let whole : p.done ≡ words text = cut_ends p.cutting blank in
       p.numbers q ∙ ap (λ l. times_seen (drop from l) q) (whole ∙ sym (take_all to (words text) (omega (arith, p.place, p.within, ap length whole))))
 
--- ---- the parts joined
+-- ---- the pieces
 
--- where piece i begins, where it ends, or before
-pub ends_rise : (i words pieces : ℕ) → 0 < pieces → 0 < i → (i - 1) * words / pieces ≤ i * words / pieces
-ends_rise i words pieces some at = le-div ((i - 1) * words / pieces) (i * words) pieces some (step i ((i - 1) * words / pieces * pieces) (div-mul-le_self ((i - 1) * words) pieces))
+-- a piece begins where it ends, or before
+pub ends_rise : (i words pieces : ℕ) → 0 < pieces → i * words / pieces ≤ (i + 1) * words / pieces
+ends_rise i words pieces some = le-div (i * words / pieces) ((i + 1) * words) pieces some (step (i * words / pieces * pieces) (div-mul-le_self (i * words) pieces))
   where
-    step : (i p : ℕ) → p ≤ (i - 1) * words → p ≤ i * words
-    step i p h = grind (arith, h)
+    step : (p : ℕ) → p ≤ i * words → p ≤ (i + 1) * words
+    step p h = grind (arith, h)
 
 parts_join : (ws : List (List ℕ)) (s e : ℕ) → s ≤ e → take s ws ++ drop s (take e ws) ≡ take e ws
 parts_join ws s e at =
     let whole : s + (e - s) ≡ e = omega (arith, at) in
     subst (λ n. take s ws ++ drop s (take n ws) ≡ take n ws) whole (ap (λ l. take s ws ++ l) (drop-take s (e - s) ws) ∙ sym (take-add s (e - s) ws))
 
-pub counts_join : (ws : List (List ℕ)) (s e : ℕ) (front back all : List (AtomValue × ℕ)) → s ≤ e → counted_texts front ≡ word_counts (take s ws) → counted_texts back ≡ word_counts (drop s (take e ws))
-    → counted_texts all ≡ merged (counted_texts front) (counted_texts back) → counted_texts all ≡ word_counts (take e ws)
-counts_join ws s e front back all at f b is =
-    is ∙ ap (λ l. merged l (counted_texts back)) f ∙ ap (merged (word_counts (take s ws))) b ∙ merged_counts (take s ws) (drop s (take e ws)) ∙ ap word_counts (parts_join ws s e at)
+-- the first i of n pieces of these words
+pub record Pieces (ws : List (List ℕ)) (n i : ℕ) (parts : List Part) : Type 0 where
+  pub number : length parts ≡ i
+  pub ends : (k : ℕ) → k ≤ i → words_of_parts (take k parts) ≡ take (k * length ws / n) ws
 
--- the numbers of some of the words fit
-pub front_fits : (ws : List (List ℕ)) (s : ℕ) (counts : List (AtomValue × ℕ)) → s < 2 ^ 63 → counted_texts counts ≡ word_counts (take s ws) → All (λ pair. pair.1 < 2 ^ 63) (counted_texts counts)
-front_fits ws s counts small is = subst (All (λ (pair : List ℕ × ℕ). pair.1 < 2 ^ 63)) (sym is) (counts_fit (take s ws) (omega (arith, small, length-take s ws)))
+pub pieces_none : (ws : List (List ℕ)) (n : ℕ) → Pieces ws n 0 []
+pieces_none ws n = record { number = refl; ends = λ k h. ap words_of_parts (take_all k [] (omega arith)) ∙ ap (λ m. take m ws) (sym (at k (omega (arith, h)))) }
+  where
+    at : (k : ℕ) → k ≡ 0 → k * length ws / n ≡ 0
+    at k none = ap (λ j. j * length ws / n) none ∙ ap (λ m. m / n) (omega arith) ∙ zero-div n
 
-pub back_fits : (ws : List (List ℕ)) (s e : ℕ) (counts : List (AtomValue × ℕ)) → e < 2 ^ 63 → counted_texts counts ≡ word_counts (drop s (take e ws)) → All (λ pair. pair.1 < 2 ^ 63) (counted_texts counts)
-back_fits ws s e counts small is = subst (All (λ (pair : List ℕ × ℕ). pair.1 < 2 ^ 63)) (sym is) (counts_fit (drop s (take e ws)) (omega (arith, small, length-take e ws, length-drop s (take e ws))))
+module _ (ws : List (List ℕ)) (n i : ℕ) (parts : List Part) (p : Part) (so : Pieces ws n i parts) (some : 1 ≤ n) (words from to : ℕ) (counted : words ≡ length ws) (begins : from ≡ i * words / n)
+    (ends : to ≡ (i + 1) * words / n) (is : words_of_part p ≡ drop from (take to ws)) where
+  earlier : (k : ℕ) → k ≤ i → words_of_parts (take k (parts ++ (p ∷ []))) ≡ take (k * length ws / n) ws
+  earlier k h = ap words_of_parts (take-append-le k parts (p ∷ []) (omega (arith, h, so.number))) ∙ so.ends k h
 
--- the parts of all pieces are all words
-pub whole_cut : (ws : List (List ℕ)) (w p : ℕ) → length ws ≤ w → 1 ≤ p → take (p * w / p) ws ≡ ws
-whole_cut ws w p enough some = ap (λ k. take k ws) (mul-div_cancel_left w (omega (arith, some))) ∙ take_all w ws enough
+  last : (k : ℕ) → k ≡ i + 1 → words_of_parts (take k (parts ++ (p ∷ []))) ≡ take (k * length ws / n) ws
+  last k at =
+      let begin : i * length ws / n ≡ from = ap (λ m. i * m / n) (sym counted) ∙ sym begins in
+      let end : to ≡ k * length ws / n = ends ∙ ap (λ m. (i + 1) * m / n) counted ∙ ap (λ j. j * length ws / n) (sym at) in
+      let rise : from ≤ to = omega (arith, begins, ends, ends_rise i words n (omega (arith, some))) in
+      let front : words_of_parts parts ≡ take from ws = ap words_of_parts (sym (take_all i parts (omega (arith, so.number)))) ∙ so.ends i (omega arith) ∙ ap (λ m. take m ws) begin in
+      ap words_of_parts (take_all k (parts ++ (p ∷ [])) (omega (arith, at, so.number, length-append parts (p ∷ [])))) ∙ sym (flat_map_more words_of_part [] parts p)
+      ∙ ap (λ l. l ++ words_of_part p) front ∙ ap (λ l. take from ws ++ l) is ∙ parts_join ws from to rise ∙ ap (λ m. take m ws) end
+
+  pub pieces_next : Pieces ws n (i + 1) (parts ++ (p ∷ []))
+  pieces_next = record {
+    number = omega (arith, so.number, length-append parts (p ∷ []));
+    ends = λ k h. ⊎_elim (λ before. earlier k (omega (arith, before))) (λ at. last k (omega (arith, h, at))) (cases_lt k (i + 1));
+  }
+
+-- all pieces have all words
+pub pieces_whole : (ws : List (List ℕ)) (n : ℕ) (parts : List Part) → 1 ≤ n → length parts ≡ n → ((k : ℕ) → k ≤ n → words_of_parts (take k parts) ≡ take (k * length ws / n) ws) → words_of_parts parts ≡ ws
+pieces_whole ws n parts some number ends =
+    ap words_of_parts (sym (take_all n parts (omega (arith, number)))) ∙ ends n (omega arith)
+    ∙ ap (λ k. take k ws) (mul-div_cancel_left (length ws) (omega (arith, some))) ∙ take_all (length ws) ws (omega arith)
+
+-- one part has all of them
+pub one_part : (ws : List (List ℕ)) (to : ℕ) → length ws ≤ to → take to ws ++ [] ≡ ws
+one_part ws to enough = append-nil (take to ws) ∙ take_all to ws enough
+
+-- the counts of parts are those of their words
+pub counts_of_parts : (parts : List Part) (ws : List (List ℕ)) (lists : List (List (List ℕ × ℕ))) → words_of_parts parts ≡ ws → lists ≡ map (λ part. word_counts (words_of_part part)) parts → AreCountsOf ws lists
+counts_of_parts parts ws lists whole are = subst (AreCountsOf ws) (sym are) (subst (λ l. AreCountsOf l (map (λ part. word_counts (words_of_part part)) parts)) whole (each parts))
+  where
+    each : (ps : List Part) → AreCountsOf (words_of_parts ps) (map (λ part. word_counts (words_of_part part)) ps)
+    each [] = refl
+    each (p ∷ ps) = (words_of_part p, words_of_parts ps, refl, refl, each ps)

@@ -324,3 +324,7 @@ module _ {S : Type 0} where
 pub if_ok_map : {A E : Type 0} {P Q : A → Type 0} → ((a : A) → P a → Q a) → (r : Result A E) → IfOk r P → IfOk r Q
 if_ok_map f (Ok a) h = f a h
 if_ok_map f (Err e) h = h
+
+pub if_ok_both : {A E : Type 0} {P Q S : A → Type 0} → ((a : A) → P a → Q a → S a) → (r : Result A E) → IfOk r P → IfOk r Q → IfOk r S
+if_ok_both f (Ok a) h k = f a h k
+if_ok_both f (Err e) h k = h

@@ -1,7 +1,7 @@
 pub mod CountLines
 pub mod Faults
 pub mod MergedCounts
-pub mod Sections
+pub mod Parts
 pub mod Tally
 pub mod Told
 pub mod WordCounts

@@ -1,9 +1,10 @@
--- Two lists of words with their numbers, each in order, made one.
-use Rattle.std.specs.Prelude.{ℕ, ◌+◌, List, [], ◌∷◌}
+-- Lists of words with their numbers, each in order, made one.
+use Rattle.std.specs.Prelude.{◌≡◌, ℕ, ◌+◌, ◌<◌, ◌^◌, List, [], ◌∷◌, ◌++◌, length}
 use Rattle.std.specs.Cmp.Lexicographic.{slice_cmp}
 use Rattle.std.specs.Ordering.{nat_cmp, match_ordering}
 use Rattle.std.specs.declared.cmp.Ordering.{Ordering}
 use Rattle.std.specs.declared.cmp.Ordering.TheVariants.{Less, Greater}
+use Rattle.word_counts.specs.WordCounts.{word_counts}
 
 -- each word of either list once, in order; a word of both has both numbers added
 abbrev pub merged : List (List ℕ × ℕ) → List (List ℕ × ℕ) → List (List ℕ × ℕ)
@@ -20,3 +21,12 @@ abbrev pub first_order : List (List ℕ × ℕ) → List (List ℕ × ℕ) → O
 first_order [] back = Greater
 first_order (pair ∷ front) [] = Less
 first_order (pair ∷ front) (other ∷ back) = slice_cmp nat_cmp pair.0 other.0
+
+-- each list is the word counts of a part of these words; the parts follow one another, and are all of them
+abbrev pub AreCountsOf : List (List ℕ) → List (List (List ℕ × ℕ)) → Type 0
+AreCountsOf words [] = words ≡ []
+AreCountsOf words (counts ∷ lists) = (part : List (List ℕ)) × (rest : List (List ℕ)) × (words ≡ part ++ rest) × (counts ≡ word_counts part) × AreCountsOf rest lists
+
+-- the same of some words, so few that no number is too large
+abbrev pub AreCountsOfFew : List (List (List ℕ × ℕ)) → Type 0
+AreCountsOfFew lists = (words : List (List ℕ)) × (length words < 2 ^ 63) × AreCountsOf words lists

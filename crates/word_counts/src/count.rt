@@ -1,17 +1,15 @@
-// Counts the words of a text by several workers at once.
-#![tactic(auto)]
+//! Counts the words of a text by several workers at once.
 
 ghost use Rattle.std.specs.Prelude.{◌≡◌, ◌≤◌, IfOk, IfErr};
 ghost use Rattle.word_counts.specs.Faults.{IsCountFault};
 ghost use Rattle.word_counts.specs.WordCounts.{AreWordCounts, counted_texts, word_counts};
 ghost use Rattle.word_counts.specs.Words.{words};
 
-mod cut;
 #[cfg(test)]
 mod gates;
 mod lines;
-mod marks;
 mod merge;
+mod parts;
 mod tally;
 #[cfg(test)]
 mod tests;
@@ -43,6 +41,9 @@ impl Gate for Open {
 
     fn leave<R: Wait>(&self, _rt: &R, _piece: u32) {}
 }
+
+/// An atom of each word and how often the word came, in the order of texts.
+pub type WordCounts<'e, Static> = Vec<(Atom<'e, Static>, u64)>;
 
 /// Each distinct word of the text once, in the order of bytes, with the number of its places.
 ///

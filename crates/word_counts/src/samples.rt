@@ -1,7 +1,7 @@
-// A text with its counts, for the tests of this crate and of those above it, and for nothing else.
-#![tactic(auto)]
+//! A text with its counts, for the tests of this crate and of those above it, and for nothing else.
 
-use string_cache::{Atom, EmptyStaticAtomSet};
+use crate::count::WordCounts;
+use string_cache::EmptyStaticAtomSet;
 
 /// The example of the original's documentation.
 pub const EXAMPLE: &[u8] =
@@ -25,10 +25,8 @@ pub const EXAMPLE_COUNTS: [(&str, u64); 15] = [
     ("will", 1),
 ];
 
-pub type Counts<'s> = Vec<(Atom<'s, EmptyStaticAtomSet>, u64)>;
-
 /// Whether these are the words and numbers of the counts.
-pub fn are(counts: &Counts, wanted: &[(&str, u64)]) -> bool {
+pub fn are(counts: &WordCounts<EmptyStaticAtomSet>, wanted: &[(&str, u64)]) -> bool {
     if counts.len() != wanted.len() {
         return false;
     }

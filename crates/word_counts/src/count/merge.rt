@@ -1,19 +1,16 @@
-// Counts of two lists of words, made one.
-#![tactic(auto)]
+//! Counts of several lists of words, made one.
 
-ghost use Rattle.std.specs.Prelude.{◌≡◌, ◌+◌, ◌^◌, ◌<◌, ◌∷◌, [], IfOk, IfSome, MatchOption};
+ghost use Rattle.std.specs.Prelude.{◌≡◌, ◌+◌, ◌*◌, ◌^◌, ◌<◌, ◌≤◌, ◌∷◌, [], List, ℕ, map, IfOk, IfSome, MatchOption};
 ghost use Rattle.std.specs.List.{All};
 ghost use Rattle.std.specs.VecDeque.{deque_len};
-ghost use Rattle.word_counts.specs.MergedCounts.{first_order, merged};
-ghost use Rattle.word_counts.specs.WordCounts.{counted_texts};
+ghost use Rattle.word_counts.specs.MergedCounts.{AreCountsOf, AreCountsOfFew, first_order, merged};
+ghost use Rattle.word_counts.specs.WordCounts.{counted_texts, word_counts};
 
+use super::WordCounts;
 use std::alloc::{AllocError, Global};
 use std::cmp::Ordering;
 use std::collections::VecDeque;
 use string_cache::{Atom, StaticAtomSet};
-
-/// An atom of each word and how often the word came, in the order of texts.
-pub type Counts<'e, Static> = Vec<(Atom<'e, Static>, u64)>;
 
 /// What is left of counts that are being merged.
 type Rest<'e, Static> = VecDeque<(Atom<'e, Static>, u64)>;
@@ -59,18 +56,15 @@ fn take_lowest<'e, Static: StaticAtomSet>(
 }
 
 /// The counts of both lists of words together.
-pub fn merge<'e, Static: StaticAtomSet>(
+fn merge<'e, Static: StaticAtomSet>(
     alloc: Global,
-    front: Counts<'e, Static>,
-    back: Counts<'e, Static>,
-) -> Result<Counts<'e, Static>, AllocError>
+    front: WordCounts<'e, Static>,
+    back: WordCounts<'e, Static>,
+) -> Result<WordCounts<'e, Static>, AllocError>
     requires front { All (λ pair. pair.1 < 2 ^ 63) (counted_texts front.items) }
     requires back { All (λ pair. pair.1 < 2 ^ 63) (counted_texts back.items) }
     ensures { IfOk result (λ counts. counted_texts counts.items ≡ merged (counted_texts front.entry.items) (counted_texts back.entry.items)) }
 {
-    if front.is_empty() {
-        return Ok(back);
-    }
     let mut front = VecDeque::from_vec(front);
     let mut back = VecDeque::from_vec(back);
     let mut counts = Vec::new(alloc);
@@ -78,4 +72,42 @@ pub fn merge<'e, Static: StaticAtomSet>(
         counts.push(pair)?;
     }
     Ok(counts)
+}
+
+/// The lists merged in pairs: the first with the second, the third with the fourth, and so on. The last of an odd number stays.
+fn merge_pairs<'e, Static: StaticAtomSet>(
+    alloc: Global,
+    lists: VecDeque<WordCounts<'e, Static>>,
+) -> Result<VecDeque<WordCounts<'e, Static>>, AllocError>
+    requires { AreCountsOfFew (map (λ list. counted_texts list.items) lists.items) }
+    ensures counts { (words : List (List ℕ)) → AreCountsOf words (map (λ list. counted_texts list.items) lists.entry.items)
+        → IfOk result (λ merged. AreCountsOf words (map (λ list. counted_texts list.items) merged.items)) }
+    ensures fewer { IfOk result (λ merged. 2 * deque_len merged ≤ deque_len lists.entry + 1) }
+{
+    let mut lists = lists;
+    let mut merged = VecDeque::new(alloc);
+    while let Some(front) = lists.pop_front() {
+        let list = match lists.pop_front() {
+            Some(back) => merge(alloc, front, back)?,
+            None => front,
+        };
+        merged.push_back(list)?;
+    }
+    Ok(merged)
+}
+
+/// The counts of the words of all lists together. They are merged in pairs, and what this gives again, until one list is left.
+pub fn merge_all<'e, Static: StaticAtomSet>(
+    alloc: Global,
+    lists: VecDeque<WordCounts<'e, Static>>,
+) -> Result<WordCounts<'e, Static>, AllocError>
+    requires { AreCountsOfFew (map (λ list. counted_texts list.items) lists.items) }
+    ensures { (words : List (List ℕ)) → AreCountsOf words (map (λ list. counted_texts list.items) lists.entry.items)
+        → IfOk result (λ counts. counted_texts counts.items ≡ word_counts words) }
+{
+    let mut lists = lists;
+    while lists.len() > 1 {
+        lists = merge_pairs(alloc, lists)?;
+    }
+    Ok(lists.pop_front().unwrap_or(Vec::new(alloc)))
 }

@@ -1,5 +1,4 @@
-// How often words came, with an atom of each.
-#![tactic(auto)]
+//! How often words came, with an atom of each.
 
 ghost use Rattle.std.specs.Prelude.{◌≡◌, ◌+◌, ◌^◌, ◌<◌, List, ℕ, IfOk, OnOk};
 ghost use Rattle.std.specs.BTreeMap.{IsFromIterResult};
@@ -9,7 +8,7 @@ ghost use Rattle.std.specs.Ordering.{nat_cmp};
 ghost use Rattle.word_counts.specs.Tally.{AddsTo, IsLabelled, IsTallyOf, number_of};
 ghost use Rattle.word_counts.specs.WordCounts.{counted_texts, word_counts};
 
-use super::merge::Counts;
+use super::WordCounts;
 use std::alloc::{AllocError, Global};
 use std::collections::{BTreeMap, HashMap};
 use string_cache::{Atom, StaticAtomSet};
@@ -55,7 +54,7 @@ fn in_order<'e, Static: StaticAtomSet>(
 fn entries_of<'e, Static: StaticAtomSet>(
     alloc: Global,
     counts: BTreeMap<Atom<'e, Static>, u64>,
-) -> Result<Counts<'e, Static>, AllocError>
+) -> Result<WordCounts<'e, Static>, AllocError>
     ensures { IfOk result (λ pairs. pairs.items ≡ counts.entry.entries) }
 {
     counts.into_iter().collect(alloc)
@@ -65,7 +64,7 @@ fn entries_of<'e, Static: StaticAtomSet>(
 pub fn into_pairs<'e, Static: StaticAtomSet>(
     alloc: Global,
     tally: Tally<'e, Static>,
-) -> Result<Counts<'e, Static>, AllocError>
+) -> Result<WordCounts<'e, Static>, AllocError>
     ensures { (words : List (List ℕ)) → IsTallyOf words tally.entry
         → IfOk result (λ pairs. counted_texts pairs.items ≡ word_counts words) }
 {

@@ -1,19 +1,18 @@
-// The workers: each interns and counts the words of its part in a thread of its own.
-#![tactic(auto)]
+//! The workers: each interns and counts the words of its part in a thread of its own.
 
-ghost use Rattle.std.specs.Prelude.{◌≡◌, ◌+◌, ◌≤◌, ◌<◌, ◌*◌, ◌/◌, ◌^◌, [], IfOk, IfErr, OnOk, drop, length, take};
+ghost use Rattle.std.specs.Prelude.{◌≡◌, ◌+◌, ◌≤◌, ◌<◌, ◌^◌, [], IfOk, IfErr, OnOk, length, map};
 ghost use Rattle.string_cache.specs.Faults.{IsInternFault};
 ghost use Rattle.word_counts.specs.Faults.{IsCountFault};
+ghost use Rattle.word_counts.specs.Parts.{words_of_part};
 ghost use Rattle.word_counts.specs.Tally.{AddsTo, IsLabelled, IsTallyOf, number_of};
 ghost use Rattle.word_counts.specs.WordCounts.{counted_texts, word_counts};
 ghost use Rattle.word_counts.specs.Words.{words};
 
-use super::Gate;
-use super::cut::Cut;
-use super::marks::{Marked, Part, mark_and_cut};
-use super::merge::{Counts, merge};
+use super::merge::merge_all;
+use super::parts::{Part, parts};
 use super::tally::{Tally, add, into_pairs};
-use std::collections::HashMap;
+use super::{Gate, WordCounts};
+use std::collections::{HashMap, VecDeque};
 use std::sync::Wait;
 use std::thread;
 use std::thread::{Promise, Scope, Threads};
@@ -21,19 +20,10 @@ use string_cache::dynamic_set::Set;
 use string_cache::{Atom, Fault, StaticAtomSet};
 use text_streams::faults::AppFault;
 
-/// A worker's promise: the counts of those words of the text from index `from` up to but not including `to`, unless it is
-/// refused.
-#[derive(Drop)]
-struct CountsOf<'e> {
-    text: &'e str,
-    from: usize,
-    to: usize,
-}
-
-impl<'e, Static: StaticAtomSet> Promise<Result<Counts<'e, Static>, Fault>> for CountsOf<'e> {
-    ghost kept_by = { λ promise result.
-        IfOk result (λ counts. counted_texts counts.items ≡ word_counts (drop promise.from (take promise.to (words promise.text.now))))
-        × IfErr result IsInternFault };
+/// A worker promises the counts of the words of its part, unless it is refused.
+impl<'e, Static: StaticAtomSet> Promise<Result<WordCounts<'e, Static>, Fault>> for Part<'e> {
+    ghost kept_by = { λ part result.
+        IfOk result (λ counts. counted_texts counts.items ≡ word_counts (words_of_part part)) × IfErr result IsInternFault };
 }
 
 /// Interns a place of a word and counts it. The atom of a further place is held beside those of the tally, if it is dynamic:
@@ -60,26 +50,24 @@ fn intern_place<'e, R: Wait, Static: StaticAtomSet>(
     Ok(())
 }
 
-/// Interns those words of the text in order and counts them. The atoms of further places are held beside those of the tally.
+/// Interns the words of the part in order and counts them. The atoms of further places are held beside those of the tally.
 fn intern_words<'e, R: Wait, Static: StaticAtomSet>(
     rt: &R,
     set: &'e Set<Static>,
-    text: &'e str,
-    from: usize,
-    to: usize,
+    part: Part<'e>,
     tally: &mut Tally<'e, Static>,
     further: &mut Vec<Atom<'e, Static>>,
 ) -> Result<(), Fault>
     requires { IsTallyOf [] tally.old }
-    ensures tally { OnOk result (IsTallyOf (drop from (take to (words text.now))) tally.new) }
+    ensures tally { OnOk result (IsTallyOf (words_of_part part.entry) tally.new) }
     ensures refused { IfErr result IsInternFault }
 {
     let mut index = 0;
-    for word in text.split_whitespace() {
-        if index >= to {
+    for word in part.text.split_whitespace() {
+        if index >= part.to {
             break;
         }
-        if index >= from {
+        if index >= part.from {
             intern_place(rt, set, word, tally, further)?;
         }
         index += 1;
@@ -93,82 +81,77 @@ fn count_part<'e, R: Wait, Static: StaticAtomSet, G: Gate>(
     rt: &R,
     set: &'e Set<Static>,
     gate: &G,
-    text: &'e str,
-    from: usize,
-    to: usize,
+    part: Part<'e>,
     piece: u32,
-) -> Result<Counts<'e, Static>, Fault>
-    ensures counts { IfOk result (λ counts. counted_texts counts.items ≡ word_counts (drop from (take to (words text.now)))) }
+) -> Result<WordCounts<'e, Static>, Fault>
+    ensures counts { IfOk result (λ counts. counted_texts counts.items ≡ word_counts (words_of_part part.entry)) }
     ensures refused { IfErr result IsInternFault }
 {
     let mut tally = HashMap::new(set.allocator());
     let mut further = Vec::new(set.allocator());
     gate.enter(rt, piece);
-    let outcome = intern_words(rt, set, text, from, to, &mut tally, &mut further);
+    let outcome = intern_words(rt, set, part, &mut tally, &mut further);
     gate.leave(rt, piece);
     outcome?;
     let counts = into_pairs(set.allocator(), tally)?;
     Ok(counts)
 }
 
-/// Starts a worker for each of the first `i` pieces, from the last down, and joins them all. A fault is that of the lowest
-/// piece.
-fn counts_to<'x, 'e: 'x, R: Threads + Wait + Sync, Static: StaticAtomSet + Send + Sync, G: Gate>(
+/// Starts a worker for each part, from the last down, and joins them all: the counts of each, in order. A fault is that of the
+/// lowest piece.
+fn counts_of_each<
+    'x,
+    'e: 'x,
+    R: Threads + Wait + Sync,
+    Static: StaticAtomSet + Send + Sync,
+    G: Gate,
+>(
     scope: &Scope<'x, &'e ()>,
     rt: &'e R,
     set: &'e Set<Static>,
     gate: &'e G,
-    marked: &Marked<'e>,
-    cut: Cut,
-    i: u32,
-) -> Result<Counts<'e, Static>, AppFault>
-    requires { i ≤ cut.pieces }
-    ensures counts { IfOk result (λ counts. counted_texts counts.items ≡ word_counts (take (i * cut.words / cut.pieces) (words marked.now.text.now))) }
+    parts: &[Part<'e>],
+) -> Result<VecDeque<WordCounts<'e, Static>>, AppFault>
+    requires { length parts.now < 2 ^ 32 }
+    ensures counts { IfOk result (λ lists. map (λ list. counted_texts list.items) lists.items ≡ map (λ part. word_counts (words_of_part part)) parts.now) }
     ensures fault { IfErr result IsCountFault }
 {
-    if i == 0 {
-        return Ok(Vec::new(set.allocator()));
-    }
-    let from = cut.end(i - 1);
-    let to = cut.end(i);
-    let part = marked.part(from, to);
-    let Part { text, from, to } = part;
-    let started = scope.spawn_with(CountsOf { text, from, to }, move || {
-        count_part(rt, set, gate, text, from, to, i)
+    let Some((part, lower)) = parts.split_last() else {
+        return Ok(VecDeque::new(set.allocator()));
+    };
+    let Part { text, from, to } = *part;
+    let piece = parts.len() as u32;
+    let started = scope.spawn_with(*part, move || {
+        count_part(rt, set, gate, Part { text, from, to }, piece)
     });
-    let below = counts_to(scope, rt, set, gate, marked, cut, i - 1);
+    let below = counts_of_each(scope, rt, set, gate, lower);
     let Ok(worker) = started else {
         below?;
         return Err(AppFault::Worker);
     };
     let own = worker.join(rt);
-    let front = below?;
-    let counts = merge(set.allocator(), front, own?)?;
-    Ok(counts)
+    let mut lists = below?;
+    lists.push_back(own?)?;
+    Ok(lists)
 }
 
-/// The counts of the words of all pieces, by a worker for each. Where there are several, the words are cut by their exact number.
-fn counts_of_pieces<'e, R: Threads + Wait + Sync, Static: StaticAtomSet + Send + Sync, G: Gate>(
+/// The counts of the words of the text, by `n` workers of the scope.
+fn counts_in<'x, 'e: 'x, R: Threads + Wait + Sync, Static: StaticAtomSet + Send + Sync, G: Gate>(
+    scope: &Scope<'x, &'e ()>,
     rt: &'e R,
     set: &'e Set<Static>,
     gate: &'e G,
-    marked: Marked<'e>,
-    cut: Cut,
-) -> Result<Counts<'e, Static>, AppFault>
-    requires enough { length (words marked.text.now) ≤ cut.words }
-    requires exact { 1 < cut.pieces → cut.words ≡ length (words marked.text.now) }
-    ensures counts { IfOk result (λ counts. counted_texts counts.items ≡ word_counts (words marked.entry.text.now)) }
+    text: &'e str,
+    n: u32,
+) -> Result<WordCounts<'e, Static>, AppFault>
+    requires { 1 ≤ n }
+    ensures counts { IfOk result (λ counts. counted_texts counts.items ≡ word_counts (words text.now)) }
     ensures fault { IfErr result IsCountFault }
 {
-    thread::scope(
-        thread::scope_env::<'e>(),
-        rt,
-        move |scope| -> Result<Counts<'_, Static>, AppFault>
-            requires { length (words marked.text.now) ≤ cut.words }
-            ensures counts { IfOk result (λ counts. counted_texts counts.items ≡ word_counts (words marked.entry.text.now)) }
-            ensures fault { IfErr result IsCountFault }
-        { counts_to(scope, rt, set, gate, &marked, cut, cut.pieces) },
-    )
+    let parts = parts(rt, set.allocator(), text, n)?;
+    let lists = counts_of_each(scope, rt, set, gate, &parts)?;
+    let counts = merge_all(set.allocator(), lists)?;
+    Ok(counts)
 }
 
 /// The counts of the words of the text, by `n` workers.
@@ -183,11 +166,18 @@ pub fn counts_by_workers<
     gate: &'e G,
     text: &'e str,
     n: u32,
-) -> Result<Counts<'e, Static>, AppFault>
+) -> Result<WordCounts<'e, Static>, AppFault>
     requires { 1 ≤ n }
     ensures counts { IfOk result (λ counts. counted_texts counts.items ≡ word_counts (words text.now)) }
     ensures fault { IfErr result IsCountFault }
 {
-    let (marked, cut) = mark_and_cut(rt, set.allocator(), text, n)?;
-    counts_of_pieces(rt, set, gate, marked, cut)
+    thread::scope(
+        thread::scope_env::<'e>(),
+        rt,
+        move |scope| -> Result<WordCounts<'_, Static>, AppFault>
+            requires { 1 ≤ n }
+            ensures counts { IfOk result (λ counts. counted_texts counts.items ≡ word_counts (words text.entry.now)) }
+            ensures fault { IfErr result IsCountFault }
+        { counts_in(scope, rt, set, gate, text, n) },
+    )
 }
