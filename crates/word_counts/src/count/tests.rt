@@ -1,9 +1,9 @@
-// That workers run at once, intern every place themselves and hold their atoms; and which fault is answered.
-#![tactic(auto)]
+//! That workers run at once, intern every place themselves and hold their atoms; and which fault is answered.
 
 ghost use Rattle.std.specs.Prelude.{◌≤◌};
 
 use crate::count::gates::{BothLeave, InTurn, Together, Watch};
+use crate::count::parts::sections;
 use crate::count::{Gate, Open, count};
 use crate::samples::{EXAMPLE, EXAMPLE_COUNTS, are};
 use std::alloc::{AllocError, Global};
@@ -63,15 +63,15 @@ fn eight_workers_run_at_once(rt: HostRuntime) {
     assert!(rt; gate.passed() == (0x1111_1111, 0x1111_1111));
 }
 
-/// So many different words, each of `long` letters or more.
-fn different_words(alloc: Global, count: u32, long: u32) -> Result<String, AllocError> {
+/// So many different words, each of `long` letters or more and before this white space.
+fn words_before(alloc: Global, count: u32, long: u32, white: char) -> Result<String, AllocError> {
     let mut letters = String::new(alloc);
     for _ in 0..long {
         letters.push('a')?;
     }
     let mut text = String::new(alloc);
     for n in 0..count {
-        write!(text, "{letters}{n} ")?;
+        write!(text, "{letters}{n}{white}")?;
     }
     Ok(text)
 }
@@ -79,7 +79,7 @@ fn different_words(alloc: Global, count: u32, long: u32) -> Result<String, Alloc
 /// Of 20 different words, piece i of 8 ends at word 20 * i / 8.
 #[test]
 fn pieces_of_twenty_words(rt: HostRuntime) {
-    let text = different_words(rt.alloc(), 20, 8).expect(&rt, "room");
+    let text = words_before(rt.alloc(), 20, 8, ' ').expect(&rt, "room");
     let set = Set::<EmptyStaticAtomSet>::new(rt.alloc()).expect(&rt, "a set");
     let gate = InTurn::new(&set, &[2, 5, 7, 10, 12, 15, 17, 20]);
     let counts = count(&rt, &set, &text, 8, &gate).expect(&rt, "counts");
@@ -91,13 +91,35 @@ fn pieces_of_twenty_words(rt: HostRuntime) {
 /// Of 402 different words, over several sections of the text, piece i of 4 ends at word 402 * i / 4.
 #[test]
 fn pieces_of_a_long_text(rt: HostRuntime) {
-    let text = different_words(rt.alloc(), 402, 1_000).expect(&rt, "room");
+    let text = words_before(rt.alloc(), 402, 1_000, ' ').expect(&rt, "room");
     let set = Set::<EmptyStaticAtomSet>::new(rt.alloc()).expect(&rt, "a set");
     let gate = InTurn::new(&set, &[100, 201, 301, 402]);
     let counts = count(&rt, &set, &text, 4, &gate).expect(&rt, "counts");
     assert!(rt; counts.len() == 402);
     drop(counts);
     assert!(rt; gate.right() == Some(4));
+}
+
+/// Of 402 different words behind tabs, over several sections of the text, piece i of 4 ends at word 402 * i / 4.
+#[test]
+fn pieces_of_a_text_with_tabs(rt: HostRuntime) {
+    let text = words_before(rt.alloc(), 402, 1_000, '\t').expect(&rt, "room");
+    let set = Set::<EmptyStaticAtomSet>::new(rt.alloc()).expect(&rt, "a set");
+    let gate = InTurn::new(&set, &[100, 201, 301, 402]);
+    let counts = count(&rt, &set, &text, 4, &gate).expect(&rt, "counts");
+    assert!(rt; counts.len() == 402);
+    drop(counts);
+    assert!(rt; gate.right() == Some(4));
+}
+
+/// A text of some 132,000 bytes has three sections, whatever white space stands between its words.
+#[test]
+fn sections_are_cut_at_all_white_space(rt: HostRuntime) {
+    for white in [' ', '\t', '\n', '\x0c', '\r'] {
+        let text = words_before(rt.alloc(), 132, 1_000, white).expect(&rt, "room");
+        let sections = sections(rt.alloc(), &text).expect(&rt, "sections");
+        assert_eq!(rt; sections.len(), 3, "cut at {white:?}");
+    }
 }
 
 /// Of one word and two pieces, the first piece has none.
