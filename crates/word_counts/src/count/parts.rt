@@ -1,6 +1,6 @@
 //! The parts of a text's words that the workers count, each told from a place near its first word on.
 
-ghost use Rattle.std.specs.Prelude.{◌≡◌, ◌≤◌, ◌<◌, ◌+◌, ◌*◌, ◌/◌, ◌++◌, ℕ, true, drop, length, take, slice_index, vec_len, IfOk, IfSome};
+ghost use Rattle.std.specs.Prelude.{◌≡◌, ◌≤◌, ◌<◌, ◌*◌, ◌/◌, ◌++◌, ℕ, true, drop, length, take, slice_index, vec_len, IfOk, IfSome};
 ghost use Rattle.std.specs.Char.{is_whitespace};
 ghost use Rattle.word_counts.specs.Parts.{AreSections, HaveRests, words_of_part, words_of_parts, words_of_sections};
 ghost use Rattle.word_counts.specs.Words.{words};
