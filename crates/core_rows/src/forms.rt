@@ -1,6 +1,6 @@
 //! What no contract says: words, hashes and texts that come from outside.
 
-use std::fmt::Write;
+use std::alloc::{AllocError, Global};
 use string_cache_core::Fault;
 use string_cache_core::phf::{Hashes, hash, place, sip24};
 use string_cache_core::samples::{One, Short, Twice};
@@ -11,6 +11,20 @@ use string_cache_core::word::{
     Buckets, Form, HOLDER_BOUND, InlineText, Limits, MOST_BUCKETS, SERIAL_BOUND, form_of,
     pack_inline_word, static_word, ticket_word, unpack_inline,
 };
+
+/// Whether the text has this inline word.
+fn is_packed(text: &str, word: u64) -> bool {
+    pack_inline_word(text) == Some(word)
+        && form_of_text::<EmptyStaticAtomSet>(text) == TextForm::Inline(word)
+}
+
+/// Whether the word is this inline text's.
+fn is_unpacked(word: u64, text: &str) -> bool {
+    let Some(unpacked) = unpack_inline(word) else {
+        return false;
+    };
+    unpacked.as_str() == text && form_of(word) == Some(Form::Inline(unpacked))
+}
 
 #[test]
 fn inline_words(rt: HostRuntime) {
@@ -24,16 +38,18 @@ fn inline_words(rt: HostRuntime) {
         ("é", 0xa9_c321),
         ("short", 0x7472_6f68_7351),
     ] {
-        assert_eq!(rt; pack_inline_word(text), Some(word), "of {text:?}");
-        let unpacked = unpack_inline(word).expect(&rt, "an inline word");
-        assert_eq!(rt; unpacked.as_str(), text, "of {word:#x}");
-        assert_eq!(rt; form_of(word), Some(Form::Inline(unpacked)), "of {word:#x}");
-        assert_eq!(rt;
-            form_of_text::<EmptyStaticAtomSet>(text),
-            TextForm::Inline(word)
-        );
+        assert!(rt; is_packed(text, word), "of {text:?}");
+        assert!(rt; is_unpacked(word, text), "of {word:#x}");
     }
-    assert_eq!(rt; pack_inline_word("abcdefgh"), None);
+    assert!(rt; pack_inline_word("abcdefgh").is_none());
+}
+
+/// Whether the text has the inline word of these bytes.
+fn is_packed_as(text: &str, bytes: [u8; 8]) -> bool {
+    match pack_inline_word(text) {
+        Some(word) => word.to_le_bytes() == bytes,
+        None => false,
+    }
 }
 
 #[test]
@@ -42,9 +58,24 @@ fn inline_words_as_bytes(rt: HostRuntime) {
         ("a", [0x11, 0x61, 0, 0, 0, 0, 0, 0]),
         ("é", [0x21, 0xc3, 0xa9, 0, 0, 0, 0, 0]),
     ] {
-        let word = pack_inline_word(text).expect(&rt, "an inline word");
-        assert_eq!(rt; word.to_le_bytes(), bytes, "of {text:?}");
+        assert!(rt; is_packed_as(text, bytes), "of {text:?}");
     }
+}
+
+/// Whether the text is an inline text, whose word is that of the text.
+fn is_inline_text(text: &str) -> bool {
+    let Some(inline) = InlineText::new(text) else {
+        return false;
+    };
+    inline.as_str() == text && Some(inline.word()) == pack_inline_word(text)
+}
+
+/// Whether the inline text is printed so.
+fn prints_as(alloc: Global, text: &str, printed: &str) -> Result<bool, AllocError> {
+    let Some(inline) = InlineText::new(text) else {
+        return Ok(false);
+    };
+    Ok(format!(in alloc; "{inline:?}")?.as_str() == printed)
 }
 
 #[test]
@@ -54,17 +85,18 @@ fn inline_texts(rt: HostRuntime) {
         ("foo", "InlineText(\"foo\")"),
         ("\0", "InlineText(\"\\0\")"),
     ] {
-        let inline = InlineText::new(text).expect(&rt, "an inline text");
-        assert_eq!(rt; inline.as_str(), text);
-        assert_eq!(rt; Some(inline.word()), pack_inline_word(text));
-        assert_eq!(rt;
-            format!(in rt.alloc(); "{inline:?}")
-                .expect(&rt, "a text")
-                .as_str(),
-            printed
+        assert!(rt; is_inline_text(text), "of {text:?}");
+        assert!(rt;
+            prints_as(rt.alloc(), text, printed) == Ok(true),
+            "of {text:?}"
         );
     }
-    assert_eq!(rt; InlineText::new("abcdefgh"), None);
+    assert!(rt; InlineText::new("abcdefgh").is_none());
+}
+
+/// Whether it is the word of nothing.
+fn is_no_word(word: u64) -> bool {
+    form_of(word).is_none() && unpack_inline(word).is_none()
 }
 
 #[test]
@@ -82,59 +114,76 @@ fn words_of_nothing(rt: HostRuntime) {
         0x7ffc,
         0xfffc,
     ] {
-        assert_eq!(rt; form_of(word), None, "of {word:#x}");
-        assert_eq!(rt; unpack_inline(word), None, "of {word:#x}");
+        assert!(rt; is_no_word(word), "of {word:#x}");
     }
+}
+
+fn is_static(word: u64, index: u32) -> bool {
+    form_of(word) == Some(Form::Static(index))
+}
+
+fn is_ticket(word: u64, serial: u64, bucket: u16) -> bool {
+    form_of(word) == Some(Form::Dynamic { serial, bucket })
 }
 
 #[test]
 fn other_words(rt: HostRuntime) {
-    let ticket = |serial, bucket| Some(Form::Dynamic { serial, bucket });
     let last = MOST_BUCKETS as u16 - 1;
-    assert_eq!(rt; form_of(2), Some(Form::Static(0)));
-    assert_eq!(rt;
-        form_of(0xffff_ffff_0000_0002),
-        Some(Form::Static(u32::MAX))
-    );
-    assert_eq!(rt; form_of(0x1_0000), ticket(1, 0));
-    assert_eq!(rt; form_of(0x1_fffc), ticket(1, last));
-    assert_eq!(rt;
-        form_of(0xffff_ffff_ffff_fffc),
-        ticket(SERIAL_BOUND - 1, last)
-    );
-    assert_eq!(rt; ticket_word(SERIAL_BOUND - 1, last), 0xffff_ffff_ffff_fffc);
-    assert_eq!(rt; ticket_word(1, 0), 0x1_0000);
-    assert_eq!(rt; ticket_word(1, 4095), 0x1_3ffc);
-    assert_eq!(rt; ticket_word(1, 16383), 0x1_fffc);
-    assert_eq!(rt; static_word(0), 2);
-    assert_eq!(rt; static_word(3), 0x3_0000_0002);
+    assert!(rt; is_static(2, 0));
+    assert!(rt; is_static(0xffff_ffff_0000_0002, u32::MAX));
+    assert!(rt; is_ticket(0x1_0000, 1, 0));
+    assert!(rt; is_ticket(0x1_fffc, 1, last));
+    assert!(rt; is_ticket(0xffff_ffff_ffff_fffc, SERIAL_BOUND - 1, last));
+    assert!(rt; ticket_word(SERIAL_BOUND - 1, last) == 0xffff_ffff_ffff_fffc);
+    assert!(rt; ticket_word(1, 0) == 0x1_0000);
+    assert!(rt; ticket_word(1, 4095) == 0x1_3ffc);
+    assert!(rt; ticket_word(1, 16383) == 0x1_fffc);
+    assert!(rt; static_word(0) == 2);
+    assert!(rt; static_word(3) == 0x3_0000_0002);
+}
+
+/// Whether there are limits of these numbers, which they tell.
+fn are_limits(holders: u64, serials: u64) -> bool {
+    match Limits::new(holders, serials) {
+        Some(limits) => limits.holders() == holders && limits.serials() == serials,
+        None => false,
+    }
+}
+
+fn are_greatest(holders: u64, serials: u64) -> bool {
+    Limits::new(holders, serials) == Some(Limits::greatest())
 }
 
 #[test]
 fn limits(rt: HostRuntime) {
-    assert_eq!(rt; (HOLDER_BOUND, SERIAL_BOUND), (1 << 63, 1 << 48));
+    assert!(rt; (HOLDER_BOUND, SERIAL_BOUND) == (1 << 63, 1 << 48));
     for (holders, serials) in [(0, 1), (1, 0), (HOLDER_BOUND, 1), (1, SERIAL_BOUND)] {
-        assert_eq!(rt; Limits::new(holders, serials), None);
+        assert!(rt; Limits::new(holders, serials).is_none());
     }
-    let least = Limits::new(1, 1).expect(&rt, "limits of one");
-    assert_eq!(rt; (least.holders(), least.serials()), (1, 1));
-    assert_eq!(rt;
-        Limits::new(HOLDER_BOUND - 1, SERIAL_BOUND - 1),
-        Some(Limits::greatest())
-    );
+    assert!(rt; are_limits(1, 1));
+    assert!(rt; are_greatest(HOLDER_BOUND - 1, SERIAL_BOUND - 1));
+}
+
+/// Whether these are the bits of a number of buckets, the first and the last of which are those of the hashes whose low bits are all
+/// zero and all one.
+fn has_number(bits: u8, number: usize) -> bool {
+    let Some(buckets) = Buckets::new(bits) else {
+        return false;
+    };
+    buckets.bits() == bits
+        && buckets.number() == number
+        && usize::from(buckets.bucket_of(u64::MAX)) + 1 == number
+        && buckets.bucket_of(0xffff_ffff_ffff_0000) == 0
 }
 
 #[test]
 fn numbers_of_buckets(rt: HostRuntime) {
-    assert_eq!(rt; MOST_BUCKETS, 16384);
+    assert!(rt; MOST_BUCKETS == 16384);
     for (bits, number) in [(0, 1), (1, 2), (12, 4096), (14, MOST_BUCKETS)] {
-        let buckets = Buckets::new(bits).expect(&rt, "a number of buckets");
-        assert_eq!(rt; (buckets.bits(), buckets.number()), (bits, number));
-        assert_eq!(rt; usize::from(buckets.bucket_of(u64::MAX)), number - 1);
-        assert_eq!(rt; buckets.bucket_of(0xffff_ffff_ffff_0000), 0);
+        assert!(rt; has_number(bits, number), "of {bits}");
     }
-    assert_eq!(rt; (Buckets::new(15), Buckets::new(255)), (None, None));
-    assert_eq!(rt; Buckets::usual().bits(), 12);
+    assert!(rt; Buckets::new(15).is_none() && Buckets::new(255).is_none());
+    assert!(rt; Buckets::usual().bits() == 12);
 }
 
 /// The vector that was published with SipHash.
@@ -145,6 +194,10 @@ fn published_vector(rt: HostRuntime) {
         sip24(&message, 0x0706_0504_0302_0100, 0x0f0e_0d0c_0b0a_0908),
         0xa129_ca61_49be_45e5
     );
+}
+
+fn has_hashes(text: &str, key: u64, hashes: Hashes) -> bool {
+    hash(text, key) == hashes
 }
 
 /// OpenSSL's SIPHASH with 1 and 3 rounds, 16 bytes of output, and the key's 8 bytes behind 8 zeros.
@@ -167,9 +220,12 @@ fn hashes(rt: HostRuntime) {
         ("interned", 1, 0x64b5_e15c, 0xa38a_6cc9, 0xcc77_1d20),
         ("interned", u64::MAX, 0xb30e_2215, 0x9496_46a2, 0xadd9_dbaa),
     ] {
-        assert_eq!(rt; hash(text, key), Hashes { g, f1, f2 }, "of {text:?}, {key}");
+        assert!(rt;
+            has_hashes(text, key, Hashes { g, f1, f2 }),
+            "of {text:?}, {key}"
+        );
     }
-    assert_eq!(rt; hash("sentence", 0).entry_hash(), 0xed02_e6f1_6c03_c165);
+    assert!(rt; hash("sentence", 0).entry_hash() == 0xed02_e6f1_6c03_c165);
 }
 
 #[test]
@@ -185,28 +241,35 @@ fn places(rt: HostRuntime) {
     assert_eq!(rt; place(&hashes, &[(0, 7)], 1), 0);
 }
 
+fn has_form<S: StaticAtomSet>(text: &str, form: TextForm) -> bool {
+    form_of_text::<S>(text) == form
+}
+
+fn has_text<S: StaticAtomSet>(index: u32, text: &str) -> bool {
+    static_text::<S>(index) == Some(text)
+}
+
+fn has_none<S: StaticAtomSet>(index: u32) -> bool {
+    static_text::<S>(index).is_none()
+}
+
 #[test]
 fn static_texts(rt: HostRuntime) {
-    assert_eq!(rt; form_of_text::<One>("sentence"), TextForm::Static(0));
-    assert_eq!(rt;
-        form_of_text::<One>("sentencf"),
-        TextForm::Dynamic(hash("sentencf", 0).entry_hash())
-    );
-    assert_eq!(rt; static_text::<One>(0), Some("sentence"));
-    assert_eq!(rt; static_text::<One>(1), None);
-    assert_eq!(rt; static_text::<One>(u32::MAX), None);
+    let dynamic = TextForm::Dynamic(hash("sentencf", 0).entry_hash());
+    assert!(rt; has_form::<One>("sentence", TextForm::Static(0)));
+    assert!(rt; has_form::<One>("sentencf", dynamic));
+    assert!(rt; has_text::<One>(0, "sentence"));
+    assert!(rt; has_none::<One>(1));
+    assert!(rt; has_none::<One>(u32::MAX));
 
     // The low bit of f2, 0x56e93a5c, is the place of "sentence" among two.
-    assert_eq!(rt; form_of_text::<Twice>("sentence"), TextForm::Static(0));
-    assert_eq!(rt; static_text::<Twice>(0), Some("sentence"));
-    assert_eq!(rt; static_text::<Twice>(1), None);
+    assert!(rt; has_form::<Twice>("sentence", TextForm::Static(0)));
+    assert!(rt; has_text::<Twice>(0, "sentence"));
+    assert!(rt; has_none::<Twice>(1));
 
-    assert_eq!(rt;
-        form_of_text::<Short>("short"),
-        TextForm::Inline(0x7472_6f68_7351)
-    );
-    assert_eq!(rt; static_text::<Short>(0), None);
-    assert_eq!(rt; static_text::<EmptyStaticAtomSet>(0), None);
+    assert!(rt; has_form::<Short>("short", TextForm::Inline(0x7472_6f68_7351)));
+    assert!(rt; has_none::<Short>(0));
+    assert!(rt; has_none::<EmptyStaticAtomSet>(0));
 }
 
 fn is_perfect(
@@ -235,18 +298,26 @@ fn checked_tables(rt: HostRuntime) {
     assert!(rt; !is_perfect(&[(0, 0)], &["interned", "sentence"], &[1, 2]));
 }
 
-/// Tables that are made while the program runs.
+/// As `check_parts` with the key 0, of tables that are made while the program runs.
+fn are_perfect(
+    alloc: Global,
+    first: &str,
+    second: &str,
+    hashes: &[u64],
+) -> Result<bool, AllocError> {
+    let first = String::from_str(alloc, first)?;
+    let second = String::from_str(alloc, second)?;
+    let disps = vec![in alloc; (0u32, 0u32); 1]?;
+    let atoms = [first.as_str(), second.as_str()];
+    Ok(check_parts(0, &disps, &atoms, hashes))
+}
+
 #[test]
 fn borrowed_tables(rt: HostRuntime) {
     let alloc = rt.alloc();
-    let first = String::from_str(alloc, "sentence").expect(&rt, "a text");
-    let second = String::from_str(alloc, "interned").expect(&rt, "a text");
-    let disps = vec![in alloc; (0u32, 0u32); 1].expect(&rt, "an answer");
-    let right = [first.as_str(), second.as_str()];
-    let wrong = [second.as_str(), first.as_str()];
-    assert!(rt; check_parts(0, &disps, &right, &[1, 2]));
-    assert!(rt; !check_parts(0, &disps, &wrong, &[1, 2]));
-    assert!(rt; !check_parts(0, &disps, &right, &[1]));
+    assert!(rt; are_perfect(alloc, "sentence", "interned", &[1, 2]) == Ok(true));
+    assert!(rt; are_perfect(alloc, "interned", "sentence", &[1, 2]) == Ok(false));
+    assert!(rt; are_perfect(alloc, "sentence", "interned", &[1]) == Ok(false));
 }
 
 #[test]
@@ -269,6 +340,11 @@ fn empty_set(rt: HostRuntime) {
     assert!(rt; EmptyStaticAtomSet <= EmptyStaticAtomSet);
 }
 
+/// Whether the fault is printed so.
+fn tells(alloc: Global, fault: Fault, text: &str) -> Result<bool, AllocError> {
+    Ok(format!(in alloc; "{fault}")?.as_str() == text)
+}
+
 #[test]
 fn faults(rt: HostRuntime) {
     for (fault, number, text) in [
@@ -277,9 +353,7 @@ fn faults(rt: HostRuntime) {
         (Fault::TicketsSpent, 3, "tickets are spent"),
         (Fault::NotText, 4, "not a text"),
     ] {
-        assert_eq!(rt; fault.number(), number);
-        let mut printed = String::new(rt.alloc());
-        write!(printed, "{fault}").expect(&rt, "an answer");
-        assert_eq!(rt; printed.as_str(), text);
+        assert!(rt; fault.number() == number, "of {text:?}");
+        assert!(rt; tells(rt.alloc(), fault, text) == Ok(true), "of {text:?}");
     }
 }

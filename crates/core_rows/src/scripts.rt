@@ -1,13 +1,29 @@
 //! Lines that are of the grammar, and lines that aren't; scripts of many steps, and what a fault prints.
 
 use replay_script::{ScriptFault, next_line, replay_text};
-use std::alloc::Global;
+use std::alloc::{AllocError, Global};
 
 /// As `replay_text`. Where memory was refused, the call is made once more.
 fn replayed(alloc: Global, script: &str) -> Result<String, ScriptFault> {
     match replay_text(alloc, script) {
         Err(ScriptFault::Memory) => replay_text(alloc, script),
         first => first,
+    }
+}
+
+/// Whether the script is replayed, with this output.
+fn gives(alloc: Global, script: &str, output: &str) -> bool {
+    match replayed(alloc, script) {
+        Ok(written) => written.as_str() == output,
+        Err(_) => false,
+    }
+}
+
+/// Whether the script's first bad line is this one.
+fn is_bad_at(alloc: Global, script: &str, line: u64) -> bool {
+    match replayed(alloc, script) {
+        Err(ScriptFault::NotAStep(bad)) => bad == line,
+        _ => false,
     }
 }
 
@@ -39,8 +55,7 @@ fn good_lines(rt: HostRuntime) {
             "taken\nlinked e1 serial 1\nleft\ntaken\nno\nheld e1 1\n",
         ),
     ] {
-        let written = replayed(rt.alloc(), script).expect(&rt, "an answer");
-        assert!(rt; written.as_str() == output, "of {script:?}");
+        assert!(rt; gives(rt.alloc(), script, output), "of {script:?}");
     }
 }
 
@@ -133,8 +148,7 @@ Buckets 1";
 #[test]
 fn bad_lines(rt: HostRuntime) {
     for line in BAD_LINES.split('\n').skip(1) {
-        let fault = replayed(rt.alloc(), line).err();
-        assert_eq!(rt; fault, Some(ScriptFault::NotAStep(1)), "of {line:?}");
+        assert!(rt; is_bad_at(rt.alloc(), line, 1), "of {line:?}");
     }
 }
 
@@ -162,8 +176,7 @@ fn bad_line_is_named(rt: HostRuntime) {
         ("limits 1 1\n1 link\nbuckets 1\n", 3),
         ("limits 1 1\nbuckets 1\n1 link\n0 link", 4),
     ] {
-        let fault = replayed(rt.alloc(), script).err();
-        assert_eq!(rt; fault, Some(ScriptFault::NotAStep(line)), "of {script:?}");
+        assert!(rt; is_bad_at(rt.alloc(), script, line), "of {script:?}");
     }
 }
 
@@ -177,8 +190,7 @@ fn many_steps(rt: HostRuntime) {
         script.push_str("1 leave\n").expect(&rt, "room");
         lines.push_str("no\n").expect(&rt, "room");
     }
-    let written = replayed(alloc, &script).expect(&rt, "an answer");
-    assert!(rt; written.as_str() == lines.as_str());
+    assert!(rt; gives(alloc, &script, &lines));
 }
 
 #[test]
@@ -189,13 +201,17 @@ fn lines_one_by_one(rt: HostRuntime) {
     assert!(rt; next_line("").is_none());
 }
 
+/// Whether the fault is printed so.
+fn tells(alloc: Global, fault: ScriptFault, text: &str) -> Result<bool, AllocError> {
+    Ok(format!(in alloc; "{fault}")?.as_str() == text)
+}
+
 #[test]
 fn printed_faults(rt: HostRuntime) {
     for (fault, text) in [
         (ScriptFault::NotAStep(12), "line 12: not a step"),
         (ScriptFault::Memory, "no memory"),
     ] {
-        let printed = format!(in rt.alloc(); "{fault}").expect(&rt, "a text");
-        assert_eq!(rt; printed.as_str(), text);
+        assert!(rt; tells(rt.alloc(), fault, text) == Ok(true), "of {text:?}");
     }
 }

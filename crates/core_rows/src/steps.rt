@@ -57,14 +57,68 @@ fn ticket_of(text: &str, serial: u64) -> u64 {
     ticket_in(Buckets::usual(), text, serial)
 }
 
-// `check_in` with the usual number of buckets.
-fn check(
-    rt: &impl Abort,
+// A party's step, and the reply to it.
+type Row = (u32, Do, StepReply);
+
+type Plain = World<EmptyStaticAtomSet>;
+
+// These say nothing of what they do, so that each test is proved in a moment.
+
+fn linked(entry: u64, ticket: u64) -> StepReply {
+    Linked { entry, ticket }
+}
+
+fn world_with(rt: &impl Abort, alloc: Global, limits: Limits, buckets: Buckets) -> Plain {
+    World::with_buckets(alloc, limits, buckets).expect(rt, "a world")
+}
+
+fn new_world(rt: &impl Abort, alloc: Global) -> Plain {
+    World::new(alloc, Limits::greatest()).expect(rt, "a world")
+}
+
+// Whether this is the reply to the party's step.
+fn replies(
     alloc: Global,
-    limits: Limits,
-    rows: &[(u32, Do, StepReply)],
-    held: &[u64],
-) {
+    world: &mut Plain,
+    party: u32,
+    step: Do,
+    reply: StepReply,
+) -> Result<bool, Fault> {
+    Ok(world.step(party, step_of(alloc, step)?)? == reply)
+}
+
+fn run(world: &mut Plain, steps: &[(u32, Step)], given: &mut Vec<StepReply>) -> Result<(), Fault> {
+    world.run(steps, given)
+}
+
+// Makes the steps in one run, and appends what is replied and what has to be.
+fn run_rows(
+    alloc: Global,
+    world: &mut Plain,
+    rows: &[Row],
+    given: &mut Vec<StepReply>,
+    wanted: &mut Vec<StepReply>,
+) -> Result<(), Fault> {
+    let mut steps = Vec::new(alloc);
+    for (party, step, reply) in rows {
+        steps.push((*party, step_of(alloc, *step)?))?;
+        wanted.push(*reply)?;
+    }
+    run(world, &steps, given)
+}
+
+// Whether the first entries are held so often, and there are no others.
+fn are_held(world: &Plain, held: &[u64]) -> bool {
+    for (k, count) in held.iter().enumerate() {
+        if world.count(k as u64 + 1) != Some(*count) {
+            return false;
+        }
+    }
+    world.count(0).is_none() && world.count(held.len() as u64 + 1).is_none()
+}
+
+// `check_in` with the usual number of buckets.
+fn check(rt: &impl Abort, alloc: Global, limits: Limits, rows: &[Row], held: &[u64]) {
     check_in(rt, alloc, limits, Buckets::usual(), rows, held);
 }
 
@@ -74,33 +128,42 @@ fn check_in(
     alloc: Global,
     limits: Limits,
     buckets: Buckets,
-    rows: &[(u32, Do, StepReply)],
+    rows: &[Row],
     held: &[u64],
 ) {
-    let mut stepped = World::<EmptyStaticAtomSet>::with_buckets(alloc, limits, buckets).expect(
-        rt, "a world",
+    check_steps(
+        rt,
+        alloc,
+        &mut world_with(rt, alloc, limits, buckets),
+        rows,
+        held,
     );
-    let mut script = Vec::new(alloc);
-    let mut want = Vec::new(alloc);
+    check_run(
+        rt,
+        alloc,
+        &mut world_with(rt, alloc, limits, buckets),
+        rows,
+        held,
+    );
+}
+
+fn check_steps(rt: &impl Abort, alloc: Global, world: &mut Plain, rows: &[Row], held: &[u64]) {
     for (party, step, reply) in rows {
-        let again = step_of(alloc, *step).expect(rt, "a step");
-        script.push((*party, again)).expect(rt, "room");
-        let step = step_of(alloc, *step).expect(rt, "a step");
-        assert_eq!(rt; stepped.step(*party, step).expect(rt, "a reply"), *reply);
-        want.push(*reply).expect(rt, "room");
+        let outcome = replies(alloc, world, *party, *step, *reply);
+        assert!(rt;
+            outcome == Ok(true),
+            "to party {party} in place of {reply:?}"
+        );
     }
-    let mut ran = World::<EmptyStaticAtomSet>::with_buckets(alloc, limits, buckets).expect(
-        rt, "a world",
-    );
+    assert!(rt; are_held(world, held));
+}
+
+fn check_run(rt: &impl Abort, alloc: Global, world: &mut Plain, rows: &[Row], held: &[u64]) {
     let mut given = Vec::new(alloc);
-    ran.run(script.as_slice(), &mut given).expect(rt, "replies");
-    assert!(rt; given == want);
-    for (k, count) in held.iter().enumerate() {
-        let entry = k as u64 + 1;
-        assert_eq!(rt; stepped.count(entry), Some(*count));
-        assert_eq!(rt; ran.count(entry), Some(*count));
-    }
-    assert!(rt; ran.count(0).is_none() && ran.count(held.len() as u64 + 1).is_none());
+    let mut wanted = Vec::new(alloc);
+    run_rows(alloc, world, rows, &mut given, &mut wanted).expect(rt, "replies");
+    assert!(rt; given == wanted);
+    assert!(rt; are_held(world, held));
 }
 
 #[test]
@@ -109,7 +172,7 @@ fn two_parties_share_an_entry(rt: HostRuntime) {
     let rows = [
         (1, Do::Intern("interned"), Taken),
         (2, Do::Intern("interned"), No),
-        (1, Do::Link(true), Linked { entry: 1, ticket }),
+        (1, Do::Link(true), linked(1, ticket)),
         (1, Do::Leave, Left),
         (2, Do::Intern("interned"), Taken),
         (2, Do::Link(true), No),
@@ -125,26 +188,12 @@ fn a_dying_entry_is_linked_anew(rt: HostRuntime) {
     let second = ticket_of("tokenised", 2);
     let rows = [
         (1, Do::Intern("tokenised"), Taken),
-        (
-            1,
-            Do::Link(true),
-            Linked {
-                entry: 1,
-                ticket: first,
-            },
-        ),
+        (1, Do::Link(true), linked(1, first)),
         (1, Do::Leave, Left),
         (2, Do::Intern("tokenised"), Taken),
         (1, Do::Give(1), Given { left: 0 }),
         (2, Do::Add(1), Dying),
-        (
-            2,
-            Do::Link(true),
-            Linked {
-                entry: 2,
-                ticket: second,
-            },
-        ),
+        (2, Do::Link(true), linked(2, second)),
         (2, Do::Unlink(1), Unlinked),
         (2, Do::Leave, Left),
         (2, Do::Free(1), Freed),
@@ -158,7 +207,7 @@ fn limits_of_one(rt: HostRuntime) {
     let ticket = ticket_of("tokenised", 1);
     let rows = [
         (1, Do::Intern("tokenised"), Taken),
-        (1, Do::Link(true), Linked { entry: 1, ticket }),
+        (1, Do::Link(true), linked(1, ticket)),
         (1, Do::Leave, Left),
         (1, Do::Clone(1), Full),
         (2, Do::Intern("tokenised"), Taken),
@@ -174,15 +223,8 @@ fn limits_of_one(rt: HostRuntime) {
         (2, Do::Leave, Left),
         (2, Do::Free(1), Freed),
     ];
-    let limits = Limits::new(1, 1);
-    assert!(rt; limits.is_some());
-    check(
-        &rt,
-        rt.alloc(),
-        limits.unwrap_or(Limits::greatest()),
-        &rows,
-        &[0],
-    )
+    let limits = Limits::new(1, 1).expect(&rt, "limits");
+    check(&rt, rt.alloc(), limits, &rows, &[0]);
 }
 
 #[test]
@@ -202,7 +244,7 @@ fn a_holder_outside_of_a_pass(rt: HostRuntime) {
     let ticket = ticket_of("interned", 1);
     let rows = [
         (1, Do::Intern("interned"), Taken),
-        (1, Do::Link(true), Linked { entry: 1, ticket }),
+        (1, Do::Link(true), linked(1, ticket)),
         (2, Do::Clone(1), Cloned { holders: 2 }),
         (1, Do::Leave, Left),
         (2, Do::Give(1), Given { left: 1 }),
@@ -215,7 +257,7 @@ fn an_undecided_pass_stays(rt: HostRuntime) {
     let ticket = ticket_of("interned", 1);
     let rows = [
         (1, Do::Intern("interned"), Taken),
-        (1, Do::Link(true), Linked { entry: 1, ticket }),
+        (1, Do::Link(true), linked(1, ticket)),
         (1, Do::Leave, Left),
         (1, Do::Intern("interned"), Taken),
         (2, Do::Intern("interned"), No),
@@ -267,24 +309,10 @@ fn one_bucket_for_all_texts(rt: HostRuntime) {
     let rows = [
         (1, Do::Intern("interned"), Taken),
         (2, Do::Intern("tokenised"), No),
-        (
-            1,
-            Do::Link(true),
-            Linked {
-                entry: 1,
-                ticket: first,
-            },
-        ),
+        (1, Do::Link(true), linked(1, first)),
         (1, Do::Leave, Left),
         (2, Do::Intern("tokenised"), Taken),
-        (
-            2,
-            Do::Link(true),
-            Linked {
-                entry: 2,
-                ticket: second,
-            },
-        ),
+        (2, Do::Link(true), linked(2, second)),
         (2, Do::Leave, No),
         (2, Do::Unlink(1), Kept),
         (2, Do::Leave, Left),
@@ -302,18 +330,12 @@ fn most_buckets_keep_texts_apart(rt: HostRuntime) {
         (
             1,
             Do::Link(true),
-            Linked {
-                entry: 1,
-                ticket: ticket_in(buckets, "interned", 1),
-            },
+            linked(1, ticket_in(buckets, "interned", 1)),
         ),
         (
             2,
             Do::Link(true),
-            Linked {
-                entry: 2,
-                ticket: ticket_in(buckets, "tokenised", 1),
-            },
+            linked(2, ticket_in(buckets, "tokenised", 1)),
         ),
         (2, Do::Leave, Left),
         (1, Do::Leave, Left),
@@ -328,7 +350,7 @@ fn steps_that_are_not_enabled_answer_no(rt: HostRuntime) {
         (1, Do::Clone(1), No),
         (1, Do::Unlink(1), No),
         (1, Do::Intern("interned"), Taken),
-        (1, Do::Link(true), Linked { entry: 1, ticket }),
+        (1, Do::Link(true), linked(1, ticket)),
         (2, Do::Unlink(1), No),
         (1, Do::Unlink(2), No),
         (1, Do::Leave, Left),
@@ -341,30 +363,31 @@ fn steps_that_are_not_enabled_answer_no(rt: HostRuntime) {
     check(&rt, rt.alloc(), Limits::greatest(), &rows, &[0]);
 }
 
+// A linked entry of party 1, and then ten thousand times one holder more by party 2 and one less by party 1.
+fn many_steps(alloc: Global) -> Result<Vec<(u32, Step)>, AllocError> {
+    let mut steps = Vec::new(alloc);
+    steps.push((1, step_of(alloc, Do::Intern("interned"))?))?;
+    steps.push((1, Step::Link(true)))?;
+    steps.push((1, Step::Leave))?;
+    for _ in 0..10_000u32 {
+        steps.push((2, Step::Clone(1)))?;
+        steps.push((1, Step::Give(1)))?;
+    }
+    Ok(steps)
+}
+
+fn count_of(replies: &[StepReply], reply: StepReply) -> usize {
+    replies.iter().filter(|other| **other == reply).count()
+}
+
 #[test]
 fn twenty_thousand_steps_in_one_run(rt: HostRuntime) {
-    let alloc = rt.alloc();
-    let mut script = Vec::new(alloc);
-    for step in [Do::Intern("interned"), Do::Link(true), Do::Leave] {
-        script
-            .push((1, step_of(alloc, step).expect(&rt, "an answer")))
-            .expect(&rt, "room");
-    }
-    for _turn in 0..10_000u32 {
-        script.push((2, Step::Clone(1))).expect(&rt, "room");
-        script.push((1, Step::Give(1))).expect(&rt, "room");
-    }
-    let mut world = World::<EmptyStaticAtomSet>::new(alloc, Limits::greatest()).expect(
-        &rt, "a world",
-    );
-    let mut given = Vec::new(alloc);
-    world
-        .run(script.as_slice(), &mut given)
-        .expect(&rt, "replies");
-    let is_clone = |reply: &&StepReply| **reply == Cloned { holders: 2 };
-    let is_give = |reply: &&StepReply| **reply == Given { left: 1 };
-    assert_eq!(rt; given.len(), 20_003);
-    assert_eq!(rt; given.iter().filter(is_clone).count(), 10_000);
-    assert_eq!(rt; given.iter().filter(is_give).count(), 10_000);
-    assert_eq!(rt; world.count(1), Some(1));
+    let steps = many_steps(rt.alloc()).expect(&rt, "steps");
+    let mut world = new_world(&rt, rt.alloc());
+    let mut given = Vec::new(rt.alloc());
+    run(&mut world, &steps, &mut given).expect(&rt, "replies");
+    assert!(rt; given.len() == 20_003);
+    assert!(rt; count_of(&given, Cloned { holders: 2 }) == 10_000);
+    assert!(rt; count_of(&given, Given { left: 1 }) == 10_000);
+    assert!(rt; world.count(1) == Some(1));
 }

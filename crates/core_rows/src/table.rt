@@ -2,7 +2,7 @@
 
 ghost use Rattle.std.specs.Prelude.{◌^◌, ◌<◌};
 
-use std::alloc::Global;
+use std::alloc::{AllocError, Global};
 use std::process::Abort;
 use std::test::Fail;
 use string_cache_core::Fault;
@@ -14,8 +14,29 @@ use string_cache_core::word::{Buckets, Form, Limits, form_of};
 
 // These say nothing of what they do, so that each test is proved in a moment.
 
-fn intern<S: StaticAtomSet>(table: &mut Table<S>, text: &str) -> Result<u64, Fault> {
-    table.intern(text)
+type Plain = Table<EmptyStaticAtomSet>;
+
+fn new_table(rt: &impl Abort, alloc: Global) -> Plain {
+    Table::new(alloc).expect(rt, "a table")
+}
+
+fn table_with(rt: &impl Abort, alloc: Global, limits: Limits, buckets: Buckets) -> Plain {
+    Table::with_buckets(alloc, limits, buckets).expect(rt, "a table")
+}
+
+/// The word of a text that is interned.
+fn intern<S: StaticAtomSet>(rt: &impl Abort, table: &mut Table<S>, text: &str) -> u64 {
+    table.intern(text).expect(rt, "a word")
+}
+
+/// Whether the text is interned as this word.
+fn interns<S: StaticAtomSet>(table: &mut Table<S>, text: &str, word: u64) -> bool {
+    table.intern(text) == Ok(word)
+}
+
+/// Whether the text is refused so.
+fn refuses(table: &mut Plain, text: &str, fault: Fault) -> bool {
+    table.intern(text) == Err(fault)
 }
 
 fn holds<S: StaticAtomSet>(table: &Table<S>, word: u64) -> bool {
@@ -33,22 +54,18 @@ fn keeps<S: StaticAtomSet>(table: &Table<S>, entries: usize, bytes: u128) -> boo
     table.entries() == entries && table.text_bytes() == bytes
 }
 
-fn run<S: StaticAtomSet>(table: &mut Table<S>, calls: &[Call]) -> Result<Vec<TableReply>, Fault> {
+fn run(table: &mut Plain, calls: &[Call]) -> Result<Vec<TableReply>, Fault> {
     table.run(calls)
 }
 
 /// Gives a word that has to be held.
-fn give(rt: &impl Abort, table: &mut Table<EmptyStaticAtomSet>, word: u64) {
+fn give(rt: &impl Abort, table: &mut Plain, word: u64) {
     assert!(rt; table.holds(word));
     table.give(word);
 }
 
 /// Clones a word that has to be held.
-fn clone_word(
-    rt: &impl Abort,
-    table: &mut Table<EmptyStaticAtomSet>,
-    word: u64,
-) -> Result<u64, Fault> {
+fn clone_word(rt: &impl Abort, table: &mut Plain, word: u64) -> Result<u64, Fault> {
     assert!(rt; table.holds(word));
     table.clone_word(word)
 }
@@ -65,9 +82,14 @@ fn next_ticket(word: u64) -> Option<u64> {
     word.checked_add(TICKET_UNIT)
 }
 
+/// Whether the text is interned as this word, which is held and has no text in the table.
+fn interns_inline(table: &mut Plain, text: &str, word: u64) -> bool {
+    interns(table, text, word) && !has_text(table, word, text) && holds(table, word)
+}
+
 #[test]
 fn short_texts_have_inline_words(rt: HostRuntime) {
-    let mut table = Table::<EmptyStaticAtomSet>::new(rt.alloc()).expect(&rt, "a table");
+    let mut table = new_table(&rt, rt.alloc());
     for (text, word) in [
         ("", 0x1),
         ("\0", 0x11),
@@ -76,24 +98,19 @@ fn short_texts_have_inline_words(rt: HostRuntime) {
         ("foo", 0x6f6f_6631),
         ("abcdefg", 0x6766_6564_6362_6171),
     ] {
-        assert_eq!(rt; intern(&mut table, text).expect(&rt, "an answer"), word);
-        assert!(rt; !has_text(&table, word, text));
-        assert!(rt; holds(&table, word));
+        assert!(rt; interns_inline(&mut table, text, word), "of {text:?}");
     }
     assert!(rt; keeps(&table, 0, 0));
 }
 
 #[test]
 fn one_text_has_one_ticket(rt: HostRuntime) {
-    let mut table = Table::<EmptyStaticAtomSet>::new(rt.alloc()).expect(&rt, "a table");
-    let word = intern(&mut table, "abcdefgh").expect(&rt, "an answer");
+    let mut table = new_table(&rt, rt.alloc());
+    let word = intern(&rt, &mut table, "abcdefgh");
     assert!(rt; is_first(word));
-    let other = intern(&mut table, "interned").expect(&rt, "an answer");
+    let other = intern(&rt, &mut table, "interned");
     assert!(rt; word != other);
-    assert_eq!(rt;
-        intern(&mut table, "interned").expect(&rt, "an answer"),
-        other
-    );
+    assert!(rt; interns(&mut table, "interned", other));
     assert!(rt; has_text(&table, word, "abcdefgh"));
     assert!(rt; has_text(&table, other, "interned"));
 }
@@ -101,57 +118,47 @@ fn one_text_has_one_ticket(rt: HostRuntime) {
 #[test]
 fn static_texts_have_static_words(rt: HostRuntime) {
     let mut table = Table::<One>::new(rt.alloc()).expect(&rt, "a table");
-    assert_eq!(rt; intern(&mut table, "sentence").expect(&rt, "an answer"), 2);
+    assert!(rt; interns(&mut table, "sentence", 2));
     assert!(rt; has_text(&table, 2, "sentence"));
     assert!(rt; holds(&table, 2));
     assert!(rt; !holds(&table, 1 << 32 | 2));
-    assert!(rt; is_first(intern(&mut table, "sentencf").expect(&rt, "an answer")));
+    assert!(rt; is_first(intern(&rt, &mut table, "sentencf")));
 }
 
 #[test]
 fn a_word_goes_with_its_last_holder(rt: HostRuntime) {
-    let mut table = Table::<EmptyStaticAtomSet>::new(rt.alloc()).expect(&rt, "a table");
-    let word = intern(&mut table, "interned").expect(&rt, "an answer");
-    assert_eq!(rt;
-        intern(&mut table, "interned").expect(&rt, "an answer"),
-        word
-    );
+    let mut table = new_table(&rt, rt.alloc());
+    let word = intern(&rt, &mut table, "interned");
+    assert!(rt; interns(&mut table, "interned", word));
     assert!(rt; keeps(&table, 1, 8));
     give(&rt, &mut table, word);
     give(&rt, &mut table, word);
     assert!(rt; !holds(&table, word));
     assert!(rt; !has_text(&table, word, "interned"));
     assert!(rt; keeps(&table, 0, 0));
-    let next = intern(&mut table, "interned").expect(&rt, "an answer");
-    assert_eq!(rt; next_ticket(word), Some(next));
+    let next = intern(&rt, &mut table, "interned");
+    assert!(rt; next_ticket(word) == Some(next));
 }
 
 #[test]
 fn the_last_text_comes_in_the_place_of_one_that_goes(rt: HostRuntime) {
-    let mut table = Table::<EmptyStaticAtomSet>::new(rt.alloc()).expect(&rt, "a table");
-    let first = intern(&mut table, "the first").expect(&rt, "an answer");
-    let second = intern(&mut table, "the second").expect(&rt, "an answer");
-    let third = intern(&mut table, "the third").expect(&rt, "an answer");
+    let mut table = new_table(&rt, rt.alloc());
+    let first = intern(&rt, &mut table, "the first");
+    let second = intern(&rt, &mut table, "the second");
+    let third = intern(&rt, &mut table, "the third");
     give(&rt, &mut table, first);
     assert!(rt; has_text(&table, second, "the second"));
     assert!(rt; has_text(&table, third, "the third"));
-    assert_eq!(rt;
-        intern(&mut table, "the third").expect(&rt, "an answer"),
-        third
-    );
+    assert!(rt; interns(&mut table, "the third", third));
     assert!(rt; keeps(&table, 2, 19));
 }
 
-fn intern_call(alloc: Global, text: &str) -> Result<Call, Fault> {
+fn intern_call(alloc: Global, text: &str) -> Result<Call, AllocError> {
     Ok(Call::Intern(String::from_str(alloc, text)?))
 }
 
 /// The reply to one call that is run.
-fn run_one(
-    alloc: Global,
-    table: &mut Table<EmptyStaticAtomSet>,
-    call: Call,
-) -> Result<TableReply, Fault> {
+fn run_one(alloc: Global, table: &mut Plain, call: Call) -> Result<TableReply, Fault> {
     let mut calls = Vec::new(alloc);
     calls.push(call)?;
     match run(table, &calls)?.get(0) {
@@ -160,11 +167,24 @@ fn run_one(
     }
 }
 
+/// Whether this is the reply to one call that is run.
+fn replies(alloc: Global, table: &mut Plain, call: Call, reply: TableReply) -> bool {
+    run_one(alloc, table, call) == Ok(reply)
+}
+
+/// Whether the text is interned as this word by one call that is run.
+fn runs_intern(alloc: Global, table: &mut Plain, text: &str, word: u64) -> bool {
+    match intern_call(alloc, text) {
+        Ok(call) => replies(alloc, table, call, TableReply::Word(word)),
+        Err(_) => false,
+    }
+}
+
 #[test]
 fn calls_are_run(rt: HostRuntime) {
     let alloc = rt.alloc();
-    let mut table = Table::<EmptyStaticAtomSet>::new(alloc).expect(&rt, "a table");
-    let word = intern(&mut table, "interned").expect(&rt, "an answer");
+    let mut table = new_table(&rt, alloc);
+    let word = intern(&rt, &mut table, "interned");
     let next = next_ticket(word).expect(&rt, "a next ticket");
     for (call, reply) in [
         (Call::Clone(word), TableReply::Word(word)),
@@ -175,122 +195,113 @@ fn calls_are_run(rt: HostRuntime) {
         (Call::Clone(3), TableReply::NotHeld),
         (Call::Clone(0x6111), TableReply::Word(0x6111)),
         (Call::Give(0x6111), TableReply::Given),
-        (
-            intern_call(alloc, "foo").expect(&rt, "an answer"),
-            TableReply::Word(0x6f6f_6631),
-        ),
-        (
-            intern_call(alloc, "interned").expect(&rt, "an answer"),
-            TableReply::Word(next),
-        ),
     ] {
-        assert_eq!(rt;
-            run_one(alloc, &mut table, call).expect(&rt, "an answer"),
-            reply
-        );
+        assert!(rt; replies(alloc, &mut table, call, reply), "with {reply:?}");
     }
+    assert!(rt; runs_intern(alloc, &mut table, "foo", 0x6f6f_6631));
+    assert!(rt; runs_intern(alloc, &mut table, "interned", next));
     assert!(rt; keeps(&table, 1, 8));
+}
+
+/// The replies to four calls: the text is interned, an inline word and no word are given, and the text is interned.
+fn replies_in_order(alloc: Global, table: &mut Plain) -> Result<Vec<TableReply>, Fault> {
+    let mut calls = Vec::new(alloc);
+    calls.push(intern_call(alloc, "interned")?)?;
+    calls.push(Call::Give(0x6111))?;
+    calls.push(Call::Give(0))?;
+    calls.push(intern_call(alloc, "interned")?)?;
+    run(table, &calls)
 }
 
 #[test]
 fn a_run_replies_to_each_call_in_order(rt: HostRuntime) {
-    let alloc = rt.alloc();
-    let mut table = Table::<EmptyStaticAtomSet>::new(alloc).expect(&rt, "a table");
-    let calls = vec![in alloc;
-        intern_call(alloc, "interned").expect(&rt, "a text"),
-        Call::Give(0x6111),
-        Call::Give(0),
-        intern_call(alloc, "interned").expect(&rt, "a text"),
-    ]
-    .expect(&rt, "room");
-    let replies = run(&mut table, &calls).expect(&rt, "replies");
+    let mut table = new_table(&rt, rt.alloc());
+    let replies = replies_in_order(rt.alloc(), &mut table).expect(&rt, "replies");
     let [first, TableReply::Given, TableReply::NotHeld, last] = replies.as_slice() else {
         panic!(rt; "other replies");
     };
-    assert_eq!(rt; *first, *last);
+    assert!(rt; *first == *last);
     assert!(rt; keeps(&table, 1, 8));
 }
 
 #[test]
 fn a_text_has_no_more_holders_than_its_limit(rt: HostRuntime) {
     let limits = Limits::new(2, 1).expect(&rt, "limits");
-    let mut table = Table::<EmptyStaticAtomSet>::with_limits(rt.alloc(), limits).expect(
-        &rt, "a table",
-    );
-    let word = intern(&mut table, "interned").expect(&rt, "an answer");
-    assert_eq!(rt;
-        intern(&mut table, "interned").expect(&rt, "an answer"),
-        word
-    );
-    assert_eq!(rt; intern(&mut table, "interned"), Err(Fault::FullCount));
+    let mut table = table_with(&rt, rt.alloc(), limits, Buckets::usual());
+    let word = intern(&rt, &mut table, "interned");
+    assert!(rt; interns(&mut table, "interned", word));
+    assert!(rt; refuses(&mut table, "interned", Fault::FullCount));
     assert!(rt; keeps(&table, 1, 8));
-    assert_eq!(rt; clone_word(&rt, &mut table, word), Err(Fault::FullCount));
+    assert!(rt; clone_word(&rt, &mut table, word) == Err(Fault::FullCount));
     give(&rt, &mut table, word);
-    assert_eq!(rt;
-        clone_word(&rt, &mut table, word).expect(&rt, "an answer"),
-        word
-    );
-    assert_eq!(rt;
-        clone_word(&rt, &mut table, 0x6111).expect(&rt, "an answer"),
-        0x6111
-    );
+    assert!(rt; clone_word(&rt, &mut table, word) == Ok(word));
+    assert!(rt; clone_word(&rt, &mut table, 0x6111) == Ok(0x6111));
+}
+
+/// The replies to four calls: the text is interned twice, and this word is given twice.
+fn replies_to_pairs(alloc: Global, table: &mut Plain, word: u64) -> Result<Vec<TableReply>, Fault> {
+    let mut calls = Vec::new(alloc);
+    calls.push(intern_call(alloc, "interned")?)?;
+    calls.push(intern_call(alloc, "interned")?)?;
+    calls.push(Call::Give(word))?;
+    calls.push(Call::Give(word))?;
+    run(table, &calls)
 }
 
 /// Interning twice, giving twice and interning again, in two runs.
 #[test]
 fn a_run_leaves_spent_tickets_spent(rt: HostRuntime) {
     let alloc = rt.alloc();
-    let mut table = Table::<EmptyStaticAtomSet>::new(alloc).expect(&rt, "a table");
+    let mut table = new_table(&rt, alloc);
     let word = 0x1_0840; // the first of bucket 0x210, the low bits of the text's hash 0x556a_6dba_06a4_7210
-    let mut calls = Vec::new(alloc);
-    calls
-        .push(intern_call(alloc, "interned").expect(&rt, "an answer"))
-        .expect(&rt, "room");
-    calls
-        .push(intern_call(alloc, "interned").expect(&rt, "an answer"))
-        .expect(&rt, "room");
-    calls.push(Call::Give(word)).expect(&rt, "room");
-    calls.push(Call::Give(word)).expect(&rt, "room");
-    let replies = run(&mut table, &calls).expect(&rt, "an answer");
+    let replies = replies_to_pairs(alloc, &mut table, word).expect(&rt, "replies");
     let given = TableReply::Given;
     let interned = TableReply::Word(word);
     assert!(rt; replies.as_slice() == [interned, interned, given, given].as_slice());
     assert!(rt; keeps(&table, 0, 0));
-    let next = run_one(
-        alloc,
-        &mut table,
-        intern_call(alloc, "interned").expect(&rt, "an answer"),
-    )
-    .expect(&rt, "an answer");
-    assert_eq!(rt; next, TableReply::Word(word + TICKET_UNIT));
+    assert!(rt; runs_intern(alloc, &mut table, "interned", word + TICKET_UNIT));
+}
+
+/// The replies to so many calls that clone this word.
+fn replies_to_clones(
+    alloc: Global,
+    table: &mut Plain,
+    word: u64,
+    number: usize,
+) -> Result<Vec<TableReply>, Fault> {
+    let mut calls = Vec::new(alloc);
+    for _ in 0..number {
+        calls.push(Call::Clone(word))?;
+    }
+    run(table, &calls)
 }
 
 #[test]
 fn a_run_has_no_calls_or_many(rt: HostRuntime) {
-    let alloc = rt.alloc();
-    let mut table = Table::<EmptyStaticAtomSet>::new(alloc).expect(&rt, "a table");
-    let none = run(&mut table, &[]).expect(&rt, "an answer");
+    let mut table = new_table(&rt, rt.alloc());
+    let none = run(&mut table, &[]).expect(&rt, "replies");
     assert!(rt; none.is_empty());
-    let word = intern(&mut table, "interned").expect(&rt, "an answer");
-    let mut calls = Vec::new(alloc);
-    for _ in 0..20_000 {
-        calls.push(Call::Clone(word)).expect(&rt, "room");
-    }
-    let replies = run(&mut table, &calls).expect(&rt, "an answer");
-    assert_eq!(rt; replies.len(), 20_000);
+    let word = intern(&rt, &mut table, "interned");
+    let replies = replies_to_clones(rt.alloc(), &mut table, word, 20_000).expect(&rt, "replies");
+    assert!(rt; replies.len() == 20_000);
     assert!(rt; replies.iter().all(|reply| *reply == TableReply::Word(word)));
 }
 
 /// Characters of one to four bytes, ten together, doubled eighteen times.
+fn large_text(alloc: Global) -> Result<String, AllocError> {
+    let mut text = String::from_str(alloc, "né€𝄞")?;
+    for _ in 0..18 {
+        let half = text.clone()?;
+        text.push_str(&half)?;
+    }
+    Ok(text)
+}
+
 #[test]
 fn a_large_text_is_interned(rt: HostRuntime) {
-    let mut text = String::from_str(rt.alloc(), "né€𝄞").expect(&rt, "room");
-    for _ in 0..18 {
-        let half = text.clone().expect(&rt, "room");
-        text.push_str(&half).expect(&rt, "room");
-    }
-    let mut table = Table::<EmptyStaticAtomSet>::new(rt.alloc()).expect(&rt, "a table");
-    let word = intern(&mut table, &text).expect(&rt, "an answer");
+    let text = large_text(rt.alloc()).expect(&rt, "a text");
+    let mut table = new_table(&rt, rt.alloc());
+    let word = intern(&rt, &mut table, &text);
     assert!(rt; is_first(word));
     assert!(rt; has_text(&table, word, &text));
     assert!(rt; keeps(&table, 1, 2_621_440));
@@ -300,11 +311,11 @@ fn a_large_text_is_interned(rt: HostRuntime) {
 
 #[test]
 fn a_text_that_comes_and_goes_has_the_next_ticket(rt: HostRuntime) {
-    let mut table = Table::<EmptyStaticAtomSet>::new(rt.alloc()).expect(&rt, "a table");
+    let mut table = new_table(&rt, rt.alloc());
     let mut next = 0x1_0840; // the first of bucket 0x210
     for _ in 0..2_000 {
-        let word = intern(&mut table, "interned").expect(&rt, "an answer");
-        assert_eq!(rt; word, next);
+        let word = intern(&rt, &mut table, "interned");
+        assert!(rt; word == next);
         give(&rt, &mut table, word);
         next = next_ticket(word).expect(&rt, "a next ticket");
     }
@@ -340,24 +351,28 @@ fn bucket_numbers(alloc: Global) -> Result<Vec<Buckets>, Fail> {
     Ok(numbers)
 }
 
+/// Whether the only ticket of a bucket is given once: to the first of two texts of one bucket, and, once the first is given, to none.
+fn gives_one_ticket(rt: &impl Abort, alloc: Global, buckets: Buckets) -> Result<bool, Fail> {
+    let (first, second) = bucket_mates(alloc, buckets)?;
+    let limits = Limits::new(1, 1).ok_or("limits")?;
+    let mut table = table_with(rt, alloc, limits, buckets);
+    let word = intern(rt, &mut table, &first);
+    let is_spent = is_first(word) && refuses(&mut table, &second, Fault::TicketsSpent);
+    give(rt, &mut table, word);
+    Ok(
+        is_spent
+            && refuses(&mut table, &first, Fault::TicketsSpent)
+            && interns(&mut table, "abc", 0x6362_6131),
+    )
+}
+
 #[test]
 fn a_bucket_gives_no_more_tickets_than_its_limit(rt: HostRuntime) -> Result<(), Fail> {
-    let limits = Limits::new(1, 1).expect(&rt, "limits");
     for buckets in bucket_numbers(rt.alloc())? {
-        let (first, second) = bucket_mates(rt.alloc(), buckets)?;
-        let mut table = Table::<EmptyStaticAtomSet>::with_buckets(
-            rt.alloc(),
-            limits,
-            buckets,
-        ).expect(&rt, "a table");
-        let word = intern(&mut table, &first).expect(&rt, "an answer");
-        assert!(rt; is_first(word));
-        assert_eq!(rt; intern(&mut table, &second), Err(Fault::TicketsSpent));
-        give(&rt, &mut table, word);
-        assert_eq!(rt; intern(&mut table, &first), Err(Fault::TicketsSpent));
-        assert_eq!(rt;
-            intern(&mut table, "abc").expect(&rt, "an answer"),
-            0x6362_6131
+        assert!(rt;
+            gives_one_ticket(&rt, rt.alloc(), buckets)?,
+            "of {}",
+            buckets.bits()
         );
     }
     Ok(())
@@ -372,21 +387,19 @@ const WORDS: [u64; 15] = [
     0x1_c840, // bucket 0x3210
 ];
 
+/// Whether "interned" has this word first, and once that is given the next ticket of its bucket.
+fn gives_tickets_from(rt: &impl Abort, mut table: Plain, word: u64) -> bool {
+    let first = intern(rt, &mut table, "interned");
+    give(rt, &mut table, first);
+    let next = intern(rt, &mut table, "interned");
+    first == word && next_ticket(word) == Some(next)
+}
+
 #[test]
 fn a_ticket_has_the_low_bits_of_the_hash(rt: HostRuntime) -> Result<(), Fail> {
     for (buckets, word) in bucket_numbers(rt.alloc())?.into_iter().zip(WORDS) {
-        let mut table = Table::<EmptyStaticAtomSet>::with_buckets(
-            rt.alloc(),
-            Limits::greatest(),
-            buckets,
-        ).expect(&rt, "a table");
-        assert_eq!(rt;
-            intern(&mut table, "interned").expect(&rt, "an answer"),
-            word
-        );
-        give(&rt, &mut table, word);
-        let next = intern(&mut table, "interned").expect(&rt, "an answer");
-        assert_eq!(rt; next_ticket(word), Some(next));
+        let table = table_with(&rt, rt.alloc(), Limits::greatest(), buckets);
+        assert!(rt; gives_tickets_from(&rt, table, word), "from {word:#x}");
     }
     Ok(())
 }
@@ -394,18 +407,8 @@ fn a_ticket_has_the_low_bits_of_the_hash(rt: HostRuntime) -> Result<(), Fail> {
 #[test]
 fn one_bucket_gives_all_tickets(rt: HostRuntime) {
     let buckets = Buckets::new(0).expect(&rt, "bits");
-    let mut table = Table::<EmptyStaticAtomSet>::with_buckets(
-        rt.alloc(),
-        Limits::greatest(),
-        buckets,
-    ).expect(&rt, "a table");
-    assert_eq!(rt;
-        intern(&mut table, "interned").expect(&rt, "an answer"),
-        0x1_0000
-    );
-    assert_eq!(rt;
-        intern(&mut table, "tokenised").expect(&rt, "an answer"),
-        0x2_0000
-    );
+    let mut table = table_with(&rt, rt.alloc(), Limits::greatest(), buckets);
+    assert!(rt; interns(&mut table, "interned", 0x1_0000));
+    assert!(rt; interns(&mut table, "tokenised", 0x2_0000));
     assert!(rt; keeps(&table, 2, 17));
 }

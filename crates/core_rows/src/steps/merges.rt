@@ -1,7 +1,7 @@
 //! Steps of three parties, merged in many orders: what the world replies, read as calls of one map, is what a table replies.
 
-use super::{Do, step_of};
-use atomic_steps::steps::{StepReply, World};
+use super::{Do, Plain, step_of, world_with};
+use atomic_steps::steps::StepReply;
 use std::alloc::{AllocError, Global};
 use std::process::Abort;
 use string_cache_core::Fault;
@@ -171,11 +171,7 @@ impl History {
 }
 
 /// Makes the steps in the world, and reads the replies.
-fn history_of(
-    alloc: Global,
-    world: &mut World<EmptyStaticAtomSet>,
-    steps: &[(u32, Do)],
-) -> Result<History, Fault> {
+fn history_of(alloc: Global, world: &mut Plain, steps: &[(u32, Do)]) -> Result<History, Fault> {
     let mut history = History::new(alloc);
     for (party, step) in steps {
         let reply = world.step(*party, step_of(alloc, *step)?)?;
@@ -185,27 +181,33 @@ fn history_of(
 }
 
 /// How many entries of a world are held. There are at most four.
-fn held(world: &World<EmptyStaticAtomSet>) -> usize {
+fn held(world: &Plain) -> usize {
     (1..=4)
         .filter(|entry| world.count(*entry).unwrap_or(0) > 0)
         .count()
 }
 
+/// Whether a new table with these buckets replies as the history says, and then holds so many texts.
+fn is_history_of_table(
+    alloc: Global,
+    buckets: Buckets,
+    history: &History,
+    held: usize,
+) -> Result<bool, Fault> {
+    let limits = Limits::greatest();
+    let mut table = Table::<EmptyStaticAtomSet>::with_buckets(alloc, limits, buckets)?;
+    let replies = table.run(&history.calls)?;
+    Ok(replies == history.replies && table.entries() == held)
+}
+
 /// Makes a merge's steps in a world, and the calls that they are in a table, both with these buckets.
 fn check_merge(rt: &impl Abort, alloc: Global, buckets: Buckets, merge: u32) {
-    let limits = Limits::greatest();
     let steps = steps_of(alloc, merge).expect(rt, "steps");
-    assert_eq!(rt; steps.len(), 12, "in merge {merge}");
-    let mut world = World::<EmptyStaticAtomSet>::with_buckets(alloc, limits, buckets).expect(
-        rt, "a world",
-    );
+    assert!(rt; steps.len() == 12, "in merge {merge}");
+    let mut world = world_with(rt, alloc, Limits::greatest(), buckets);
     let history = history_of(alloc, &mut world, &steps).expect(rt, "a history");
-    let mut table = Table::<EmptyStaticAtomSet>::with_buckets(alloc, limits, buckets).expect(
-        rt, "a table",
-    );
-    let replies = table.run(&history.calls).expect(rt, "replies");
-    assert!(rt; replies == history.replies, "in merge {merge}");
-    assert_eq!(rt; table.entries(), held(&world), "in merge {merge}");
+    let outcome = is_history_of_table(alloc, buckets, &history, held(&world));
+    assert!(rt; outcome == Ok(true), "in merge {merge}");
 }
 
 #[test]

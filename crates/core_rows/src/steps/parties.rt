@@ -1,13 +1,10 @@
 //! Three parties, of the least and of the greatest number among them: each holds a bucket at once, and then they link, give,
 //! unlink and free a hundred entries and more, one after another.
 
-use super::{Do, step_of};
-use StepReply::{Cloned, Dying, Freed, Given, Kept, Left, Linked, Taken, Unlinked};
-use atomic_steps::steps::{StepReply, World};
-use std::alloc::Global;
-use std::process::Abort;
-use string_cache_core::static_sets::EmptyStaticAtomSet;
-use string_cache_core::word::{Limits, SERIAL_BOUND};
+use super::{Do, Row, linked, new_world, run_rows};
+use StepReply::{Cloned, Dying, Freed, Given, Kept, Left, Taken, Unlinked};
+use atomic_steps::steps::StepReply;
+use string_cache_core::word::SERIAL_BOUND;
 
 const TEXT: &str = "interned";
 
@@ -15,9 +12,6 @@ const PARTIES: [u32; 3] = [0, 7, u32::MAX];
 
 /// How many entries there are in the end.
 const ENTRIES: u32 = 120;
-
-/// A party's step, and the reply to it.
-type Row = (u32, Do, StepReply);
 
 /// The ticket of a serial of bucket 0x210, the low bits of the text's hash 0x556a_6dba_06a4_7210.
 fn ticket(serial: u64) -> u64 {
@@ -27,15 +21,11 @@ fn ticket(serial: u64) -> u64 {
 /// The first entry, in a pass beside two sweeps: three hold it, and then nobody.
 fn first_rows() -> [Row; 13] {
     let [least, other, greatest] = PARTIES;
-    let linked = Linked {
-        entry: 1,
-        ticket: ticket(1),
-    };
     [
         (least, Do::Intern(TEXT), Taken),
         (other, Do::Sweep(0), Taken),
         (greatest, Do::Sweep(4095), Taken),
-        (least, Do::Link(true), linked),
+        (least, Do::Link(true), linked(1, ticket(1))),
         (other, Do::Clone(1), Cloned { holders: 2 }),
         (greatest, Do::Clone(1), Cloned { holders: 3 }),
         (least, Do::Unlink(1), Kept),
@@ -52,14 +42,10 @@ fn first_rows() -> [Row; 13] {
 fn next_rows(party: u32, before: u32) -> [Row; 7] {
     let before = u64::from(before);
     let entry = before + 1;
-    let linked = Linked {
-        entry,
-        ticket: ticket(entry),
-    };
     [
         (party, Do::Intern(TEXT), Taken),
         (party, Do::Add(before), Dying),
-        (party, Do::Link(true), linked),
+        (party, Do::Link(true), linked(entry, ticket(entry))),
         (party, Do::Unlink(before), Unlinked),
         (party, Do::Leave, Left),
         (party, Do::Free(before), Freed),
@@ -67,47 +53,20 @@ fn next_rows(party: u32, before: u32) -> [Row; 7] {
     ]
 }
 
-/// Makes the steps in one run, and appends what is replied and what has to be.
-fn run_rows(
-    rt: &impl Abort,
-    alloc: Global,
-    world: &mut World<EmptyStaticAtomSet>,
-    rows: &[Row],
-    given: &mut Vec<StepReply>,
-    wanted: &mut Vec<StepReply>,
-) {
-    let mut steps = Vec::new(alloc);
-    for (party, step, reply) in rows {
-        let step = step_of(alloc, *step).expect(rt, "a step");
-        steps.push((*party, step)).expect(rt, "room");
-        wanted.push(*reply).expect(rt, "room");
-    }
-    world.run(steps.as_slice(), given).expect(rt, "replies");
-}
-
 #[test]
 fn three_parties_link_more_than_a_hundred_entries(rt: HostRuntime) {
     let alloc = rt.alloc();
-    let mut world = World::<EmptyStaticAtomSet>::new(alloc, Limits::greatest()).expect(
-        &rt, "a world",
-    );
+    let mut world = new_world(&rt, alloc);
     let mut given = Vec::new(alloc);
     let mut wanted = Vec::new(alloc);
-    run_rows(
-        &rt,
-        alloc,
-        &mut world,
-        &first_rows(),
-        &mut given,
-        &mut wanted,
-    );
+    run_rows(alloc, &mut world, &first_rows(), &mut given, &mut wanted).expect(&rt, "replies");
     for before in 1..ENTRIES {
         let party = PARTIES[(before % 3) as usize];
         let rows = next_rows(party, before);
-        run_rows(&rt, alloc, &mut world, &rows, &mut given, &mut wanted);
+        run_rows(alloc, &mut world, &rows, &mut given, &mut wanted).expect(&rt, "replies");
     }
     assert!(rt; given == wanted);
     let last = u64::from(ENTRIES);
-    assert_eq!(rt; world.count(last), Some(0));
+    assert!(rt; world.count(last) == Some(0));
     assert!(rt; world.count(last + 1).is_none());
 }
