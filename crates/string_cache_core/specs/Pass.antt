@@ -4,16 +4,16 @@ use Rattle.std.specs.Prelude.{◌≡◌, ◌≢◌, ℕ, List, [], ◌∷◌, Op
 
 -- What was asked of an entry, and answered: `add` gave a share, found it full or found it dying; `dying` said that it is
 -- gone, or that it stays.
-pub data Reply (S : Type 0) : Type 0 where
-  added : S → Reply S
-  full : Reply S
-  died : Reply S
-  gone : Reply S
-  stays : Reply S
+pub data PassReply (S : Type 0) : Type 0 where
+  added : S → PassReply S
+  full : PassReply S
+  died : PassReply S
+  gone : PassReply S
+  stays : PassReply S
 
 -- The replies are one for each of these texts, in order, and each was asked as a pass asks: by `add` where its text is
 -- wanted, until one was added or full, and all others by `dying`. A sweep wants none.
-abbrev pub Asked : {S : Type 0} → Option (List ℕ) → List (List ℕ) → List (Reply S) → Type 0
+abbrev pub Asked : {S : Type 0} → Option (List ℕ) → List (List ℕ) → List (PassReply S) → Type 0
 Asked wanted [] [] = Unit {0}
 Asked wanted (text ∷ texts) (added share ∷ replies) = (wanted ≡ Some text) × Asked None texts replies
 Asked wanted (text ∷ texts) (full ∷ replies) = (wanted ≡ Some text) × Asked None texts replies
@@ -29,7 +29,7 @@ pub data Outcome (S : Type 0) : Type 0 where
   absent : Outcome S
 
 -- what a pass with these replies finds
-abbrev pub outcome : {S : Type 0} → List (Reply S) → Outcome S
+abbrev pub outcome : {S : Type 0} → List (PassReply S) → Outcome S
 outcome [] = absent
 outcome (added share ∷ replies) = found share
 outcome (full ∷ replies) = found_full
@@ -38,7 +38,7 @@ outcome (gone ∷ replies) = outcome replies
 outcome (stays ∷ replies) = outcome replies
 
 -- the entries not answered as dying, in order
-abbrev pub kept : {E S : Type 0} → List E → List (Reply S) → List E
+abbrev pub kept : {E S : Type 0} → List E → List (PassReply S) → List E
 kept [] replies = []
 kept (e ∷ es) [] = []
 kept (e ∷ es) (added share ∷ replies) = e ∷ kept es replies

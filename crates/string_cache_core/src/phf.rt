@@ -169,6 +169,7 @@ pub fn hash(text: &str, key: u64) -> Hashes
 }
 
 /// The place of a text with these hashes, in static tables of `len` texts.
+#[doc(hidden)]
 #[inline]
 pub fn place(hashes: &Hashes, disps: &[(u32, u32)], len: u32) -> u32
     requires displaced { 1 ≤ length disps.now }

@@ -16,13 +16,13 @@ ghost use Rattle.string_cache_core.specs.Word.{inline_word, ticket_of};
 ghost use Rattle.string_cache_core.specs.declared.static_sets.TextForm.TheVariants.{Dynamic};
 
 mod call;
-mod held;
+mod holding;
 
 use crate::Fault;
 use crate::static_sets::{StaticAtomSet, TextForm, form_of_text, static_text};
 use crate::word::{Buckets, Form, Limits, form_of, static_word, ticket_word};
 pub use call::{Call, TableReply};
-use held::{Held, write_holders};
+use holding::{Holding, write_holders};
 use indexmap::{IndexMap, IndexSet};
 use std::alloc::Global;
 use std::marker::{Model, PhantomData};
@@ -33,7 +33,7 @@ pub struct Table<S: StaticAtomSet> {
     limits: Limits,
     buckets: Buckets,
     lasts: Vec<u64>, // a bucket's last serial
-    entries: IndexMap<String, Held>,
+    entries: IndexMap<String, Holding>,
     tickets: IndexSet<u64>, // each at the place of its entry
     bytes: u128, // of all texts together
     alloc: Global,
@@ -352,7 +352,7 @@ impl<S: StaticAtomSet> Table<S> {
         let _ = self.entries.len(); // whose contract says that it is below 2^63
         let key = String::from_str(self.alloc, text)?;
         let ticket = ticket_word(serial, bucket);
-        let Ok(_) = self.entries.insert(key, Held::new(ticket)) else {
+        let Ok(_) = self.entries.insert(key, Holding::new(ticket)) else {
             unreachable!()
         };
         let Ok(_) = self.tickets.insert(ticket) else {

@@ -10,12 +10,12 @@ use std::marker::Model;
 
 /// The ticket of a text, and how many hold it.
 #[derive(Drop)]
-pub struct Held {
+pub struct Holding {
     ticket: u64,
     holders: u64,
 }
 
-impl Model for Held {
+impl Model for Holding {
     ghost use Rattle.string_cache_core.specs.Map.{Holding};
 
     ghost Value = { Holding };
@@ -23,12 +23,12 @@ impl Model for Held {
     ghost view = { λ h. record { ticket = h.ticket; holders = h.holders } };
 }
 
-impl Held {
+impl Holding {
     /// A new text's ticket, with one holder.
-    pub fn new(ticket: u64) -> Held
+    pub fn new(ticket: u64) -> Holding
         ensures { result ≡ record { ticket = ticket; holders = 1 } }
     {
-        Held { ticket, holders: 1 }
+        Holding { ticket, holders: 1 }
     }
 
     /// The ticket.
@@ -54,7 +54,7 @@ impl Held {
 }
 
 /// Lets this number of holders have the text at a place.
-pub fn write_holders(entries: &mut IndexMap<String, Held>, at: usize, holders: u64)
+pub fn write_holders(entries: &mut IndexMap<String, Holding>, at: usize, holders: u64)
     requires { at < index_map_len entries.old }
     ensures written { (held : Holding) → slice_get (values entries.old) at ≡ Some held
         → entries.new ≡ with_value_at entries.old at (record { ticket = held.ticket; holders = holders }) }
