@@ -1,8 +1,9 @@
 //! Sets of each number of buckets. The low bits of the hash of "interned" are 0x7210, and a word is its serial times 0x10000 and its
 //! bucket times 4.
 
-use crate::samples::{bucket_numbers, hash_of};
+use crate::samples::{DefaultSet, atom_of, bucket_numbers, check_atom, check_linked, hash_of};
 use std::alloc::{AllocError, Global};
+use std::process::Abort;
 use std::sync::Wait;
 use std::test::Fail;
 use string_cache::DefaultAtom;
@@ -10,13 +11,36 @@ use string_cache::dynamic_set::Set;
 use string_cache::static_sets::EmptyStaticAtomSet;
 use string_cache::word::{Buckets, Limits};
 
-fn set_of(alloc: Global, buckets: Buckets) -> Result<Set<EmptyStaticAtomSet>, Fail> {
-    Ok(Set::with_buckets(alloc, Limits::greatest(), buckets)?)
+fn set_of(rt: &impl Abort, alloc: Global, buckets: Buckets) -> DefaultSet {
+    Set::with_buckets(alloc, Limits::greatest(), buckets).expect(rt, "a set")
+}
+
+fn buckets_of(rt: &impl Abort, bits: u8) -> Buckets {
+    Buckets::new(bits).expect(rt, "bits")
+}
+
+/// Whether the set has this many buckets, and one entry, in the bucket at this place.
+fn has_one_entry<R: Wait>(rt: &R, set: &DefaultSet, number: usize, place: usize) -> bool {
+    let mut is_right = set.buckets().len() == number;
+    for (at, bucket) in set.buckets().iter().enumerate() {
+        is_right = is_right && bucket.lock(rt).len() == usize::from(at == place);
+    }
+    is_right
+}
+
+/// Checks that the text's first word is this one, and that the next one has the next serial.
+fn check_words<R: Wait + Abort>(rt: &R, set: &DefaultSet, number: usize, place: usize, first: u64) {
+    let atom = atom_of(rt, set, "interned");
+    assert_eq!(rt; atom.unsafe_data(), first);
+    assert!(rt; has_one_entry(rt, set, number, place));
+    drop(atom);
+    let next = atom_of(rt, set, "interned");
+    assert_eq!(rt; next.unsafe_data().wrapping_sub(first), 0x1_0000);
 }
 
 /// A set of each number of bits is made, and each word's bucket is the one of its set's that its text lies in.
 #[test]
-fn words_have_the_bits_of_their_set(rt: HostRuntime) -> Result<(), Fail> {
+fn words_have_the_bits_of_their_set(rt: HostRuntime) {
     // The bits, how many buckets these are, the text's bucket, and the first word.
     for (bits, number, place, first) in [
         (0, 1, 0, 0x1_0000),
@@ -35,31 +59,19 @@ fn words_have_the_bits_of_their_set(rt: HostRuntime) -> Result<(), Fail> {
         (13, 8192, 0x1210, 0x1_4840),
         (14, 16384, 0x3210, 0x1_c840),
     ] {
-        let buckets = Buckets::new(bits).expect(&rt, "bits");
-        let set = set_of(rt.alloc(), buckets)?;
-        assert_eq!(rt; set.buckets().len(), number, "of {bits} bits");
-        let atom = DefaultAtom::from_str_in(&rt, &set, "interned").expect(&rt, "an atom");
-        assert_eq!(rt; atom.unsafe_data(), first, "of {bits} bits");
-        for (at, bucket) in set.buckets().iter().enumerate() {
-            assert!(rt; bucket.lock(&rt).len() == usize::from(at == place));
-        }
-        drop(atom);
-        let next = DefaultAtom::from_str_in(&rt, &set, "interned").expect(&rt, "an atom");
-        assert_eq!(rt; next.unsafe_data().wrapping_sub(first), 0x1_0000);
+        let set = set_of(&rt, rt.alloc(), buckets_of(&rt, bits));
+        check_words(&rt, &set, number, place, first);
     }
-    Ok(())
 }
 
 #[test]
-fn one_bucket_gives_all_tickets(rt: HostRuntime) -> Result<(), Fail> {
-    let buckets = Buckets::new(0).expect(&rt, "bits");
-    let set = set_of(rt.alloc(), buckets)?;
-    let first = DefaultAtom::from_str_in(&rt, &set, "interned").expect(&rt, "an atom");
-    let second = DefaultAtom::from_str_in(&rt, &set, "tokenised").expect(&rt, "an atom");
-    assert_eq!(rt; first.unsafe_data(), 0x1_0000);
-    assert_eq!(rt; second.unsafe_data(), 0x2_0000);
-    assert_eq!(rt; set.linked(&rt), 2);
-    Ok(())
+fn one_bucket_gives_all_tickets(rt: HostRuntime) {
+    let set = set_of(&rt, rt.alloc(), buckets_of(&rt, 0));
+    let first = atom_of(&rt, &set, "interned");
+    let second = atom_of(&rt, &set, "tokenised");
+    check_atom(&rt, &first, "interned", 0x1_0000);
+    check_atom(&rt, &second, "tokenised", 0x2_0000);
+    check_linked(&rt, &set, 2);
 }
 
 /// A text of the bucket.
@@ -77,7 +89,7 @@ fn text_of_bucket(alloc: Global, buckets: Buckets, place: usize) -> Result<Strin
 fn drop_under_locks<R: Wait, A: Drop>(
     rt: &R,
     alloc: Global,
-    set: &Set<EmptyStaticAtomSet>,
+    set: &DefaultSet,
     atoms: A,
 ) -> Result<(), AllocError> {
     let mut held = Vec::with_capacity(alloc, set.buckets().len())?;
@@ -89,23 +101,35 @@ fn drop_under_locks<R: Wait, A: Drop>(
     Ok(())
 }
 
+/// Checks that this many entries are linked, also once they die as the atoms are dropped, and that a sweep takes them all.
+fn check_sweep<R: Wait + Abort, A: Drop>(rt: &R, set: &DefaultSet, atoms: A, count: u128) {
+    check_linked(rt, set, count);
+    drop_under_locks(rt, set.allocator(), set, atoms).expect(rt, "room");
+    check_linked(rt, set, count);
+    set.sweep(rt);
+    check_linked(rt, set, 0);
+}
+
+/// An atom of a text of the bucket.
+fn atom_of_bucket<'s, R: Wait + Abort>(
+    rt: &R,
+    set: &'s DefaultSet,
+    buckets: Buckets,
+    place: usize,
+) -> Result<DefaultAtom<'s>, Fail> {
+    let text = text_of_bucket(set.allocator(), buckets, place)?;
+    Ok(atom_of(rt, set, &text))
+}
+
 #[test]
 fn sweep_takes_the_first_and_the_last_bucket(rt: HostRuntime) -> Result<(), Fail> {
-    let alloc = rt.alloc();
-    for buckets in bucket_numbers(alloc)? {
-        let set = set_of(alloc, buckets)?;
-        let first = text_of_bucket(alloc, buckets, 0)?;
-        let last = text_of_bucket(alloc, buckets, buckets.number() - 1)?;
-        let atoms = (
-            DefaultAtom::from_str_in(&rt, &set, &first).expect(&rt, "an atom"),
-            DefaultAtom::from_str_in(&rt, &set, &last).expect(&rt, "an atom"),
-        );
-        let linked = set.linked(&rt);
-        assert!(rt; linked == if buckets.bits() == 0 { 1 } else { 2 });
-        drop_under_locks(&rt, alloc, &set, atoms).expect(&rt, "room");
-        assert!(rt; set.linked(&rt) == linked);
-        set.sweep(&rt);
-        assert!(rt; set.linked(&rt) == 0);
+    for buckets in bucket_numbers(rt.alloc())? {
+        let owned = set_of(&rt, rt.alloc(), buckets);
+        let set = &owned;
+        let first = atom_of_bucket(&rt, set, buckets, 0)?;
+        let last = atom_of_bucket(&rt, set, buckets, buckets.number() - 1)?;
+        let count = if buckets.bits() == 0 { 1 } else { 2 };
+        check_sweep(&rt, set, (first, last), count);
     }
     Ok(())
 }
@@ -113,20 +137,14 @@ fn sweep_takes_the_first_and_the_last_bucket(rt: HostRuntime) -> Result<(), Fail
 /// One entry in each of 16 buckets, held and then dying: all are counted, and a sweep takes them all.
 #[test]
 fn sweep_takes_each_of_sixteen_buckets(rt: HostRuntime) -> Result<(), Fail> {
-    let alloc = rt.alloc();
-    let buckets = Buckets::new(4).expect(&rt, "bits");
-    let owned = set_of(alloc, buckets)?;
+    let buckets = buckets_of(&rt, 4);
+    let owned = set_of(&rt, rt.alloc(), buckets);
     let set = &owned;
-    let mut atoms = Vec::new(alloc);
+    let mut atoms = Vec::new(rt.alloc());
     for place in 0..16 {
-        let text = text_of_bucket(alloc, buckets, place)?;
-        let atom = DefaultAtom::from_str_in(&rt, set, &text).expect(&rt, "an atom");
+        let atom = atom_of_bucket(&rt, set, buckets, place)?;
         atoms.push(atom).expect(&rt, "room");
     }
-    assert_eq!(rt; set.linked(&rt), 16);
-    drop_under_locks(&rt, alloc, set, atoms).expect(&rt, "room");
-    assert_eq!(rt; set.linked(&rt), 16);
-    set.sweep(&rt);
-    assert_eq!(rt; set.linked(&rt), 0);
+    check_sweep(&rt, set, atoms, 16);
     Ok(())
 }

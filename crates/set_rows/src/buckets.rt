@@ -3,18 +3,35 @@
 mod links;
 
 use crate::samples::hash_of;
+use std::alloc::Global;
+use std::process::Abort;
 use std::sync::Wait;
 use string_cache::Fault;
 use string_cache::dynamic_set::{Bucket, CountReply, Counts, Entry, OwnCounts, Pass, Share};
 use string_cache::static_sets::EmptyStaticAtomSet;
 use string_cache::word::{Buckets, Limits, ticket_word};
 
-/// Looks at the ticket alone, and gives it as its share. Entries that aren't named die to `add` and stay to `dying`.
+/// Looks at tickets alone, and gives one as its share. Entries that aren't named die to `add` and stay to `dying`, which notes the first
+/// three that it is asked about.
 #[derive(Drop)]
 struct Fake {
     added: u64,
     full: u64,
     gone: u64,
+    tickets: [u64; 3],
+    asked: usize,
+}
+
+impl Fake {
+    fn new(added: u64, full: u64, gone: u64) -> Self {
+        Fake {
+            added,
+            full,
+            gone,
+            tickets: [0; 3],
+            asked: 0,
+        }
+    }
 }
 
 impl Counts for Fake {
@@ -35,47 +52,24 @@ impl Counts for Fake {
     }
 
     fn dying(&mut self, entry: &Entry) -> bool {
-        entry.ticket() == self.gone
-    }
-}
-
-/// Notes the first three tickets that it is asked about, each of which stays.
-#[derive(Drop)]
-struct Listing {
-    tickets: [u64; 3],
-    asked: usize,
-}
-
-impl Counts for Listing {
-    ghost use Rattle.std.specs.Prelude.{⊤};
-
-    type Share = u64;
-
-    ghost adds = { λ _ _ _ _. ⊤ };
-
-    ghost dies = { λ _ _ _ _. ⊤ };
-
-    fn add<R: Wait>(&mut self, _rt: &R, _entry: &Entry) -> CountReply<u64> {
-        CountReply::Full
-    }
-
-    fn dying(&mut self, entry: &Entry) -> bool {
+        let ticket = entry.ticket();
         if let Some(place) = self.tickets.get_mut(self.asked) {
-            *place = entry.ticket();
+            *place = ticket;
         }
         self.asked = self.asked.saturating_add(1);
-        false
+        ticket == self.gone
     }
 }
 
 /// The tickets of a bucket's entries, newest first, with zeros behind them.
 fn tickets(bucket: &mut Bucket<EmptyStaticAtomSet>) -> [u64; 3] {
-    let mut listing = Listing {
-        tickets: [0; 3],
-        asked: 0,
-    };
-    bucket.prune(&mut listing);
-    listing.tickets
+    let mut fake = Fake::new(0, 0, 0);
+    bucket.prune(&mut fake);
+    fake.tickets
+}
+
+fn new_bucket(alloc: Global) -> Bucket<EmptyStaticAtomSet> {
+    Bucket::new(alloc, Buckets::usual())
 }
 
 fn link(
@@ -104,6 +98,24 @@ fn found(answer: Pass<u64>) -> u64 {
     }
 }
 
+/// What a pass finds in a bucket of three entries of one text, and which tickets it leaves.
+fn pass_over_three<R: Wait + Abort>(rt: &R, alloc: Global, fake: Fake) -> (u64, [u64; 3]) {
+    let limits = Limits::greatest();
+    let mut bucket = new_bucket(alloc);
+    let one = link(&mut bucket, "tokenised", &limits).expect(rt, "an answer");
+    let two = link(&mut bucket, "tokenised", &limits).expect(rt, "an answer");
+    let three = link(&mut bucket, "tokenised", &limits).expect(rt, "an answer");
+    check_share(rt, &one, "tokenised", ticket_word(1, 0xe77));
+    check_share(rt, &two, "tokenised", ticket_word(2, 0xe77));
+    check_share(rt, &three, "tokenised", ticket_word(3, 0xe77));
+    assert!(rt; tickets(&mut bucket) == [three.ticket(), two.ticket(), one.ticket()]);
+    let mut fake = fake;
+    let finds = found(pass(rt, &mut bucket, "tokenised", &mut fake));
+    let left = tickets(&mut bucket);
+    assert!(rt; one.text() == "tokenised" && two.text() == three.text());
+    (finds, left)
+}
+
 #[test]
 fn passes(rt: HostRuntime) {
     let (first, second, third) = (
@@ -117,19 +129,8 @@ fn passes(rt: HostRuntime) {
         (0, third, first, 1, [third, second, 0]),
         (0, 0, 0, 0, [0, 0, 0]),
     ] {
-        let limits = Limits::greatest();
-        let mut bucket = Bucket::new(rt.alloc(), Buckets::usual());
-        let one = link(&mut bucket, "tokenised", &limits).expect(&rt, "an answer");
-        let two = link(&mut bucket, "tokenised", &limits).expect(&rt, "an answer");
-        let three = link(&mut bucket, "tokenised", &limits).expect(&rt, "an answer");
-        assert!(rt; (one.ticket(), two.ticket(), three.ticket()) == (first, second, third));
-        assert!(rt; tickets(&mut bucket) == [third, second, first]);
-
-        let mut fake = Fake { added, full, gone };
-        let answer = pass(&rt, &mut bucket, "tokenised", &mut fake);
-        assert!(rt; found(answer) == finds);
-        assert!(rt; tickets(&mut bucket) == left);
-        assert!(rt; one.text() == "tokenised" && two.text() == three.text());
+        let found = pass_over_three(&rt, rt.alloc(), Fake::new(added, full, gone));
+        assert!(rt; found == (finds, left));
     }
 }
 
@@ -143,10 +144,16 @@ fn intern<R: Wait>(
     bucket.intern(rt, text, hash, limits, &mut OwnCounts)
 }
 
+/// Checks that the share is of the text, under the ticket.
+fn check_share(rt: &impl Abort, share: &Share, text: &str, ticket: u64) {
+    assert!(rt; share.text() == text);
+    assert_eq!(rt; share.ticket(), ticket);
+}
+
 #[test]
 fn shares_of_a_bucket(rt: HostRuntime) {
     let limits = Limits::new(2, 2).expect(&rt, "limits");
-    let mut bucket = Bucket::new(rt.alloc(), Buckets::usual());
+    let mut bucket = new_bucket(rt.alloc());
     let one = intern(&rt, &mut bucket, "tokenised", &limits).expect(&rt, "an answer");
     let two = intern(&rt, &mut bucket, "tokenised", &limits).expect(&rt, "an answer");
     assert!(rt; one.ticket() == two.ticket());
@@ -156,7 +163,7 @@ fn shares_of_a_bucket(rt: HostRuntime) {
     drop(two);
     // The entry is dying, and goes with the pass that links the next.
     let next = intern(&rt, &mut bucket, "tokenised", &limits).expect(&rt, "an answer");
-    assert!(rt; next.ticket() == ticket_word(2, 0xe77));
+    check_share(&rt, &next, "tokenised", ticket_word(2, 0xe77));
     assert!(rt; tickets(&mut bucket) == [next.ticket(), 0, 0]);
 }
 
@@ -164,29 +171,24 @@ fn shares_of_a_bucket(rt: HostRuntime) {
 #[test]
 fn share_outlives_its_bucket(rt: HostRuntime) {
     let limits = Limits::greatest();
-    let mut bucket = Bucket::new(rt.alloc(), Buckets::usual());
+    let mut bucket = new_bucket(rt.alloc());
     let taken_out = link(&mut bucket, "tokenised", &limits).expect(&rt, "an answer");
-    let mut fake = Fake {
-        added: 0,
-        full: 0,
-        gone: 0,
-    };
+    let mut fake = Fake::new(0, 0, 0);
     assert!(rt; found(pass(&rt, &mut bucket, "tokenised", &mut fake)) == 0);
     assert!(rt; tickets(&mut bucket) == [0, 0, 0]);
     let linked = link(&mut bucket, "tokenised", &limits).expect(&rt, "an answer");
     drop(bucket);
-    assert!(rt; linked.text() == "tokenised" && linked.ticket() == ticket_word(2, 0xe77));
-    assert!(rt; taken_out.text() == "tokenised" && taken_out.ticket() == ticket_word(1, 0xe77));
+    check_share(&rt, &linked, "tokenised", ticket_word(2, 0xe77));
+    check_share(&rt, &taken_out, "tokenised", ticket_word(1, 0xe77));
 }
 
 #[test]
 fn spent_tickets(rt: HostRuntime) {
     let limits = Limits::new(1, 2).expect(&rt, "limits");
-    let mut bucket = Bucket::new(rt.alloc(), Buckets::usual());
-    for serial in [1, 2] {
+    let mut bucket = new_bucket(rt.alloc());
+    for ticket in [ticket_word(1, 0xe77), ticket_word(2, 0xe77)] {
         let share = link(&mut bucket, "tokenised", &limits).expect(&rt, "an answer");
-        assert!(rt; share.ticket() == ticket_word(serial, 0xe77));
-        assert!(rt; share.text() == "tokenised");
+        check_share(&rt, &share, "tokenised", ticket);
     }
     let refused = link(&mut bucket, "tokenised", &limits);
     assert!(rt; matches!(refused, Err(Fault::TicketsSpent)));
@@ -196,9 +198,9 @@ fn spent_tickets(rt: HostRuntime) {
 #[test]
 fn short_text_of_a_bucket(rt: HostRuntime) {
     let limits = Limits::greatest();
-    let mut bucket = Bucket::new(rt.alloc(), Buckets::usual());
+    let mut bucket = new_bucket(rt.alloc());
     let share = intern(&rt, &mut bucket, "foo", &limits).expect(&rt, "an answer");
     assert!(rt; share.ticket() == ticket_word(1, 0x283));
     let again = intern(&rt, &mut bucket, "foo", &limits).expect(&rt, "an answer");
-    assert!(rt; again.ticket() == share.ticket() && again.text() == "foo");
+    check_share(&rt, &again, "foo", share.ticket());
 }

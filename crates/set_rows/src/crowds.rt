@@ -1,6 +1,6 @@
 //! Texts of one bucket, and many workers at them.
 
-use crate::samples::{bucket_numbers, hash_of};
+use crate::samples::{DefaultSet, atom_of, bucket_numbers, check_linked, default_set, hash_of};
 use std::alloc::{AllocError, Global};
 use std::process::Abort;
 use std::sync::Wait;
@@ -62,25 +62,52 @@ fn bucket_mates(
     Ok(mates)
 }
 
-/// Interns both texts in a set, and goes on with clones.
-fn keeps_apart_in_a_set<R: Wait>(
+/// Whether the atoms of two texts have words of their own, and differ.
+fn are_apart(one: &DefaultAtom<'_>, two: &DefaultAtom<'_>) -> bool {
+    one.unsafe_data() != two.unsafe_data() && one != two
+}
+
+fn has_text(atom: &DefaultAtom<'_>, text: &str) -> bool {
+    atom.as_str() == text
+}
+
+/// Two atoms, as clones of others that have gone. Whether those were apart.
+fn cloned_apart<'s, R: Wait>(
     rt: &R,
-    alloc: Global,
-    buckets: Buckets,
+    set: &'s DefaultSet,
     first: &str,
     second: &str,
-) -> Result<bool, Fault> {
-    let set: Set<EmptyStaticAtomSet> = Set::with_buckets(alloc, Limits::greatest(), buckets)?;
-    let one = DefaultAtom::from_str_in(rt, &set, first)?;
-    let two = DefaultAtom::from_str_in(rt, &set, second)?;
-    let clones = (one.clone_atom(rt)?, two.clone_atom(rt)?);
-    let is_apart = one.unsafe_data() != two.unsafe_data() && one != two;
-    drop((one, two));
-    let is_kept = clones.0.as_str() == first && clones.1.as_str() == second;
-    drop(clones.0);
-    let is_left = clones.1.as_str() == second && set.linked(rt) == 1;
-    drop(clones.1);
-    Ok(is_apart && is_kept && is_left && set.linked(rt) == 0)
+) -> Result<(bool, DefaultAtom<'s>, DefaultAtom<'s>), Fault> {
+    let one = DefaultAtom::from_str_in(rt, set, first)?;
+    let two = DefaultAtom::from_str_in(rt, set, second)?;
+    let is_apart = are_apart(&one, &two);
+    Ok((is_apart, one.clone_atom(rt)?, two.clone_atom(rt)?))
+}
+
+/// Interns both texts in a set, and goes on with clones.
+fn check_apart_in_a_set<R: Wait + Abort>(rt: &R, set: &DefaultSet, first: &str, second: &str) {
+    let (is_apart, one, two) = cloned_apart(rt, set, first, second).expect(rt, "atoms");
+    assert!(rt; is_apart && has_text(&one, first) && has_text(&two, second));
+    drop(one);
+    assert!(rt; has_text(&two, second));
+    check_linked(rt, set, 1);
+    drop(two);
+    check_linked(rt, set, 0);
+}
+
+// These say nothing of what they do, so that what calls them is proved in a moment.
+
+/// The word of a text, which is held twice.
+fn hold_twice(
+    rt: &impl Abort,
+    table: &mut Table<EmptyStaticAtomSet>,
+    text: &str,
+) -> Result<u64, Fault> {
+    let word = table.intern(text)?;
+    assert!(rt; table.holds(word));
+    let clone = table.clone_word(word)?;
+    assert_eq!(rt; clone, word);
+    Ok(word)
 }
 
 /// Gives a word that has to be held.
@@ -89,37 +116,52 @@ fn give(rt: &impl Abort, table: &mut Table<EmptyStaticAtomSet>, word: u64) {
     table.give(word);
 }
 
-/// A clone of a word that has to be held.
-fn clone_word(
-    rt: &impl Abort,
-    table: &mut Table<EmptyStaticAtomSet>,
-    word: u64,
-) -> Result<u64, Fault> {
-    assert!(rt; table.holds(word));
-    table.clone_word(word)
+/// Whether the table has the text under the word.
+fn is_text_of(table: &Table<EmptyStaticAtomSet>, word: u64, text: &str) -> bool {
+    match table.text(word) {
+        Some(own) => own == text,
+        None => false,
+    }
+}
+
+fn has_entries(table: &Table<EmptyStaticAtomSet>, count: usize) -> bool {
+    table.entries() == count
 }
 
 /// The same in a table.
-fn keeps_apart_in_a_table(
+fn check_apart_in_a_table(
     rt: &impl Abort,
+    table: &mut Table<EmptyStaticAtomSet>,
+    first: &str,
+    second: &str,
+) -> Result<(), Fault> {
+    let one = hold_twice(rt, table, first)?;
+    let two = hold_twice(rt, table, second)?;
+    assert!(rt; one != two);
+    give(rt, table, one);
+    give(rt, table, two);
+    assert!(rt; is_text_of(table, one, first) && is_text_of(table, two, second));
+    give(rt, table, one);
+    assert!(rt; is_text_of(table, two, second) && has_entries(table, 1));
+    give(rt, table, two);
+    assert!(rt; has_entries(table, 0));
+    Ok(())
+}
+
+/// Checks two texts of one bucket in a set and in a table of this many buckets.
+fn check_apart<R: Wait + Abort>(
+    rt: &R,
     alloc: Global,
     buckets: Buckets,
     first: &str,
     second: &str,
-) -> Result<bool, Fault> {
-    let limits = Limits::greatest();
-    let mut table = Table::<EmptyStaticAtomSet>::with_buckets(alloc, limits, buckets)?;
-    let one = table.intern(first)?;
-    let two = table.intern(second)?;
-    let is_same = clone_word(rt, &mut table, one)? == one
-        && clone_word(rt, &mut table, two)? == two;
-    give(rt, &mut table, one);
-    give(rt, &mut table, two);
-    let is_kept = table.text(one) == Some(first) && table.text(two) == Some(second);
-    give(rt, &mut table, one);
-    let is_left = table.text(two) == Some(second) && table.entries() == 1;
-    give(rt, &mut table, two);
-    Ok(one != two && is_same && is_kept && is_left && table.entries() == 0)
+) -> Result<(), Fault> {
+    assert!(rt; first != second);
+    assert!(rt; bucket_of_text(buckets, first) == bucket_of_text(buckets, second));
+    let set = Set::with_buckets(alloc, Limits::greatest(), buckets)?;
+    check_apart_in_a_set(rt, &set, first, second);
+    let mut table = Table::with_buckets(alloc, Limits::greatest(), buckets)?;
+    check_apart_in_a_table(rt, &mut table, first, second)
 }
 
 /// Of one text more than there are buckets two have one bucket.
@@ -132,20 +174,13 @@ fn two_texts_of_one_bucket(rt: HostRuntime) -> Result<(), Fail> {
         let [first, second] = mates.as_slice() else {
             return Err("not two texts".into());
         };
-        assert!(rt; first != second);
-        assert!(rt; bucket_of_text(buckets, first) == bucket_of_text(buckets, second));
-        assert!(rt; keeps_apart_in_a_set(&rt, alloc, buckets, first, second)?);
-        assert!(rt; keeps_apart_in_a_table(&rt, alloc, buckets, first, second)?);
+        check_apart(&rt, alloc, buckets, first, second)?;
     }
     Ok(())
 }
 
 /// Interns, clones and drops each of the texts, again and again. Whether each atom had its text.
-fn turn_over<R: Wait>(
-    rt: &R,
-    set: &Set<EmptyStaticAtomSet>,
-    texts: &[String],
-) -> Result<bool, Fault> {
+fn turn_over<R: Wait>(rt: &R, set: &DefaultSet, texts: &[String]) -> Result<bool, Fault> {
     let mut is_same = true;
     for _ in 0..1000 {
         for text in texts {
@@ -158,18 +193,25 @@ fn turn_over<R: Wait>(
     Ok(is_same)
 }
 
+/// Workers at these texts. Whether each atom had its text, and whether none is left linked.
+fn work_together<R: Threads + Wait + Sync>(
+    rt: &R,
+    set: &DefaultSet,
+    texts: &[String],
+) -> Result<bool, AllocError> {
+    let turns = thread::map_indices(rt, set.allocator(), 64, &|_| turn_over(rt, set, texts))?;
+    set.sweep(rt);
+    Ok(turns.len() == 64 && turns.iter().all(|turn| *turn == Ok(true)) && set.linked(rt) == 0)
+}
+
 /// Workers at eleven texts of one bucket, in a set of 2 to the power of `bits` buckets. As ten texts for each bucket would be fewer, some
 /// bucket has eleven.
 fn check_workers<R: Threads + Wait + Sync>(rt: &R, alloc: Global, bits: u8) -> Result<bool, Fail> {
     let buckets = Buckets::new(bits).ok_or("bits")?;
     let texts = numbers(alloc, 10 * buckets.number() + 1)?;
     let mates = bucket_mates(alloc, buckets, &texts, 11)?;
-    let set: Set<EmptyStaticAtomSet> = Set::with_buckets(alloc, Limits::greatest(), buckets)?;
-    let (shared, texts) = (&set, mates.as_slice());
-    let turns = thread::map_indices(rt, alloc, 64, &|_| turn_over(rt, shared, texts))?;
-    let is_same = turns.len() == 64 && turns.iter().all(|turn| *turn == Ok(true));
-    set.sweep(rt);
-    Ok(mates.len() == 11 && is_same && set.linked(rt) == 0)
+    let set = Set::with_buckets(alloc, Limits::greatest(), buckets)?;
+    Ok(mates.len() == 11 && work_together(rt, &set, &mates)?)
 }
 
 #[test]
@@ -193,15 +235,10 @@ fn many_workers_at_one_of_the_most_buckets(rt: HostRuntime) -> Result<(), Fail> 
 /// What nobody holds doesn't stay, in a loop over many texts.
 #[test]
 fn ten_thousand_texts_come_and_go(rt: HostRuntime) {
-    let set: Set<EmptyStaticAtomSet> = Set::new(rt.alloc()).expect(&rt, "a set");
-    for (n, text) in numbers(rt.alloc(), 10_000)
-        .expect(&rt, "an answer")
-        .iter()
-        .enumerate()
-    {
-        let atom = Atom::from_str_in(&rt, &set, text).expect(&rt, "an atom");
-        assert!(rt; atom.as_str() == text.as_str());
-        drop(atom);
+    let set = default_set(&rt, rt.alloc());
+    let texts = numbers(rt.alloc(), 10_000).expect(&rt, "an answer");
+    for (n, text) in texts.iter().enumerate() {
+        assert!(rt; has_text(&atom_of(&rt, &set, text), text));
         if n % 1000 == 999 {
             assert!(rt; set.linked(&rt) == 0, "after {n}");
         }

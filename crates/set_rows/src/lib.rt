@@ -1,9 +1,7 @@
-//! Rows with worked values of sets and atoms, and what no contract says of them: which locks are taken, what is counted, and what threads
-//! see of each other. They stand apart from those crates, since a crate with tests is proved twice.
+//! Rows with worked values of sets and their buckets, and what no contract says of them: which locks are taken, what is counted, and what
+//! threads see of each other. They stand apart from those crates, since a crate with tests is proved twice.
 #![tactic(auto)]
 
-#[cfg(test)]
-mod atoms;
 #[cfg(test)]
 mod bits;
 #[cfg(test)]
@@ -11,14 +9,8 @@ mod buckets;
 #[cfg(test)]
 mod crowds;
 #[cfg(test)]
-mod holders;
-#[cfg(test)]
 mod locks;
 #[cfg(test)]
-mod printed;
-#[cfg(test)]
 mod samples;
-#[cfg(test)]
-mod texts;
 #[cfg(test)]
 mod threads;

@@ -1,8 +1,9 @@
 //! Buckets' locks that are held meanwhile, and what stays linked. By OpenSSL's SipHash the bucket of "afterwards" is 0, of
 //! "geometric" 0xfff, and of "forgotten" and "magnitude" 0x72f.
 
-use crate::samples::One;
+use crate::samples::{DefaultSet, atom_of, check_atom, check_linked, default_set, lock_of};
 use serde_json::Value;
+use std::process::Abort;
 use std::sync::atomic::{AtomicBool, Ordering};
 use std::sync::{Mutex, Wait};
 use std::thread::{self, Threads};
@@ -11,122 +12,118 @@ use string_cache::dynamic_set::{Bucket, Set};
 use string_cache::static_sets::EmptyStaticAtomSet;
 use string_cache::word::ticket_word;
 use string_cache::{Atom, DefaultAtom, Fault};
+use string_cache_core::samples::One;
+
+/// Whether each lock is free but this one's, or each, where there is no such bucket.
+fn are_free(set: &DefaultSet, held: usize) -> bool {
+    let mut is_right = true;
+    for (at, bucket) in set.buckets().iter().enumerate() {
+        is_right = is_right && bucket.try_lock().is_some() == (at != held);
+    }
+    is_right
+}
 
 /// The other buckets' locks are free meanwhile, and the drop returns.
 #[test]
 fn last_drop_under_a_held_lock(rt: HostRuntime) {
-    let set: Set<EmptyStaticAtomSet> = Set::new(rt.alloc()).expect(&rt, "a set");
-    let atom = Atom::from_str_in(&rt, &set, "interned").expect(&rt, "an atom");
-    let held = set.buckets().get(0x210).expect(&rt, "a bucket").lock(&rt);
-    for (at, bucket) in set.buckets().iter().enumerate() {
-        assert!(rt; bucket.try_lock().is_some() == (at != 0x210));
-    }
+    let set = default_set(&rt, rt.alloc());
+    let atom = atom_of(&rt, &set, "interned");
+    let held = lock_of(&rt, &set, 0x210);
+    assert!(rt; are_free(&set, 0x210));
     drop(atom);
     drop(held);
-    assert!(rt; set.linked(&rt) == 1);
+    check_linked(&rt, &set, 1);
     set.sweep(&rt);
-    assert!(rt; set.linked(&rt) == 0);
+    check_linked(&rt, &set, 0);
 }
 
 #[test]
 fn text_of_a_dying_entry_gets_a_new_one(rt: HostRuntime) {
-    let set: Set<EmptyStaticAtomSet> = Set::new(rt.alloc()).expect(&rt, "a set");
-    let atom = Atom::from_str_in(&rt, &set, "interned").expect(&rt, "an atom");
-    let held = set.buckets().get(0x210).expect(&rt, "a bucket").lock(&rt);
+    let set = default_set(&rt, rt.alloc());
+    let atom = atom_of(&rt, &set, "interned");
+    let held = lock_of(&rt, &set, 0x210);
     drop(atom);
     drop(held);
-    let next = Atom::from_str_in(&rt, &set, "interned").expect(&rt, "an atom");
-    assert!(rt; next.unsafe_data() == ticket_word(2, 0x210));
-    assert!(rt; set.linked(&rt) == 1);
+    let next = atom_of(&rt, &set, "interned");
+    check_atom(&rt, &next, "interned", ticket_word(2, 0x210));
+    check_linked(&rt, &set, 1);
+}
+
+/// Interns both held texts again, and sweeps: neither goes.
+fn check_held<R: Wait + Abort>(rt: &R, set: &DefaultSet, first: u64, second: u64) {
+    check_atom(rt, &atom_of(rt, set, "forgotten"), "forgotten", first);
+    check_atom(rt, &atom_of(rt, set, "magnitude"), "magnitude", second);
+    set.sweep(rt);
+    check_linked(rt, set, 2);
 }
 
 /// Passes for the other text, interning both again, sweeps and drops that aren't the last leave an entry that has a share.
 #[test]
 fn held_texts_stay_linked(rt: HostRuntime) {
-    let set: Set<EmptyStaticAtomSet> = Set::new(rt.alloc()).expect(&rt, "a set");
-    let forgotten = Atom::from_str_in(&rt, &set, "forgotten").expect(&rt, "an atom");
-    let magnitude = Atom::from_str_in(&rt, &set, "magnitude").expect(&rt, "an atom");
-    assert!(rt; forgotten.unsafe_data() == ticket_word(1, 0x72f));
-    assert!(rt; magnitude.unsafe_data() == ticket_word(2, 0x72f));
+    let set = default_set(&rt, rt.alloc());
+    let forgotten = atom_of(&rt, &set, "forgotten");
+    let magnitude = atom_of(&rt, &set, "magnitude");
     for _ in 0..2 {
-        assert!(rt;
-            Atom::from_str_in(&rt, &set, "forgotten")
-                .expect(&rt, "an atom")
-                .unsafe_data()
-                == forgotten.unsafe_data()
-        );
-        assert!(rt;
-            Atom::from_str_in(&rt, &set, "magnitude")
-                .expect(&rt, "an atom")
-                .unsafe_data()
-                == magnitude.unsafe_data()
-        );
-        set.sweep(&rt);
-        assert!(rt; set.linked(&rt) == 2);
+        check_held(&rt, &set, ticket_word(1, 0x72f), ticket_word(2, 0x72f));
     }
     drop(forgotten);
-    assert!(rt; set.linked(&rt) == 1 && magnitude.as_str() == "magnitude");
+    check_linked(&rt, &set, 1);
+    check_atom(&rt, &magnitude, "magnitude", ticket_word(2, 0x72f));
+}
+
+/// Drops atoms while the locks of the first bucket, the last one and one between are held.
+fn drop_under_three_locks<R: Wait + Abort, A: Drop>(rt: &R, set: &DefaultSet, atoms: A) {
+    let _first = lock_of(rt, set, 0);
+    let _second = lock_of(rt, set, 0x72f);
+    let _last = lock_of(rt, set, 0xfff);
+    drop(atoms);
 }
 
 /// Entries die under held locks, so that their own drops leave them linked.
 #[test]
 fn sweep_reaches_each_bucket(rt: HostRuntime) {
-    let owned: Set<EmptyStaticAtomSet> = Set::new(rt.alloc()).expect(&rt, "a set");
+    let owned = default_set(&rt, rt.alloc());
     let set = &owned;
     let mut atoms = Vec::new(rt.alloc());
     for text in ["afterwards", "forgotten", "magnitude", "geometric"] {
-        let atom = Atom::from_str_in(&rt, set, text).expect(&rt, "an atom");
-        atoms.push(atom).expect(&rt, "room");
+        atoms.push(atom_of(&rt, set, text)).expect(&rt, "room");
     }
-    assert!(rt; set.linked(&rt) == 4);
-    let first = set.buckets().get(0).expect(&rt, "a bucket").lock(&rt);
-    let second = set.buckets().get(0x72f).expect(&rt, "a bucket").lock(&rt);
-    let last = set.buckets().get(0xfff).expect(&rt, "a bucket").lock(&rt);
-    drop(atoms);
-    drop(first);
-    drop(second);
-    drop(last);
-    assert!(rt; set.linked(&rt) == 4);
+    check_linked(&rt, set, 4);
+    drop_under_three_locks(&rt, set, atoms);
+    check_linked(&rt, set, 4);
     set.sweep(&rt);
-    assert!(rt; set.linked(&rt) == 0);
+    check_linked(&rt, set, 0);
 }
 
 #[test]
 fn drop_of_one_of_two_shares_takes_out_nothing(rt: HostRuntime) {
-    let set: Set<EmptyStaticAtomSet> = Set::new(rt.alloc()).expect(&rt, "a set");
-    let dying = Atom::from_str_in(&rt, &set, "forgotten").expect(&rt, "an atom");
-    let first = Atom::from_str_in(&rt, &set, "magnitude").expect(&rt, "an atom");
+    let set = default_set(&rt, rt.alloc());
+    let dying = atom_of(&rt, &set, "forgotten");
+    let first = atom_of(&rt, &set, "magnitude");
     let second = first.clone_atom(&rt).expect(&rt, "an atom");
-    let held = set.buckets().get(0x72f).expect(&rt, "a bucket").lock(&rt);
+    let held = lock_of(&rt, &set, 0x72f);
     drop(dying);
     drop(held);
     drop(second);
-    assert!(rt; set.linked(&rt) == 2);
+    check_linked(&rt, &set, 2);
     drop(first);
-    assert!(rt; set.linked(&rt) == 0);
+    check_linked(&rt, &set, 0);
 }
 
 /// Entries of other buckets that died under their locks stay linked, and no lock is kept.
 #[test]
 fn last_drop_prunes_its_own_bucket_alone(rt: HostRuntime) {
-    let set: Set<EmptyStaticAtomSet> = Set::new(rt.alloc()).expect(&rt, "a set");
-    let atom = Atom::from_str_in(&rt, &set, "interned").expect(&rt, "an atom");
+    let set = default_set(&rt, rt.alloc());
+    let atom = atom_of(&rt, &set, "interned");
     let others = (
-        Atom::from_str_in(&rt, &set, "afterwards").expect(&rt, "an atom"),
-        Atom::from_str_in(&rt, &set, "geometric").expect(&rt, "an atom"),
+        atom_of(&rt, &set, "afterwards"),
+        atom_of(&rt, &set, "geometric"),
     );
-    let held = (
-        set.buckets().get(0).expect(&rt, "a bucket").lock(&rt),
-        set.buckets().get(0xfff).expect(&rt, "a bucket").lock(&rt),
-    );
-    drop(others);
-    drop(held);
+    drop_under_three_locks(&rt, &set, others);
     drop(atom);
-    for bucket in set.buckets() {
-        assert!(rt; bucket.try_lock().is_some());
-    }
+    assert!(rt; are_free(&set, usize::MAX));
     for _ in 0..2 {
-        assert!(rt; set.linked(&rt) == 2);
+        check_linked(&rt, &set, 2);
     }
 }
 
@@ -162,17 +159,20 @@ fn beside<R: Threads + Clock, L: Drop, T: Send, F: FnOnce() -> T + Send>(
     )
 }
 
-/// Interns, clones and drops an inline and a static text, and reads JSON values. Whether each was as it should be.
+/// Interns, clones and drops a text that isn't dynamic. Whether it was as it should be.
+fn keeps_fixed_text<R: Wait>(rt: &R, set: &Set<One>, text: &str) -> Result<bool, Fault> {
+    let atom = Atom::from_str_in(rt, set, text)?;
+    let clone = atom.clone_atom(rt)?;
+    let lower = clone.to_ascii_lowercase_in(rt, set)?;
+    Ok(lower.eq_str(text) && !lower.is_dynamic())
+}
+
+/// Works with an inline and a static text, and reads JSON values. Whether each was as it should be.
 fn work_without_locks<R: Wait>(rt: &R, set: &Set<One>, dynamic: &Atom<One>) -> Result<bool, Fault> {
-    let mut is_right = Atom::from_json_in(rt, set, &Value::Null).err() == Some(Fault::NotText);
-    for text in ["foo", "sentence"] {
-        let atom = Atom::from_str_in(rt, set, text)?;
-        let clone = atom.clone_atom(rt)?;
-        let lower = clone.to_ascii_lowercase_in(rt, set)?;
-        is_right = is_right && lower.eq_str(text) && !lower.is_dynamic();
-    }
+    let refused = Atom::from_json_in(rt, set, &Value::Null).err();
+    let are_kept = keeps_fixed_text(rt, set, "foo")? && keeps_fixed_text(rt, set, "sentence")?;
     drop(dynamic.clone_atom(rt)?);
-    Ok(is_right && dynamic.eq_str("interned"))
+    Ok(are_kept && refused == Some(Fault::NotText) && dynamic.eq_str("interned"))
 }
 
 #[test]
@@ -195,7 +195,7 @@ fn calls_that_take_no_lock(rt: HostRuntime) {
 }
 
 /// Interns a text twice, and drops both atoms. Whether their words were the first ticket's.
-fn intern_twice<R: Wait>(rt: &R, set: &Set<EmptyStaticAtomSet>) -> Result<bool, Fault> {
+fn intern_twice<R: Wait>(rt: &R, set: &DefaultSet) -> Result<bool, Fault> {
     let first = DefaultAtom::from_str_in(rt, set, "interned")?;
     let second = DefaultAtom::from_str_in(rt, set, "interned")?;
     let word = ticket_word(1, 0x210);
@@ -204,7 +204,7 @@ fn intern_twice<R: Wait>(rt: &R, set: &Set<EmptyStaticAtomSet>) -> Result<bool, 
 
 #[test]
 fn interning_takes_the_lock_of_one_bucket(rt: HostRuntime) {
-    let set: Set<EmptyStaticAtomSet> = Set::new(rt.alloc()).expect(&rt, "a set");
+    let set = default_set(&rt, rt.alloc());
     let mut held = Vec::new(rt.alloc());
     for (at, bucket) in set.buckets().iter().enumerate() {
         if at != 0x210 {
@@ -215,15 +215,15 @@ fn interning_takes_the_lock_of_one_bucket(rt: HostRuntime) {
     let (is_first, ended) = beside(&rt, 10_000, held, || intern_twice(handle, shared));
     assert!(rt; ended);
     assert!(rt; is_first.expect(&rt, "an answer"));
-    assert!(rt; set.linked(&rt) == 0);
+    check_linked(&rt, &set, 0);
 }
 
 #[test]
 fn linked_waits_for_each_lock(rt: HostRuntime) {
-    let set: Set<EmptyStaticAtomSet> = Set::new(rt.alloc()).expect(&rt, "a set");
-    let _first = Atom::from_str_in(&rt, &set, "afterwards").expect(&rt, "an atom");
-    let _last = Atom::from_str_in(&rt, &set, "geometric").expect(&rt, "an atom");
-    let held = set.buckets().get(0xfff).expect(&rt, "a bucket").lock(&rt);
+    let set = default_set(&rt, rt.alloc());
+    let _first = atom_of(&rt, &set, "afterwards");
+    let _last = atom_of(&rt, &set, "geometric");
+    let held = lock_of(&rt, &set, 0xfff);
     let (handle, shared) = (&rt, &set);
     let (sum, ended) = beside(&rt, 1_000, held, || shared.linked(handle));
     assert!(rt; !ended);
@@ -244,14 +244,14 @@ fn is_emptied<R: Wait + Clock>(rt: &R, bucket: &Mutex<Bucket<EmptyStaticAtomSet>
 /// The first bucket is swept while the last one's lock is held, and the last one once that is let go.
 #[test]
 fn sweep_goes_on_to_the_last_bucket(rt: HostRuntime) {
-    let set: Set<EmptyStaticAtomSet> = Set::new(rt.alloc()).expect(&rt, "a set");
+    let set = default_set(&rt, rt.alloc());
     let atoms = (
-        Atom::from_str_in(&rt, &set, "afterwards").expect(&rt, "an atom"),
-        Atom::from_str_in(&rt, &set, "geometric").expect(&rt, "an atom"),
+        atom_of(&rt, &set, "afterwards"),
+        atom_of(&rt, &set, "geometric"),
     );
     let first = set.buckets().get(0).expect(&rt, "a bucket");
     let of_first = first.lock(&rt);
-    let of_last = set.buckets().get(0xfff).expect(&rt, "a bucket").lock(&rt);
+    let of_last = lock_of(&rt, &set, 0xfff);
     drop(atoms);
     drop(of_first);
     let (handle, shared) = (&rt, &set);
@@ -266,5 +266,5 @@ fn sweep_goes_on_to_the_last_bucket(rt: HostRuntime) {
         },
     );
     assert!(rt; is_first_swept);
-    assert!(rt; set.linked(&rt) == 0);
+    check_linked(&rt, &set, 0);
 }

@@ -1,14 +1,21 @@
-//! What tests of this crate share: a static type, hashes, and numbers of buckets.
+//! What tests of this crate share: hashes, numbers of buckets, and sets. Those calls of a set say nothing of what they do, so that
+//! each test is proved in a moment.
 
 ghost use Rattle.std.specs.Prelude.{◌≡◌};
 ghost use Rattle.string_cache_core.specs.Tables.{entry_hash};
 
 use std::alloc::Global;
+use std::process::Abort;
+use std::sync::{MutexGuard, Wait};
 use std::test::Fail;
+use string_cache::DefaultAtom;
+use string_cache::dynamic_set::{Bucket, Set};
 use string_cache::phf::hash;
-use string_cache::static_sets::StaticAtomSet;
+use string_cache::static_sets::{EmptyStaticAtomSet, StaticAtomSet};
 use string_cache::word::Buckets;
-pub use string_cache_core::samples::One;
+
+/// A set without static texts.
+pub type DefaultSet = Set<EmptyStaticAtomSet>;
 
 /// The hash of a text's entry.
 #[tactic(auto, unfolding(string_cache_core::specs::Tables::entry_hash))]
@@ -25,4 +32,32 @@ pub fn bucket_numbers(alloc: Global) -> Result<Vec<Buckets>, Fail> {
         numbers.push(Buckets::new(bits).ok_or("bits")?)?;
     }
     Ok(numbers)
+}
+
+pub fn default_set(rt: &impl Abort, alloc: Global) -> DefaultSet {
+    Set::new(alloc).expect(rt, "a set")
+}
+
+pub fn atom_of<'s, R: Wait + Abort>(rt: &R, set: &'s DefaultSet, text: &str) -> DefaultAtom<'s> {
+    DefaultAtom::from_str_in(rt, set, text).expect(rt, "an atom")
+}
+
+/// The lock of a bucket, held.
+pub fn lock_of<'s, R: Wait + Abort>(
+    rt: &R,
+    set: &'s DefaultSet,
+    at: usize,
+) -> MutexGuard<'s, Bucket<EmptyStaticAtomSet>> {
+    set.buckets().get(at).expect(rt, "a bucket").lock(rt)
+}
+
+/// Checks that this many entries are linked.
+pub fn check_linked<R: Wait + Abort>(rt: &R, set: &DefaultSet, count: u128) {
+    assert_eq!(rt; set.linked(rt), count);
+}
+
+/// Checks that an atom of a text has this word and the text.
+pub fn check_atom(rt: &impl Abort, atom: &DefaultAtom<'_>, text: &str, word: u64) {
+    assert!(rt; atom.as_str() == text);
+    assert_eq!(rt; atom.unsafe_data(), word);
 }

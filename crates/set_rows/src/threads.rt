@@ -1,15 +1,15 @@
 //! Threads at work on one set, and on one atom.
 
+use crate::samples::{DefaultSet, atom_of, check_linked, default_set};
 use std::sync::Wait;
 use std::sync::atomic::{AtomicU64, Ordering};
 use std::thread;
 use string_cache::dynamic_set::Set;
-use string_cache::static_sets::EmptyStaticAtomSet;
 use string_cache::word::Limits;
-use string_cache::{Atom, DefaultAtom, Fault};
+use string_cache::{DefaultAtom, Fault};
 
 /// Interns, clones and drops each of the texts, again and again. Whether each atom had its text.
-fn turn_over<R: Wait>(rt: &R, set: &Set<EmptyStaticAtomSet>) -> Result<bool, Fault> {
+fn turn_over<R: Wait>(rt: &R, set: &DefaultSet) -> Result<bool, Fault> {
     let mut is_same = true;
     for _ in 0..100 {
         for text in "interned tokenised sentence repeated".split_whitespace() {
@@ -23,7 +23,7 @@ fn turn_over<R: Wait>(rt: &R, set: &Set<EmptyStaticAtomSet>) -> Result<bool, Fau
 
 #[test]
 fn threads_at_work(rt: HostRuntime) {
-    let set: Set<EmptyStaticAtomSet> = Set::new(rt.alloc()).expect(&rt, "a set");
+    let set = default_set(&rt, rt.alloc());
     let (shared, handle) = (&set, &rt);
     let (left, right) = thread::join(
         &rt,
@@ -32,7 +32,7 @@ fn threads_at_work(rt: HostRuntime) {
     );
     assert!(rt; left.expect(&rt, "an answer") && right.expect(&rt, "an answer"));
     set.sweep(&rt);
-    assert!(rt; set.linked(&rt) == 0);
+    check_linked(&rt, &set, 0);
 }
 
 /// Clones and drops the atom, again and again.
@@ -43,12 +43,19 @@ fn clone_and_drop<R: Wait>(rt: &R, atom: &DefaultAtom) -> Result<(), Fault> {
     Ok(())
 }
 
+/// Whether the atom, which has a single holder, takes just two more.
+fn takes_two_more<R: Wait>(rt: &R, atom: &DefaultAtom<'_>) -> Result<bool, Fault> {
+    let _second = atom.clone_atom(rt)?;
+    let _third = atom.clone_atom(rt)?;
+    Ok(matches!(atom.clone_atom(rt), Err(Fault::FullCount)))
+}
+
 /// No share is lost or left over, and none is refused, though both threads change one count.
 #[test]
 fn one_atom_in_two_threads(rt: HostRuntime) {
     let limits = Limits::new(3, 9).expect(&rt, "limits");
-    let set: Set<EmptyStaticAtomSet> = Set::with_limits(rt.alloc(), limits).expect(&rt, "a set");
-    let atom = Atom::from_str_in(&rt, &set, "interned").expect(&rt, "an atom");
+    let set = Set::with_limits(rt.alloc(), limits).expect(&rt, "a set");
+    let atom = atom_of(&rt, &set, "interned");
     let (shared, handle) = (&atom, &rt);
     let (left, right) = thread::join(
         &rt,
@@ -57,15 +64,11 @@ fn one_atom_in_two_threads(rt: HostRuntime) {
     );
     left.expect(&rt, "an answer");
     right.expect(&rt, "an answer");
-    assert!(rt; set.linked(&rt) == 1 && atom.as_str() == "interned");
-    let (second, third) = (
-        atom.clone_atom(&rt).expect(&rt, "an atom"),
-        atom.clone_atom(&rt).expect(&rt, "an atom"),
-    );
-    assert!(rt; matches!(atom.clone_atom(&rt), Err(Fault::FullCount)));
-    drop((second, third));
+    check_linked(&rt, &set, 1);
+    assert!(rt; atom.as_str() == "interned");
+    assert!(rt; takes_two_more(&rt, &atom).expect(&rt, "an answer"));
     drop(atom);
-    assert!(rt; set.linked(&rt) == 0);
+    check_linked(&rt, &set, 0);
 }
 
 /// Waits until two threads have come here as often as this.
@@ -83,7 +86,7 @@ fn meet<R: Wait>(rt: &R, gate: &AtomicU64, times: u64) {
 /// one word.
 fn intern_beside<R: Wait>(
     rt: &R,
-    set: &Set<EmptyStaticAtomSet>,
+    set: &DefaultSet,
     gate: &AtomicU64,
     mine: &AtomicU64,
     other: &AtomicU64,
@@ -104,7 +107,7 @@ fn intern_beside<R: Wait>(
 /// Of two threads that find a text absent one links it, and the other finds that entry.
 #[test]
 fn two_threads_at_one_new_text(rt: HostRuntime) {
-    let set: Set<EmptyStaticAtomSet> = Set::new(rt.alloc()).expect(&rt, "a set");
+    let set = default_set(&rt, rt.alloc());
     let (gate, one, two) = (AtomicU64::new(0), AtomicU64::new(0), AtomicU64::new(0));
     let (shared, handle, at) = (&set, &rt, &gate);
     let (first, second) = (&one, &two);

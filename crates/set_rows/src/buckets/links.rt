@@ -1,30 +1,43 @@
 //! Links for which there is no memory, and a great number of them in one bucket.
 
-use super::{Fake, link, tickets};
+use super::{Fake, check_share, link, new_bucket, tickets};
+use crate::samples::{DefaultSet, atom_of, check_atom, check_linked};
+use std::alloc::Global;
+use std::process::Abort;
+use std::sync::Wait;
 use std::test::Fail;
-use string_cache::dynamic_set::{Bucket, Set};
+use string_cache::Fault;
+use string_cache::dynamic_set::{Bucket, Set, Share};
 use string_cache::static_sets::EmptyStaticAtomSet;
 use string_cache::word::{Buckets, Limits, ticket_word};
-use string_cache::{DefaultAtom, Fault};
+
+/// Links a text, once more where there is no memory: a refused link leaves the bucket as it was.
+fn link_again<R: Abort>(
+    rt: &R,
+    bucket: &mut Bucket<EmptyStaticAtomSet>,
+    before: &[u64; 3],
+) -> Result<Share, Fault> {
+    let limits = Limits::greatest();
+    match link(bucket, "tokenised", &limits) {
+        Err(Fault::Memory) => {
+            assert!(rt; tickets(bucket) == *before);
+            link(bucket, "tokenised", &limits)
+        }
+        made => made,
+    }
+}
 
 /// Passes also where any one request for memory is refused, as under `rt try --test --fail-alloc N`: a refused link leaves the
 /// bucket, and the next one gets the serial that it would have got.
 #[test]
 fn refused_links_made_again(rt: HostRuntime) -> Result<(), Fail> {
-    let limits = Limits::greatest();
-    let mut bucket = Bucket::new(rt.alloc(), Buckets::usual());
+    let mut bucket = new_bucket(rt.alloc());
     // Of six entries two nodes are made.
     for serial in 1..=6u64 {
         let ticket = ticket_word(serial, 0xe77);
         let before = tickets(&mut bucket);
-        let share = match link(&mut bucket, "tokenised", &limits) {
-            Err(Fault::Memory) => {
-                assert!(rt; tickets(&mut bucket) == before);
-                link(&mut bucket, "tokenised", &limits)?
-            }
-            made => made?,
-        };
-        assert!(rt; share.ticket() == ticket && share.text() == "tokenised");
+        let share = link_again(&rt, &mut bucket, &before)?;
+        check_share(&rt, &share, "tokenised", ticket);
         assert!(rt; tickets(&mut bucket) == [ticket, before[0], before[1]]);
     }
     Ok(())
@@ -35,10 +48,30 @@ fn ticket(serial: u64) -> u64 {
     ticket_word(serial.clamp(1, 16), 0xe77)
 }
 
+/// A bucket of nine entries, whose shares are gone.
+fn nine_entries(rt: &impl Abort, alloc: Global) -> Bucket<EmptyStaticAtomSet> {
+    let mut bucket = new_bucket(alloc);
+    for _ in 0..9u64 {
+        let before = tickets(&mut bucket);
+        drop(link_again(rt, &mut bucket, &before).expect(rt, "an answer"));
+    }
+    assert_eq!(rt; bucket.len(), 9);
+    bucket
+}
+
+/// Takes out the entry of a serial. Whether the three newest are those of these serials then.
+fn leaves(
+    bucket: &mut Bucket<EmptyStaticAtomSet>,
+    serial: u64,
+    [first, second, third]: [u64; 3],
+) -> bool {
+    bucket.prune(&mut Fake::new(0, 0, ticket(serial)));
+    tickets(bucket) == [ticket(first), ticket(second), ticket(third)]
+}
+
 /// Entries go from anywhere among the nodes, and the others stay in order.
 #[test]
 fn entries_go_one_by_one(rt: HostRuntime) {
-    let limits = Limits::greatest();
     // The serials in the order in which their entries go, and those of the three newest entries after each.
     for goes in [
         [
@@ -60,56 +93,41 @@ fn entries_go_one_by_one(rt: HostRuntime) {
             (5, [9, 4, 3]),
         ],
     ] {
-        let mut bucket = Bucket::new(rt.alloc(), Buckets::usual());
-        for _ in 0..9u64 {
-            if let Err(Fault::Memory) = link(&mut bucket, "tokenised", &limits) {
-                link(&mut bucket, "tokenised", &limits).expect(&rt, "an answer");
-            }
-        }
-        assert!(rt; bucket.len() == 9);
-        for (serial, [first, second, third]) in goes {
-            bucket.prune(&mut Fake {
-                added: 0,
-                full: 0,
-                gone: ticket(serial),
-            });
-            assert!(rt; tickets(&mut bucket) == [ticket(first), ticket(second), ticket(third)]);
+        let mut bucket = nine_entries(&rt, rt.alloc());
+        for (serial, newest) in goes {
+            assert!(rt; leaves(&mut bucket, serial, newest));
         }
         assert!(rt; bucket.len() == 5);
     }
 }
 
+/// Links each of 5,000 texts in the only bucket of a set.
+fn link_five_thousand<R: Wait + Abort>(rt: &R, set: &DefaultSet) -> Result<Vec<Share>, Fault> {
+    let limits = Limits::greatest();
+    let only = set.buckets().get(0).expect(rt, "a bucket");
+    let mut shares = Vec::new(set.allocator());
+    for n in 0..5_000u32 {
+        let text = format!(in set.allocator(); "w{n:07}")?;
+        shares.push(link(&mut only.lock(rt), &text, &limits)?)?;
+    }
+    Ok(shares)
+}
+
 /// Each of 5,000 texts is linked in the one bucket of a set, and the oldest and the newest are found there. 5,000 is 0x1388.
 #[test]
-fn five_thousand_entries_of_one_bucket(rt: HostRuntime) -> Result<(), Fail> {
-    let alloc = rt.alloc();
-    let limits = Limits::greatest();
+fn five_thousand_entries_of_one_bucket(rt: HostRuntime) {
     let buckets = Buckets::new(0).expect(&rt, "bits");
-    let owned: Set<EmptyStaticAtomSet> = Set::with_buckets(alloc, limits, buckets).expect(
-        &rt, "a set",
-    );
-    let set = &owned;
-    let only = set.buckets().get(0).expect(&rt, "a bucket");
-    let mut shares = Vec::new(alloc);
-    for n in 0..5_000u32 {
-        let text = format!(in alloc; "w{n:07}")?;
-        let share = link(&mut only.lock(&rt), &text, &limits).expect(&rt, "a share");
-        shares.push(share).expect(&rt, "room");
-    }
-    assert_eq!(rt; set.linked(&rt), 5_000);
-    let mut atoms = Vec::new(alloc);
-    for (text, word) in [
-        ("w0000000", 0x1_0000),
-        ("w0004999", 0x1388_0000),
-        ("interned", 0x1389_0000),
-    ] {
-        let atom = DefaultAtom::from_str_in(&rt, set, text).expect(&rt, "an atom");
-        assert_eq!(rt; atom.unsafe_data(), word);
-        atoms.push(atom).expect(&rt, "room");
-    }
-    assert_eq!(rt; set.linked(&rt), 5_001);
+    let set = Set::with_buckets(rt.alloc(), Limits::greatest(), buckets).expect(&rt, "a set");
+    let shares = link_five_thousand(&rt, &set).expect(&rt, "shares");
+    check_linked(&rt, &set, 5_000);
+    let oldest = atom_of(&rt, &set, "w0000000");
+    let newest = atom_of(&rt, &set, "w0004999");
+    let next = atom_of(&rt, &set, "interned");
+    check_atom(&rt, &oldest, "w0000000", 0x1_0000);
+    check_atom(&rt, &newest, "w0004999", 0x1388_0000);
+    check_atom(&rt, &next, "interned", 0x1389_0000);
+    check_linked(&rt, &set, 5_001);
     drop(shares);
     set.sweep(&rt);
-    assert_eq!(rt; set.linked(&rt), 3);
-    Ok(())
+    check_linked(&rt, &set, 3);
 }

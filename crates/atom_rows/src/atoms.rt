@@ -1,0 +1,163 @@
+//! What no contract says: words and texts that come from outside, and sets that threads share.
+
+use crate::samples::{One, are_one, empty_set, has_text, has_word, intern};
+use std::process::Abort;
+use std::sync::Wait;
+use std::thread;
+use string_cache::dynamic_set::Set;
+use string_cache::static_sets::EmptyStaticAtomSet;
+use string_cache::word::ticket_word;
+use string_cache::{Atom, DefaultAtom, Fault};
+
+/// Compiles only for what threads may share and send.
+fn crosses<T: Send + Sync>(_value: &T) {}
+
+/// Whether atoms of the two texts, from two sets, are equal.
+fn are_equal<'s, R: Wait + Abort>(
+    rt: &R,
+    left: (&'s Set<EmptyStaticAtomSet>, &str),
+    right: (&'s Set<EmptyStaticAtomSet>, &str),
+) -> bool {
+    intern(rt, left.0, left.1) == intern(rt, right.0, right.1)
+}
+
+/// Whether the text is inline, with this word and its own bytes.
+fn has_inline_word<R: Wait + Abort>(
+    rt: &R,
+    set: &Set<EmptyStaticAtomSet>,
+    text: &str,
+    word: u64,
+) -> bool {
+    let atom = intern(rt, set, text);
+    atom.is_inline() && has_word(&atom, word) && atom.as_bytes() == text.as_bytes()
+}
+
+#[test]
+fn inline_atoms(rt: HostRuntime) {
+    let set = empty_set(&rt, rt.alloc());
+    for (text, word) in [
+        ("", 0x01),
+        ("a", 0x6111),
+        ("foo", 0x6f6f_6631),
+        ("abcdefg", 0x6766_6564_6362_6171),
+        ("\0", 0x11),
+        ("é", 0xa9_c321),
+    ] {
+        assert!(rt; has_inline_word(&rt, &set, text, word), "of {text:?}");
+    }
+    assert!(rt; !are_equal(&rt, (&set, "\0"), (&set, "")));
+}
+
+/// Whether the text is dynamic, with this word and its own text.
+fn has_ticket<R: Wait + Abort>(
+    rt: &R,
+    set: &Set<EmptyStaticAtomSet>,
+    text: &str,
+    ticket: u64,
+) -> bool {
+    let atom = intern(rt, set, text);
+    atom.is_dynamic() && has_word(&atom, ticket) && has_text(&atom, text)
+}
+
+#[test]
+fn dynamic_atoms(rt: HostRuntime) {
+    let set = empty_set(&rt, rt.alloc());
+    // Held to the end, so that its entry is found again.
+    let _held = intern(&rt, &set, "abcdefgh");
+    // The low 12 bits of f1 are the bucket: of 0x86f9a2c5, 0x06a47210 and 0xb9737e77.
+    for (text, ticket) in [
+        ("abcdefgh", ticket_word(1, 0x2c5)),
+        ("interned", ticket_word(1, 0x210)),
+        ("tokenised", ticket_word(1, 0xe77)),
+        ("abcdefgh", ticket_word(1, 0x2c5)),
+    ] {
+        assert!(rt; has_ticket(&rt, &set, text, ticket), "of {text:?}");
+    }
+}
+
+#[test]
+fn atoms_of_two_sets(rt: HostRuntime) {
+    let one = empty_set(&rt, rt.alloc());
+    let other = empty_set(&rt, rt.alloc());
+    assert!(rt; are_equal(&rt, (&one, "abcdefgh"), (&other, "abcdefgh")));
+    assert!(rt; !are_equal(&rt, (&one, "abcdefgh"), (&other, "interned")));
+}
+
+#[test]
+fn packed_inline(rt: HostRuntime) {
+    for (n, len, text) in [(0xa9_c300, 2, "é"), (0, 1, "\0"), (0, 0, "")] {
+        let atom = DefaultAtom::pack_inline(n, len).expect(&rt, "an inline word");
+        assert!(rt; has_text(&atom, text));
+        assert!(rt; has_word(&atom, n + 16 * u64::from(len) + 1));
+    }
+    for (n, len) in [
+        (0xc300, 1),
+        (0x62_6100, 1),
+        (0, 8),
+        (1, 0),
+        (0, u8::MAX),
+        (u64::MAX, 7),
+    ] {
+        assert!(rt;
+            DefaultAtom::pack_inline(n, len).is_none(),
+            "of {n:#x} and {len}"
+        );
+    }
+}
+
+/// Whether it is the atom of the one static text.
+fn is_sentence(atom: &Atom<'_, One>) -> bool {
+    atom.is_static() && has_word(atom, 2) && has_text(atom, "sentence")
+}
+
+#[test]
+fn static_atoms(rt: HostRuntime) {
+    let set = empty_set(&rt, rt.alloc());
+    assert!(rt; is_sentence(&intern(&rt, &set, "sentence")));
+    assert!(rt; is_sentence(&Atom::try_static("sentence").expect(&rt, "a static text")));
+    assert!(rt; is_sentence(&Atom::pack_static(0).expect(&rt, "a static text")));
+    assert!(rt; intern(&rt, &set, "sentencf").is_dynamic());
+}
+
+#[test]
+fn not_static(rt: HostRuntime) {
+    assert!(rt; DefaultAtom::try_static("").is_none());
+    assert!(rt; DefaultAtom::pack_static(0).is_none());
+    assert!(rt; Atom::<One>::try_static("sentencf").is_none());
+    assert!(rt; Atom::<One>::pack_static(1).is_none());
+}
+
+/// An atom of a text that all threads intern, and one of a text of a thread's own.
+type Both<'s> = (DefaultAtom<'s>, DefaultAtom<'s>);
+
+fn intern_both<'s, R: Wait>(
+    rt: &R,
+    set: &'s Set<EmptyStaticAtomSet>,
+    own: &str,
+) -> Result<Both<'s>, Fault> {
+    let both = Atom::from_str_in(rt, set, "tokenised")?;
+    let own = Atom::from_str_in(rt, set, own)?;
+    Ok((both, own))
+}
+
+/// Whether two threads have one atom of the text that both interned.
+fn is_shared(left: &DefaultAtom<'_>, right: &DefaultAtom<'_>) -> bool {
+    left == right && are_one(left, right)
+}
+
+#[test]
+fn shared_by_threads(rt: HostRuntime) {
+    let set = empty_set(&rt, rt.alloc());
+    crosses(&set);
+    let (shared, handle) = (&set, &rt);
+    let (left, right) = thread::join(
+        &rt,
+        || intern_both(handle, shared, "sentence"),
+        || intern_both(handle, shared, "repeated"),
+    );
+    let left = left.expect(&rt, "an answer");
+    let right = right.expect(&rt, "an answer");
+    crosses(&left);
+    assert!(rt; is_shared(&left.0, &right.0) && left.1 != right.1);
+    assert!(rt; has_text(&left.1, "sentence") && has_text(&right.1, "repeated"));
+}

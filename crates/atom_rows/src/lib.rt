@@ -1,0 +1,14 @@
+//! Rows with worked values of atoms: their words, texts, orders, cases and JSON texts, and how many may hold one. They stand apart from
+//! `string_cache`, since a crate with tests is proved twice, and from `set_rows`, since two crates are proved beside each other.
+#![tactic(auto)]
+
+#[cfg(test)]
+mod atoms;
+#[cfg(test)]
+mod holders;
+#[cfg(test)]
+mod printed;
+#[cfg(test)]
+mod samples;
+#[cfg(test)]
+mod texts;

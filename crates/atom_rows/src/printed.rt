@@ -1,0 +1,192 @@
+//! What atoms tell and print, with values that come from outside, and atoms of JSON texts.
+
+use crate::samples::{One, are_one, empty_set, intern};
+use serde_json::Value;
+use std::alloc::{AllocError, Global};
+use std::borrow::CowStr;
+use std::fmt::Display;
+use std::process::Abort;
+use std::sync::Wait;
+use string_cache::dynamic_set::Set;
+use string_cache::static_sets::{EmptyStaticAtomSet, StaticAtomSet};
+use string_cache::trivial_impls::PrecomputedHash;
+use string_cache::{Atom, DefaultAtom, Fault};
+
+/// The hash of anything that has one.
+fn precomputed_of<T: PrecomputedHash>(value: &T) -> u32 {
+    value.precomputed_hash()
+}
+
+#[test]
+fn default_atom(rt: HostRuntime) {
+    let atom = DefaultAtom::default();
+    assert_eq!(rt; precomputed_of(&atom), 1);
+    let printed = format!(in rt.alloc(); "{atom:?}").expect(&rt, "a text");
+    check_text(&rt, &printed, "Atom('' type=inline)");
+}
+
+// Both print the atoms where they fail.
+
+fn check_equal<Static: StaticAtomSet>(
+    rt: &impl Abort,
+    one: &Atom<'_, Static>,
+    other: &Atom<'_, Static>,
+) {
+    assert_eq!(rt; *one, *other);
+}
+
+fn check_differ<Static: StaticAtomSet>(
+    rt: &impl Abort,
+    one: &Atom<'_, Static>,
+    other: &Atom<'_, Static>,
+) {
+    assert_ne!(rt; *one, *other);
+}
+
+fn check_text(rt: &impl Abort, text: &str, wanted: &str) {
+    assert_eq!(rt; text, wanted);
+}
+
+#[test]
+fn text_of_a_zero_byte(rt: HostRuntime) {
+    let set = empty_set::<EmptyStaticAtomSet>(&rt, rt.alloc());
+    check_differ(&rt, &intern(&rt, &set, "\0"), &intern(&rt, &set, ""));
+}
+
+#[test]
+fn upper_case_of_a_static_text(rt: HostRuntime) {
+    let set = empty_set::<One>(&rt, rt.alloc());
+    let atom = intern(&rt, &set, "sentence");
+    let upper = atom.to_ascii_uppercase_in(&rt, &set).expect(&rt, "an atom");
+    check_equal(&rt, &upper, &intern(&rt, &set, "SENTENCE"));
+    check_differ(&rt, &upper, &atom);
+}
+
+/// A value under options that a text heeds.
+fn styled<D: Display>(alloc: Global, value: &D) -> Result<String, AllocError> {
+    format!(in alloc; "{value}|{value:>6}|{value:<6}|{value:^6}|{value:*^9.2}|{value:.1}|{value:2}")
+}
+
+/// The atom of a text and the text itself, under these options.
+fn both_styled<R: Wait>(rt: &R, set: &Set<One>, text: &str) -> Result<(String, String), Fault> {
+    let atom = Atom::from_str_in(rt, set, text)?;
+    Ok((
+        styled(set.allocator(), &atom)?,
+        styled(set.allocator(), &text)?,
+    ))
+}
+
+#[test]
+fn widths_and_precisions(rt: HostRuntime) {
+    let set = empty_set(&rt, rt.alloc());
+    for (text, wanted) in [
+        ("foo", "foo|   foo|foo   | foo  |***fo****|f|foo"),
+        ("été", "été|   été|été   | été  |***ét****|é|été"),
+        ("", "|      |      |      |*********||  "),
+        (
+            "sentence",
+            "sentence|sentence|sentence|sentence|***se****|s|sentence",
+        ),
+        (
+            "interned",
+            "interned|interned|interned|interned|***in****|i|interned",
+        ),
+    ] {
+        let (of_atom, of_text) = both_styled(&rt, &set, text).expect(&rt, "an answer");
+        check_text(&rt, &of_atom, wanted);
+        check_text(&rt, &of_text, wanted);
+    }
+}
+
+/// Neither on the whole nor on the text within it.
+#[test]
+fn no_width_acts_on_debug(rt: HostRuntime) {
+    let set = empty_set::<EmptyStaticAtomSet>(&rt, rt.alloc());
+    let atom = intern(&rt, &set, "foo");
+    let printed = format!(in rt.alloc(); "{atom:>40?}|{atom:.1?}|{atom:#?}").expect(&rt, "a text");
+    let wanted = "Atom('foo' type=inline)|Atom('foo' type=inline)|Atom('foo' type=inline)";
+    check_text(&rt, &printed, wanted);
+}
+
+/// The JSON text of the atom.
+fn json_of(rt: &impl Abort, alloc: Global, atom: &Atom<'_, One>) -> String {
+    let value = atom.to_json(alloc).expect(rt, "an answer");
+    value.to_string(alloc).expect(rt, "an answer")
+}
+
+fn parsed(rt: &impl Abort, alloc: Global, json: &str) -> Value {
+    Value::from_str(alloc, json).expect(rt, "an answer")
+}
+
+/// The atom of a JSON text.
+fn atom_of_json<'s, R: Wait + Abort>(rt: &R, set: &'s Set<One>, json: &str) -> Atom<'s, One> {
+    Atom::from_json_in(rt, set, &parsed(rt, set.allocator(), json)).expect(rt, "an atom")
+}
+
+/// The text's atom is this JSON text, and the JSON text's atom is the text's.
+fn check_json<R: Wait + Abort>(rt: &R, set: &Set<One>, text: &str, json: &str) {
+    let atom = intern(rt, set, text);
+    check_text(rt, &json_of(rt, set.allocator(), &atom), json);
+    let again = atom_of_json(rt, set, json);
+    check_equal(rt, &again, &atom);
+    assert!(rt; are_one(&again, &atom));
+}
+
+#[test]
+fn json_texts(rt: HostRuntime) {
+    let set = empty_set(&rt, rt.alloc());
+    for (text, json) in [
+        ("foo", "\"foo\""),
+        ("", "\"\""),
+        ("a\"b\\", "\"a\\\"b\\\\\""),
+        ("sentence", "\"sentence\""),
+        ("tokenised", "\"tokenised\""),
+    ] {
+        check_json(&rt, &set, text, json);
+    }
+}
+
+/// It is dynamic, and the atom of "interned".
+fn check_interned<R: Wait + Abort>(
+    rt: &R,
+    set: &Set<EmptyStaticAtomSet>,
+    atom: Result<DefaultAtom<'_>, Fault>,
+) {
+    let atom = atom.expect(rt, "an atom");
+    assert!(rt; atom.is_dynamic());
+    check_equal(rt, &atom, &intern(rt, set, "interned"));
+}
+
+#[test]
+fn atoms_of_one_text(rt: HostRuntime) {
+    let alloc = rt.alloc();
+    let set = empty_set(&rt, alloc);
+    let text = String::from_str(alloc, "interned").expect(&rt, "a text");
+    check_interned(
+        &rt,
+        &set,
+        Atom::from_json_in(&rt, &set, &Value::String(text)),
+    );
+    let text = String::from_str(alloc, "interned").expect(&rt, "a text");
+    check_interned(&rt, &set, Atom::from_string_in(&rt, &set, text));
+    let text = CowStr::Borrowed("interned");
+    check_interned(&rt, &set, Atom::from_cow_in(&rt, &set, text));
+}
+
+/// Checks that a JSON text is refused as no text, under the number 4.
+fn check_refused<R: Wait + Abort>(rt: &R, set: &Set<EmptyStaticAtomSet>, json: &str) {
+    let value = parsed(rt, set.allocator(), json);
+    let fault = Atom::from_json_in(rt, set, &value)
+        .err()
+        .expect(rt, "a fault");
+    assert_eq!(rt; fault, Fault::NotText, "of {json}");
+    assert_eq!(rt; fault.number(), 4);
+}
+
+#[test]
+fn json_without_text(rt: HostRuntime) {
+    let set = empty_set(&rt, rt.alloc());
+    for json in ["null", "true", "7", "[]", "{}", "[\"interned\"]"] {
+        check_refused(&rt, &set, json);
+    }
+}
