@@ -13,7 +13,7 @@ use std::thread::Threads;
 use string_cache::EmptyStaticAtomSet;
 use string_cache::dynamic_set::Set;
 use text_streams::faults::AppFault;
-use word_counts::count::tell_counts;
+use word_counts::count::count_command;
 use word_counts::samples::EXAMPLE;
 
 /// A call that reads all and writes.
@@ -58,7 +58,7 @@ impl Call {
         let answer = match self {
             Call::Words => words(rt, &set, &mut reader, &mut writer),
             Call::WordsAlone => words_alone(alloc, &mut reader, &mut writer),
-            Call::CountByTwo => tell_counts(rt, alloc, 2, &mut reader, &mut writer),
+            Call::CountByTwo => count_command(rt, alloc, 2, &mut reader, &mut writer),
             Call::Replay => replay(alloc, &mut reader, &mut writer),
         };
         (answer, writer)

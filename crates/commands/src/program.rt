@@ -26,7 +26,7 @@ use string_cache::Fault;
 use table_generator::numbers::{number_of, short_number_of};
 use text_streams::faults::AppFault;
 use text_streams::streams::{Sink, Source, write_whole};
-use word_counts::count::tell_counts;
+use word_counts::count::count_command;
 
 const USAGE: &str = "usage: atoms words | count N | replay | generate KEY BOUND | check\n";
 
@@ -242,7 +242,7 @@ pub fn program<R: Threads + Wait + Sync, S: Source, K: Sink, F: Sink>(
     };
     let outcome = match command {
         Command::Words => words_command(rt, alloc, input, output),
-        Command::Count(n) => tell_counts(rt, alloc, n, input, output),
+        Command::Count(n) => count_command(rt, alloc, n, input, output),
         Command::Replay => replay(alloc, input, output),
         Command::Generate(key, bound) => generate_command(alloc, key, bound, input, output),
         Command::Check => check_command(alloc, input, output),

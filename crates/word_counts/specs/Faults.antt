@@ -16,5 +16,5 @@ abbrev pub IsCountFault : AppFault → Type 0
 IsCountFault fault = IsOf (record memory { workers = Unit {0}; interns = IsInternFault }) fault
 
 -- from counting the words of what is read
-abbrev pub IsTellCountsFault : AppFault → Type 0
-IsTellCountsFault fault = IsOf (record streams { interns = IsInternFault; workers = Unit {0} }) fault
+abbrev pub IsCountCommandFault : AppFault → Type 0
+IsCountCommandFault fault = IsOf (record streams { interns = IsInternFault; workers = Unit {0} }) fault

@@ -15,7 +15,7 @@ mod tally;
 mod tests;
 mod workers;
 
-pub use lines::tell_counts;
+pub use lines::count_command;
 use std::sync::Wait;
 use std::thread::Threads;
 use string_cache::dynamic_set::Set;

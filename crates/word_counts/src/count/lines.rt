@@ -4,7 +4,7 @@ ghost use Rattle.std.specs.Prelude.{◌≡◌, ◌↔◌, ◌≤◌, ◌++◌, f
 ghost use Rattle.std.specs.Io.KnownBytes.{Appends};
 ghost use Rattle.std.specs.List.{flat_map};
 ghost use Rattle.word_counts.specs.CountLines.{count_line, count_lines};
-ghost use Rattle.word_counts.specs.Faults.{IsTellCountsFault, IsWritingFault};
+ghost use Rattle.word_counts.specs.Faults.{IsCountCommandFault, IsWritingFault};
 ghost use Rattle.text_streams.specs.Streams.{AppendsBeginning};
 ghost use Rattle.word_counts.specs.Told.{TellsLines};
 ghost use Rattle.word_counts.specs.WordCounts.{counted_texts};
@@ -55,7 +55,7 @@ fn write_lines<Static: StaticAtomSet, K: Sink>(
 ///
 /// `Read` and `Text`, input that isn't UTF-8, come before anything is written, and so does `Intern(Memory)` while the
 /// input is read. After another fault a beginning of the lines is written.
-pub fn tell_counts<R: Threads + Wait + Sync, S: Source, K: Sink>(
+pub fn count_command<R: Threads + Wait + Sync, S: Source, K: Sink>(
     rt: &R,
     alloc: Global,
     n: u32,
@@ -67,7 +67,7 @@ pub fn tell_counts<R: Threads + Wait + Sync, S: Source, K: Sink>(
     requires reader { S.has_failed reader.old ≡ false }
     requires writer { K.has_failed writer.old ≡ false }
     ensures { TellsLines S.remaining S.has_ended S.has_failed K.contents K.has_failed
-        count_lines IsTellCountsFault reader.old reader.new writer.old writer.new result }
+        count_lines IsCountCommandFault reader.old reader.new writer.old writer.new result }
 {
     let text = read_text(alloc, reader)?;
     let buckets = buckets_for(text.len());
