@@ -3,7 +3,7 @@ use Rattle.std.proofs.Common.{◌≡◌, ◌≢◌, ℕ, ◌≤◌, List, [], �
 use Rattle.std.proofs.lemmas.List.{append-nil}
 use Rattle.std.specs.List.{AllByRecursion}
 use Rattle.std.specs.Prelude.{Option}
-use Rattle.string_cache_core.specs.Pass.{Reply, added, full, died, gone, stays, kept}
+use Rattle.string_cache_core.specs.Pass.{PassReply, added, full, died, gone, stays, kept}
 use Rattle.string_cache_core.specs.Tables.{Tables}
 use Rattle.counted_set.specs.Chain.{Linked, IsKept, IsRightOf, SerialsDiffer, serial_of}
 use Rattle.counted_set.specs.PassLeft.{IsPassLeft}
@@ -12,7 +12,7 @@ use Rattle.counted_set.specs.declared.dynamic_set.counts.CountReply.{CountReply}
 use Rattle.counted_set.specs.declared.dynamic_set.counts.Pass.{Pass}
 
 -- what holds of all entries holds of those that are kept
-all_of_kept : {S : Type 0} → (P : Linked → Type 0) (es : List Linked) (rs : List (Reply S)) → AllByRecursion P es → AllByRecursion P (kept es rs)
+all_of_kept : {S : Type 0} → (P : Linked → Type 0) (es : List Linked) (rs : List (PassReply S)) → AllByRecursion P es → AllByRecursion P (kept es rs)
 all_of_kept P [] rs h = tt
 all_of_kept P (e ∷ es) [] h = tt
 all_of_kept P (e ∷ es) (added s ∷ rs) h = (h.0, all_of_kept P es rs h.1)
@@ -21,7 +21,7 @@ all_of_kept P (e ∷ es) (died ∷ rs) h = all_of_kept P es rs h.1
 all_of_kept P (e ∷ es) (gone ∷ rs) h = all_of_kept P es rs h.1
 all_of_kept P (e ∷ es) (stays ∷ rs) h = (h.0, all_of_kept P es rs h.1)
 
-differ_of_kept : {S : Type 0} → (es : List Linked) (rs : List (Reply S)) → SerialsDiffer es → SerialsDiffer (kept es rs)
+differ_of_kept : {S : Type 0} → (es : List Linked) (rs : List (PassReply S)) → SerialsDiffer es → SerialsDiffer (kept es rs)
 differ_of_kept [] rs h = tt
 differ_of_kept (e ∷ es) [] h = tt
 differ_of_kept (e ∷ es) (added s ∷ rs) h = (all_of_kept (λ x. serial_of x.ticket ≢ serial_of e.ticket) es rs h.0, differ_of_kept es rs h.1)
@@ -31,7 +31,7 @@ differ_of_kept (e ∷ es) (gone ∷ rs) h = differ_of_kept es rs h.1
 differ_of_kept (e ∷ es) (stays ∷ rs) h = (all_of_kept (λ x. serial_of x.ticket ≢ serial_of e.ticket) es rs h.0, differ_of_kept es rs h.1)
 
 -- a bucket keeps its promises where entries go
-pub is_kept_of_kept : {S : Type 0} → (t : Tables) (bits last : ℕ) (es : List Linked) (rs : List (Reply S))
+pub is_kept_of_kept : {S : Type 0} → (t : Tables) (bits last : ℕ) (es : List Linked) (rs : List (PassReply S))
     → IsKept t (record { bits = bits; entries = es; last = last }) → IsKept t (record { bits = bits; entries = kept es rs; last = last })
 is_kept_of_kept t bits last es rs h = record {
   few = h.few;

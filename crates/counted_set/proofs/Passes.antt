@@ -3,7 +3,7 @@ use Rattle.std.proofs.Common.{◌≡◌, ◌≢◌, ℕ, List, [], ◌∷◌, �
 use Rattle.std.proofs.lemmas.List.{append-nil}
 use Rattle.std.specs.List.{AllByRecursion}
 use Rattle.std.specs.Prelude.{Option, Some, None}
-use Rattle.string_cache_core.specs.Pass.{Reply, added, full, died, gone, stays, Asked, outcome, kept}
+use Rattle.string_cache_core.specs.Pass.{PassReply, added, full, died, gone, stays, Asked, outcome, kept}
 use Rattle.counted_set.specs.Chain.{Linked}
 use Rattle.counted_set.specs.Counted.{MayGive, Replied, found_by}
 use Rattle.counted_set.specs.PassLeft.{IsPassLeft}
@@ -43,11 +43,11 @@ module _ {C S : Type 0} (adds : C → Linked → CountReply S → C → Type 0) 
   Goes wanted c w m u = (answer : Pass S) (d : C) (v : Walked Linked) → IsPassLeft adds dies wanted m u answer d v → IsPassLeft adds dies wanted c w answer d v
 
   -- one reply more at the front
-  module _ (wanted then : Option (List ℕ)) (c m : C) (w u : Walked Linked) (e : Linked) (rest : List Linked) (r : Reply S) (answer after_it : Pass S) where
+  module _ (wanted then : Option (List ℕ)) (c m : C) (w u : Walked Linked) (e : Linked) (rest : List Linked) (r : PassReply S) (answer after_it : Pass S) where
     on : w.left ≡ e ∷ rest → u ≡ record { passed = w.passed ++ kept (e ∷ []) (r ∷ []); left = rest } → MayGive adds dies c e r m
-        → ((rs : List (Reply S)) → Asked then (texts_of rest) rs → Asked wanted (e.text ∷ texts_of rest) (r ∷ rs))
-        → ((rs : List (Reply S)) → kept (e ∷ rest) (r ∷ rs) ≡ kept (e ∷ []) (r ∷ []) ++ kept rest rs)
-        → ((rs : List (Reply S)) → found_by after_it ≡ outcome rs → found_by answer ≡ outcome (r ∷ rs))
+        → ((rs : List (PassReply S)) → Asked then (texts_of rest) rs → Asked wanted (e.text ∷ texts_of rest) (r ∷ rs))
+        → ((rs : List (PassReply S)) → kept (e ∷ rest) (r ∷ rs) ≡ kept (e ∷ []) (r ∷ []) ++ kept rest rs)
+        → ((rs : List (PassReply S)) → found_by after_it ≡ outcome rs → found_by answer ≡ outcome (r ∷ rs))
         → (d : C) (v : Walked Linked) → IsPassLeft adds dies then m u after_it d v → IsPassLeft adds dies wanted c w answer d v
     on at is gives asks keeps answers d v p =
         let rs = p.pass.replies in

@@ -2,7 +2,7 @@
 use Rattle.std.proofs.Common.{◌≡◌, ℕ, List, [], ◌∷◌, map, Bool, sym, subst}
 use Rattle.std.specs.List.{AllByRecursion}
 use Rattle.std.specs.Prelude.{Some}
-use Rattle.string_cache_core.specs.Pass.{Reply, added, full, died, gone, stays, Asked, found, outcome}
+use Rattle.string_cache_core.specs.Pass.{PassReply, added, full, died, gone, stays, Asked, found, outcome}
 use Rattle.counted_set.specs.Chain.{Linked}
 use Rattle.counted_set.specs.Counted.{GivesShares, IsPass, Replied}
 use Rattle.counted_set.specs.declared.dynamic_set.counts.CountReply.{CountReply}
@@ -12,7 +12,7 @@ use Rattle.counted_set.specs.declared.dynamic_set.counts.Pass.TheVariants.{Found
 
 module _ {C : Type 0} (adds : C → Linked → CountReply Linked → C → Type 0) (dies : C → Linked → Bool → C → Type 0) (gives : GivesShares adds) (P : Linked → Type 0) (text : List ℕ) where
   -- it is of an entry of the text
-  found_of : (es : List Linked) (rs : List (Reply Linked)) (c d : C) (s : Linked) → AllByRecursion P es
+  found_of : (es : List Linked) (rs : List (PassReply Linked)) (c d : C) (s : Linked) → AllByRecursion P es
       → Replied adds dies c es rs d → Asked (Some text) (map (λ e. e.text) es) rs → outcome rs ≡ found s → (s.text ≡ text) × P s
   found_of [] [] c d s all replied asked is = cc
   found_of [] (r ∷ rs) c d s all replied asked is = absurd replied

@@ -1,6 +1,6 @@
 -- What is asked of an entry's count, and a pass over a bucket's entries that asks it of each.
 use Rattle.std.specs.Prelude.{◌≡◌, ℕ, ⊤, Bool, true, false, List, [], ◌∷◌, map, Option}
-use Rattle.string_cache_core.specs.Pass.{Reply, added, full, died, gone, stays, Asked, Outcome, found, found_full, absent, outcome, kept}
+use Rattle.string_cache_core.specs.Pass.{PassReply, added, full, died, gone, stays, Asked, Outcome, found, found_full, absent, outcome, kept}
 use Rattle.counted_set.specs.Chain.{Linked}
 use Rattle.counted_set.specs.declared.dynamic_set.counts.CountReply.{CountReply}
 use Rattle.counted_set.specs.declared.dynamic_set.counts.CountReply.TheVariants.{Added, Dying, Full}
@@ -26,7 +26,7 @@ found_by pass.Absent = absent
 -- By which replies `add` and `dying` leave one state of the counts for another is given by two relations.
 module _ {C S : Type 0} (adds : C → Linked → CountReply S → C → Type 0) (dies : C → Linked → Bool → C → Type 0) where
   -- one call about the entry may give this reply, and leave d of c
-  abbrev pub MayGive : C → Linked → Reply S → C → Type 0
+  abbrev pub MayGive : C → Linked → PassReply S → C → Type 0
   MayGive c e (added s) d = adds c e (Added s) d
   MayGive c e full d = adds c e Full d
   MayGive c e died d = adds c e Dying d
@@ -34,7 +34,7 @@ module _ {C S : Type 0} (adds : C → Linked → CountReply S → C → Type 0) 
   MayGive c e stays d = dies c e false d
 
   -- calls about these entries, one after another, may give these replies, and leave d of c
-  abbrev pub Replied : C → List Linked → List (Reply S) → C → Type 0
+  abbrev pub Replied : C → List Linked → List (PassReply S) → C → Type 0
   Replied c [] [] d = c ≡ d
   Replied c [] (r ∷ rs) d = ⊥
   Replied c (e ∷ es) [] d = ⊥
@@ -43,7 +43,7 @@ module _ {C S : Type 0} (adds : C → Linked → CountReply S → C → Type 0) 
   -- A pass that wants a text, or none, over the entries es: it asks about each of them in order, as a pass asks, answers
   -- what the replies say, and leaves the entries that weren't answered as dying. One that wants none finds none.
   pub record IsPass (wanted : Option (List ℕ)) (c : C) (es : List Linked) (answer : Pass S) (d : C) (after : List Linked) : Type 0 where
-    pub replies : List (Reply S)
+    pub replies : List (PassReply S)
     pub given : Replied c es replies d
     pub asked : Asked wanted (map (λ e. e.text) es) replies
     pub answers : found_by answer ≡ outcome replies
