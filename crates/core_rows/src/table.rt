@@ -1,10 +1,7 @@
 //! Words, tickets and refusals of a table, with values from outside.
 
-ghost use Rattle.std.specs.Prelude.{◌^◌, ◌<◌};
-
-use std::alloc::{AllocError, Global};
+use std::alloc::Global;
 use std::process::Abort;
-use std::test::Fail;
 use string_cache_core::Fault;
 use string_cache_core::phf::hash;
 use string_cache_core::samples::One;
@@ -54,8 +51,8 @@ fn keeps<S: StaticAtomSet>(table: &Table<S>, entries: usize, bytes: u128) -> boo
     table.entries() == entries && table.text_bytes() == bytes
 }
 
-fn run(table: &mut Plain, calls: &[Call]) -> Result<Vec<TableReply>, Fault> {
-    table.run(calls)
+fn run(rt: &impl Abort, table: &mut Plain, calls: &[Call]) -> Vec<TableReply> {
+    table.run(calls).expect(rt, "replies")
 }
 
 /// Gives a word that has to be held.
@@ -78,8 +75,8 @@ fn is_first(word: u64) -> bool {
 /// The unit of a ticket: two that a bucket gives one after the other differ by it.
 const TICKET_UNIT: u64 = 65536;
 
-fn next_ticket(word: u64) -> Option<u64> {
-    word.checked_add(TICKET_UNIT)
+fn next_ticket(rt: &impl Abort, word: u64) -> u64 {
+    word.checked_add(TICKET_UNIT).expect(rt, "a next ticket")
 }
 
 /// Whether the text is interned as this word, which is held and has no text in the table.
@@ -137,7 +134,7 @@ fn a_word_goes_with_its_last_holder(rt: HostRuntime) {
     assert!(rt; !has_text(&table, word, "interned"));
     assert!(rt; keeps(&table, 0, 0));
     let next = intern(&rt, &mut table, "interned");
-    assert!(rt; next_ticket(word) == Some(next));
+    assert!(rt; next_ticket(&rt, word) == next);
 }
 
 #[test]
@@ -153,31 +150,31 @@ fn the_last_text_comes_in_the_place_of_one_that_goes(rt: HostRuntime) {
     assert!(rt; keeps(&table, 2, 19));
 }
 
-fn intern_call(alloc: Global, text: &str) -> Result<Call, AllocError> {
-    Ok(Call::Intern(String::from_str(alloc, text)?))
+fn intern_call(rt: &impl Abort, alloc: Global, text: &str) -> Call {
+    Call::Intern(String::from_str(alloc, text).expect(rt, "a text"))
 }
 
-/// The reply to one call that is run.
-fn run_one(alloc: Global, table: &mut Plain, call: Call) -> Result<TableReply, Fault> {
-    let mut calls = Vec::new(alloc);
-    calls.push(call)?;
-    match run(table, &calls)?.get(0) {
-        Some(reply) => Ok(*reply),
-        None => Err(Fault::NotText),
-    }
+fn add_call(rt: &impl Abort, calls: &mut Vec<Call>, call: Call) {
+    calls.push(call).expect(rt, "room");
 }
 
 /// Whether this is the reply to one call that is run.
-fn replies(alloc: Global, table: &mut Plain, call: Call, reply: TableReply) -> bool {
-    run_one(alloc, table, call) == Ok(reply)
+fn replies(
+    rt: &impl Abort,
+    alloc: Global,
+    table: &mut Plain,
+    call: Call,
+    reply: TableReply,
+) -> bool {
+    let mut calls = Vec::new(alloc);
+    add_call(rt, &mut calls, call);
+    run(rt, table, &calls).as_slice() == [reply].as_slice()
 }
 
 /// Whether the text is interned as this word by one call that is run.
-fn runs_intern(alloc: Global, table: &mut Plain, text: &str, word: u64) -> bool {
-    match intern_call(alloc, text) {
-        Ok(call) => replies(alloc, table, call, TableReply::Word(word)),
-        Err(_) => false,
-    }
+fn runs_intern(rt: &impl Abort, alloc: Global, table: &mut Plain, text: &str, word: u64) -> bool {
+    let call = intern_call(rt, alloc, text);
+    replies(rt, alloc, table, call, TableReply::Word(word))
 }
 
 #[test]
@@ -185,7 +182,7 @@ fn calls_are_run(rt: HostRuntime) {
     let alloc = rt.alloc();
     let mut table = new_table(&rt, alloc);
     let word = intern(&rt, &mut table, "interned");
-    let next = next_ticket(word).expect(&rt, "a next ticket");
+    let next = next_ticket(&rt, word);
     for (call, reply) in [
         (Call::Clone(word), TableReply::Word(word)),
         (Call::Give(word), TableReply::Given),
@@ -196,27 +193,30 @@ fn calls_are_run(rt: HostRuntime) {
         (Call::Clone(0x6111), TableReply::Word(0x6111)),
         (Call::Give(0x6111), TableReply::Given),
     ] {
-        assert!(rt; replies(alloc, &mut table, call, reply), "with {reply:?}");
+        assert!(rt;
+            replies(&rt, alloc, &mut table, call, reply),
+            "with {reply:?}"
+        );
     }
-    assert!(rt; runs_intern(alloc, &mut table, "foo", 0x6f6f_6631));
-    assert!(rt; runs_intern(alloc, &mut table, "interned", next));
+    assert!(rt; runs_intern(&rt, alloc, &mut table, "foo", 0x6f6f_6631));
+    assert!(rt; runs_intern(&rt, alloc, &mut table, "interned", next));
     assert!(rt; keeps(&table, 1, 8));
 }
 
 /// The replies to four calls: the text is interned, an inline word and no word are given, and the text is interned.
-fn replies_in_order(alloc: Global, table: &mut Plain) -> Result<Vec<TableReply>, Fault> {
+fn replies_in_order(rt: &impl Abort, alloc: Global, table: &mut Plain) -> Vec<TableReply> {
     let mut calls = Vec::new(alloc);
-    calls.push(intern_call(alloc, "interned")?)?;
-    calls.push(Call::Give(0x6111))?;
-    calls.push(Call::Give(0))?;
-    calls.push(intern_call(alloc, "interned")?)?;
-    run(table, &calls)
+    add_call(rt, &mut calls, intern_call(rt, alloc, "interned"));
+    add_call(rt, &mut calls, Call::Give(0x6111));
+    add_call(rt, &mut calls, Call::Give(0));
+    add_call(rt, &mut calls, intern_call(rt, alloc, "interned"));
+    run(rt, table, &calls)
 }
 
 #[test]
 fn a_run_replies_to_each_call_in_order(rt: HostRuntime) {
     let mut table = new_table(&rt, rt.alloc());
-    let replies = replies_in_order(rt.alloc(), &mut table).expect(&rt, "replies");
+    let replies = replies_in_order(&rt, rt.alloc(), &mut table);
     let [first, TableReply::Given, TableReply::NotHeld, last] = replies.as_slice() else {
         panic!(rt; "other replies");
     };
@@ -239,13 +239,18 @@ fn a_text_has_no_more_holders_than_its_limit(rt: HostRuntime) {
 }
 
 /// The replies to four calls: the text is interned twice, and this word is given twice.
-fn replies_to_pairs(alloc: Global, table: &mut Plain, word: u64) -> Result<Vec<TableReply>, Fault> {
+fn replies_to_pairs(
+    rt: &impl Abort,
+    alloc: Global,
+    table: &mut Plain,
+    word: u64,
+) -> Vec<TableReply> {
     let mut calls = Vec::new(alloc);
-    calls.push(intern_call(alloc, "interned")?)?;
-    calls.push(intern_call(alloc, "interned")?)?;
-    calls.push(Call::Give(word))?;
-    calls.push(Call::Give(word))?;
-    run(table, &calls)
+    add_call(rt, &mut calls, intern_call(rt, alloc, "interned"));
+    add_call(rt, &mut calls, intern_call(rt, alloc, "interned"));
+    add_call(rt, &mut calls, Call::Give(word));
+    add_call(rt, &mut calls, Call::Give(word));
+    run(rt, table, &calls)
 }
 
 /// Interning twice, giving twice and interning again, in two runs.
@@ -254,52 +259,52 @@ fn a_run_leaves_spent_tickets_spent(rt: HostRuntime) {
     let alloc = rt.alloc();
     let mut table = new_table(&rt, alloc);
     let word = 0x1_0840; // the first of bucket 0x210, the low bits of the text's hash 0x556a_6dba_06a4_7210
-    let replies = replies_to_pairs(alloc, &mut table, word).expect(&rt, "replies");
+    let replies = replies_to_pairs(&rt, alloc, &mut table, word);
     let given = TableReply::Given;
     let interned = TableReply::Word(word);
     assert!(rt; replies.as_slice() == [interned, interned, given, given].as_slice());
     assert!(rt; keeps(&table, 0, 0));
-    assert!(rt; runs_intern(alloc, &mut table, "interned", word + TICKET_UNIT));
+    assert!(rt; runs_intern(&rt, alloc, &mut table, "interned", word + TICKET_UNIT));
 }
 
 /// The replies to so many calls that clone this word.
 fn replies_to_clones(
+    rt: &impl Abort,
     alloc: Global,
     table: &mut Plain,
     word: u64,
     number: usize,
-) -> Result<Vec<TableReply>, Fault> {
+) -> Vec<TableReply> {
     let mut calls = Vec::new(alloc);
     for _ in 0..number {
-        calls.push(Call::Clone(word))?;
+        add_call(rt, &mut calls, Call::Clone(word));
     }
-    run(table, &calls)
+    run(rt, table, &calls)
 }
 
 #[test]
 fn a_run_has_no_calls_or_many(rt: HostRuntime) {
     let mut table = new_table(&rt, rt.alloc());
-    let none = run(&mut table, &[]).expect(&rt, "replies");
-    assert!(rt; none.is_empty());
+    assert!(rt; run(&rt, &mut table, &[]).is_empty());
     let word = intern(&rt, &mut table, "interned");
-    let replies = replies_to_clones(rt.alloc(), &mut table, word, 20_000).expect(&rt, "replies");
+    let replies = replies_to_clones(&rt, rt.alloc(), &mut table, word, 20_000);
     assert!(rt; replies.len() == 20_000);
     assert!(rt; replies.iter().all(|reply| *reply == TableReply::Word(word)));
 }
 
 /// Characters of one to four bytes, ten together, doubled eighteen times.
-fn large_text(alloc: Global) -> Result<String, AllocError> {
-    let mut text = String::from_str(alloc, "né€𝄞")?;
+fn large_text(rt: &impl Abort, alloc: Global) -> String {
+    let mut text = String::from_str(alloc, "né€𝄞").expect(rt, "room");
     for _ in 0..18 {
-        let half = text.clone()?;
-        text.push_str(&half)?;
+        let half = text.clone().expect(rt, "room");
+        text.push_str(&half).expect(rt, "room");
     }
-    Ok(text)
+    text
 }
 
 #[test]
 fn a_large_text_is_interned(rt: HostRuntime) {
-    let text = large_text(rt.alloc()).expect(&rt, "a text");
+    let text = large_text(&rt, rt.alloc());
     let mut table = new_table(&rt, rt.alloc());
     let word = intern(&rt, &mut table, &text);
     assert!(rt; is_first(word));
@@ -317,65 +322,60 @@ fn a_text_that_comes_and_goes_has_the_next_ticket(rt: HostRuntime) {
         let word = intern(&rt, &mut table, "interned");
         assert!(rt; word == next);
         give(&rt, &mut table, word);
-        next = next_ticket(word).expect(&rt, "a next ticket");
+        next = next_ticket(&rt, word);
     }
+}
+
+/// The buckets with so many bits.
+fn buckets_of(rt: &impl Abort, bits: u8) -> Buckets {
+    Buckets::new(bits).expect(rt, "bits")
 }
 
 /// The bucket of a text without static tables.
-fn bucket_of_text(buckets: Buckets, text: &str) -> u16
-    ensures { result < 2 ^ buckets }
-{
-    buckets.bucket_of(hash(text, 0).entry_hash())
+fn bucket_of_text(buckets: Buckets, text: &str) -> usize {
+    usize::from(buckets.bucket_of(hash(text, 0).entry_hash()))
+}
+
+fn numbered_text(rt: &impl Abort, alloc: Global, number: usize) -> String {
+    format!(in alloc; "word{number:05}").expect(rt, "a text")
 }
 
 /// Two texts with one bucket: there is one text more than buckets.
-fn bucket_mates(alloc: Global, buckets: Buckets) -> Result<(String, String), Fail> {
-    let mut first = vec![in alloc; None; buckets.number()]?;
+fn bucket_mates(rt: &impl Abort, alloc: Global, buckets: Buckets) -> (String, String) {
+    let mut first = vec![in alloc; None; buckets.number()].expect(rt, "room");
     for number in 0..=buckets.number() {
-        let text = format!(in alloc; "word{number:05}")?;
-        let bucket = bucket_of_text(buckets, &text) as usize;
-        if let Some(other) = first[bucket] {
-            return Ok((format!(in alloc; "word{other:05}")?, text));
+        let text = numbered_text(rt, alloc, number);
+        let place = first
+            .get_mut(bucket_of_text(buckets, &text))
+            .expect(rt, "a bucket");
+        if let Some(other) = *place {
+            return (numbered_text(rt, alloc, other), text);
         }
-        first[bucket] = Some(number);
+        *place = Some(number);
     }
-    Err("no bucket has two")?
+    panic!(rt; "no bucket has two");
 }
 
-/// Every number of buckets, the least first.
-fn bucket_numbers(alloc: Global) -> Result<Vec<Buckets>, Fail> {
-    let mut numbers = Vec::new(alloc);
-    for bits in 0..=14 {
-        numbers.push(Buckets::new(bits).ok_or("bits")?)?;
-    }
-    Ok(numbers)
-}
-
-/// Whether the only ticket of a bucket is given once: to the first of two texts of one bucket, and, once the first is given, to none.
-fn gives_one_ticket(rt: &impl Abort, alloc: Global, buckets: Buckets) -> Result<bool, Fail> {
-    let (first, second) = bucket_mates(alloc, buckets)?;
-    let limits = Limits::new(1, 1).ok_or("limits")?;
-    let mut table = table_with(rt, alloc, limits, buckets);
-    let word = intern(rt, &mut table, &first);
-    let is_spent = is_first(word) && refuses(&mut table, &second, Fault::TicketsSpent);
-    give(rt, &mut table, word);
-    Ok(
-        is_spent
-            && refuses(&mut table, &first, Fault::TicketsSpent)
-            && interns(&mut table, "abc", 0x6362_6131),
-    )
+/// Whether the only ticket of a bucket is given once: to the first of two texts of one bucket, and, once that is given back, to none.
+fn gives_one_ticket(rt: &impl Abort, table: &mut Plain, first: &str, second: &str) -> bool {
+    let word = intern(rt, table, first);
+    let is_spent = is_first(word) && refuses(table, second, Fault::TicketsSpent);
+    give(rt, table, word);
+    is_spent && refuses(table, first, Fault::TicketsSpent) && interns(table, "abc", 0x6362_6131)
 }
 
 #[test]
-fn a_bucket_gives_no_more_tickets_than_its_limit(rt: HostRuntime) -> Result<(), Fail> {
-    for buckets in bucket_numbers(rt.alloc())? {
+fn a_bucket_gives_no_more_tickets_than_its_limit(rt: HostRuntime) {
+    let limits = Limits::new(1, 1).expect(&rt, "limits");
+    for bits in 0..=14 {
+        let buckets = buckets_of(&rt, bits);
+        let (first, second) = bucket_mates(&rt, rt.alloc(), buckets);
+        let mut table = table_with(&rt, rt.alloc(), limits, buckets);
         assert!(rt;
-            gives_one_ticket(&rt, rt.alloc(), buckets)?,
-            "of {}",
-            buckets.bits()
+            gives_one_ticket(&rt, &mut table, &first, &second),
+            "of {bits} bits"
         );
     }
-    Ok(())
 }
 
 /// The first word of "interned" for each number of bits: its hash is 0x556a_6dba_06a4_7210, whose low bits are its bucket.
@@ -387,27 +387,25 @@ const WORDS: [u64; 15] = [
     0x1_c840, // bucket 0x3210
 ];
 
-/// Whether "interned" has this word first, and once that is given the next ticket of its bucket.
-fn gives_tickets_from(rt: &impl Abort, mut table: Plain, word: u64) -> bool {
-    let first = intern(rt, &mut table, "interned");
-    give(rt, &mut table, first);
-    let next = intern(rt, &mut table, "interned");
-    first == word && next_ticket(word) == Some(next)
+/// Whether "interned" has this word first, and once that is given back the next ticket of its bucket.
+fn gives_tickets_from(rt: &impl Abort, table: &mut Plain, word: u64) -> bool {
+    let first = intern(rt, table, "interned");
+    give(rt, table, first);
+    first == word && interns(table, "interned", next_ticket(rt, word))
 }
 
 #[test]
-fn a_ticket_has_the_low_bits_of_the_hash(rt: HostRuntime) -> Result<(), Fail> {
-    for (buckets, word) in bucket_numbers(rt.alloc())?.into_iter().zip(WORDS) {
-        let table = table_with(&rt, rt.alloc(), Limits::greatest(), buckets);
-        assert!(rt; gives_tickets_from(&rt, table, word), "from {word:#x}");
+fn a_ticket_has_the_low_bits_of_the_hash(rt: HostRuntime) {
+    for (bits, word) in (0..=14).zip(WORDS) {
+        let buckets = buckets_of(&rt, bits);
+        let mut table = table_with(&rt, rt.alloc(), Limits::greatest(), buckets);
+        assert!(rt; gives_tickets_from(&rt, &mut table, word), "of {bits} bits");
     }
-    Ok(())
 }
 
 #[test]
 fn one_bucket_gives_all_tickets(rt: HostRuntime) {
-    let buckets = Buckets::new(0).expect(&rt, "bits");
-    let mut table = table_with(&rt, rt.alloc(), Limits::greatest(), buckets);
+    let mut table = table_with(&rt, rt.alloc(), Limits::greatest(), buckets_of(&rt, 0));
     assert!(rt; interns(&mut table, "interned", 0x1_0000));
     assert!(rt; interns(&mut table, "tokenised", 0x2_0000));
     assert!(rt; keeps(&table, 2, 17));
