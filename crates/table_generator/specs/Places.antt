@@ -1,4 +1,4 @@
--- Places of texts, and which of them are free while displacements are searched for. `AreApart` and `Places` stand in what
+-- Places of texts, and which of them are free while displacements are searched for. `AreApart` and `AreDisplacementsOf` stand in what
 -- `generate` promises; the rest are the words of the search.
 use Rattle.std.specs.Prelude.{◌≡◌, ◌≢◌, ℕ, ◌+◌, ◌*◌, ◌%◌, ◌^◌, ◌<◌, Bool, true, false, List, length, slice_index_or}
 use Rattle.std.specs.List.{All, Any, AllPairs}
@@ -11,7 +11,7 @@ abbrev pub AreApart : List (ℕ × ℕ) → ℕ → List Hashes → Type 0
 AreApart disps len = AllPairs (λ x y. place_of x disps len ≢ place_of y disps len)
 
 -- as many pairs of displacements, each below the bound, give the texts different places
-pub record Places (pairs bound : ℕ) (hashes : List Hashes) (disps : List (ℕ × ℕ)) : Type 0 where
+pub record AreDisplacementsOf (pairs bound : ℕ) (hashes : List Hashes) (disps : List (ℕ × ℕ)) : Type 0 where
   pub count : length disps ≡ pairs
   pub bounded : All (λ pair. (pair.0 < bound) × (pair.1 < bound)) disps
   pub apart : AreApart disps (length hashes) hashes

@@ -132,13 +132,13 @@ fn pairs_and_rest(alloc: Global, text: &str) -> Result<(Vec<(u32, u32)>, &str), 
 
 /// The hash numbers and the texts that a table text ends with.
 #[derive(Drop)]
-struct Listed<'t> {
+struct AtomLines<'t> {
     hashes: Vec<u64>,
     atoms: Vec<&'t str>,
 }
 
 /// All texts that the text begins with, and what stands behind their lines.
-fn listed_and_rest(alloc: Global, text: &str) -> Result<(Listed<'_>, &str), AllocError>
+fn listed_and_rest(alloc: Global, text: &str) -> Result<(AtomLines<'_>, &str), AllocError>
     ensures { IfOk result (λ found. ReadsAtoms text.now found.0.hashes.items (texts_of found.0.atoms.items) found.1.now) }
 {
     let mut hashes = Vec::new(alloc);
@@ -149,7 +149,7 @@ fn listed_and_rest(alloc: Global, text: &str) -> Result<(Listed<'_>, &str), Allo
         atoms.push(atom)?;
         rest = more;
     }
-    Ok((Listed { hashes, atoms }, rest))
+    Ok((AtomLines { hashes, atoms }, rest))
 }
 
 /// Whether a text is the printed form of tables that pass `PhfStrSet::check`.

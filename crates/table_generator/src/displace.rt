@@ -2,7 +2,7 @@
 
 ghost use Rattle.std.specs.Prelude.{◌≡◌, ◌<◌, ◌≤◌, ◌^◌, ◌∷◌, [], ℕ, IfOk, IfSome, length};
 ghost use Rattle.table_generator.specs.Grouped.{AreGrouped, IsRunEnd};
-ghost use Rattle.table_generator.specs.Places.{AreApart, Places};
+ghost use Rattle.table_generator.specs.Places.{AreApart, AreDisplacementsOf};
 
 use crate::search::{Tried, find_pair, mark};
 use std::alloc::{AllocError, Global};
@@ -35,7 +35,7 @@ pub fn displace(
     requires order { tried.second ≤ tried.first }
     requires few { length hashes.now < 2 ^ 32 }
     requires grouped { AreGrouped pairs hashes.now }
-    ensures found { IfOk result (λ o. IfSome o (λ disps. Places pairs tried.first hashes.now disps.items)) }
+    ensures found { IfOk result (λ o. IfSome o (λ disps. AreDisplacementsOf pairs tried.first hashes.now disps.items)) }
     ensures unplaced { IfOk result (λ o. o ≡ None → pairs ≡ 1
         → (d1 d2 : ℕ) → d1 < tried.first → d2 < tried.second → AreApart ((d1, d2) ∷ []) (length hashes.now) hashes.now → ⊥) }
 {

@@ -1,6 +1,6 @@
 //! Texts in the order in which they are settled, and then in that of their places.
 
-ghost use Rattle.std.specs.Prelude.{◌≡◌, ◌<◌, ◌≤◌, ◌^◌, ℕ, List, IfOk, length, map};
+ghost use Rattle.std.specs.Prelude.{◌≡◌, ◌<◌, ◌≤◌, ◌^◌, IfOk, length, map};
 ghost use Rattle.std.specs.List.{All};
 ghost use Rattle.std.specs.List.Sorted.{IsPermutation};
 ghost use Rattle.string_cache_core.specs.Phf.{hash_of_hashes, hashes_of, place_of};
@@ -98,7 +98,7 @@ pub fn hashes_of_items(alloc: Global, items: &[Item]) -> Result<Vec<Hashes>, All
 
 /// A text with its place, and the hash of its entry.
 #[derive(Drop)]
-struct Placed<'t> {
+struct PlacedText<'t> {
     text: &'t str,
     place: u32,
     hash: u64,
@@ -109,7 +109,7 @@ fn placed_by<'t>(
     alloc: Global,
     items: &[Item<'t>],
     disps: &[(u32, u32)],
-) -> Result<Vec<Placed<'t>>, AllocError>
+) -> Result<Vec<PlacedText<'t>>, AllocError>
     requires displaced { 1 ≤ length disps.now }
     requires few { length items.now < 2 ^ 32 }
     ensures texts { IfOk result (λ placed. map (λ text. text.text.now) placed.items ≡ map (λ item. item.text.now) items.now) }
@@ -122,7 +122,7 @@ fn placed_by<'t>(
     let len = items.len() as u32;
     let mut placed = Vec::with_capacity(alloc, items.len())?;
     for item in items {
-        placed.push(Placed {
+        placed.push(PlacedText {
             text: item.text,
             place: place(&item.hashes, disps, len),
             hash: item.hashes.entry_hash(),
