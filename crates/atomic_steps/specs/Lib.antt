@@ -1,4 +1,4 @@
-pub mod Listed
+pub mod EntryNumbers
 pub mod PassSteps
 pub mod Places
 pub mod Runs

@@ -8,11 +8,11 @@ use Rattle.atomic_steps.specs.declared.steps.Step.TheVariants.{Add, Link, Unlink
 use Rattle.atomic_steps.specs.declared.steps.StepReply.{StepReply}
 use Rattle.atomic_steps.specs.declared.steps.StepReply.TheVariants as reply
 use Rattle.string_cache_core.specs.Tables.{Tables}
-use Rattle.atomic_steps.specs.World.{Entry, World}
+use Rattle.atomic_steps.specs.World.{WorldEntry, World}
 use Rattle.atomic_steps.specs.Steps.{step_if, IsStep, is_linked_in, opening}
 use Rattle.atomic_steps.specs.Runs.{Event, Leads}
 use Rattle.atomic_steps.specs.Theorem.{text_taken, bucket_taken}
-use Rattle.string_cache_core.specs.Pass.{Reply, added, full, died, gone, stays, Asked, Outcome, absent, outcome, kept}
+use Rattle.string_cache_core.specs.Pass.{PassReply, added, full, died, gone, stays, Asked, Outcome, absent, outcome, kept}
 
 -- An entry as its bucket's list has it: what of it stays the same.
 pub record Item : Type 0 where
@@ -20,7 +20,7 @@ pub record Item : Type 0 where
   pub ticket : ℕ
   pub text : List ℕ
 
-abbrev pub item : ℕ × Entry → Item
+abbrev pub item : ℕ × WorldEntry → Item
 item numbered = record { number = numbered.0; ticket = numbered.1.ticket; text = numbered.1.text }
 
 -- The bucket's list, newest first.
@@ -61,7 +61,7 @@ is_kept reply.Kept = true
 is_kept r = false
 
 -- The steps of entry e, by what was answered of it. One that died to `add` is unlinked next.
-abbrev pub steps_of : {S : Type 0} → ℕ → Reply S → List Planned
+abbrev pub steps_of : {S : Type 0} → ℕ → PassReply S → List Planned
 steps_of e (added share) = planned (Add e) is_added ∷ []
 steps_of e full = planned (Add e) is_full ∷ []
 steps_of e died = planned (Add e) is_dying ∷ planned (Unlink e) any_reply ∷ []
@@ -69,7 +69,7 @@ steps_of e gone = planned (Unlink e) is_unlinked ∷ []
 steps_of e stays = planned (Unlink e) is_kept ∷ []
 
 -- the steps of each entry, in order
-abbrev pub steps_of_all : {S : Type 0} → List Item → List (Reply S) → List Planned
+abbrev pub steps_of_all : {S : Type 0} → List Item → List (PassReply S) → List Planned
 steps_of_all [] replies = []
 steps_of_all (e ∷ entries) [] = []
 steps_of_all (e ∷ entries) (r ∷ replies) = steps_of e.number r ++ steps_of_all entries replies
@@ -80,7 +80,7 @@ end_of room (Some text) absent = planned (Link room) any_reply ∷ planned Leave
 end_of room wanted other = planned Leave any_reply ∷ []
 
 -- A pass for a text, or a sweep, over these entries with these replies, as steps.
-abbrev pub plan_of : {S : Type 0} → Bool → Option (List ℕ) → List Item → List (Reply S) → List Planned
+abbrev pub plan_of : {S : Type 0} → Bool → Option (List ℕ) → List Item → List (PassReply S) → List Planned
 plan_of room wanted entries replies = steps_of_all entries replies ++ end_of room wanted (outcome replies)
 
 -- ---- runs in which a party makes such steps
@@ -107,7 +107,7 @@ new_by wanted (event ∷ events) = new_by wanted events ++ linked_by wanted even
 
 -- A party that has just taken the bucket goes over its list as a pass with these replies does, and others' steps stand
 -- between.
-pub record GoesAsPass {S : Type 0} (t : Tables) (taken : World) (party bucket : ℕ) (wanted : Option (List ℕ)) (replies : List (Reply S)) (room : Bool) : Type 0 where
+pub record GoesAsPass {S : Type 0} (t : Tables) (taken : World) (party bucket : ℕ) (wanted : Option (List ℕ)) (replies : List (PassReply S)) (room : Bool) : Type 0 where
   -- Once the first steps of the plan were made, and replied to as planned, the next one is enabled.
   pub enabled : (events : List Event) (w : World) (before after : List Planned) (next : Planned) → Leads t taken events w
       → plan_of room wanted (list_of taken bucket) replies ≡ before ++ next ∷ after → AsPlanned before (own party events) → IsSome (step_if t w party next.does)
@@ -121,5 +121,5 @@ pub record GoesAsPass {S : Type 0} (t : Tables) (taken : World) (party bucket : 
 abbrev pub PassIsSteps : Type 0 → Type 0
 PassIsSteps S = (t : Tables) (limits : Bounds) (buckets : ℕ) (before : List Event) (w taken : World) (party bucket : ℕ) (take : Step) → 0 < buckets → buckets ≤ most_buckets
     → Leads t (opening limits buckets) before w → IsStep t w party take reply.Taken taken → bucket_taken t (length w.lasts) take ≡ Some bucket
-    → (replies : List (Reply S)) → Asked (text_taken take) (map (λ item. item.text) (list_of taken bucket)) replies
+    → (replies : List (PassReply S)) → Asked (text_taken take) (map (λ item. item.text) (list_of taken bucket)) replies
     → (room : Bool) → GoesAsPass t taken party bucket (text_taken take) replies room

@@ -10,7 +10,7 @@ use Rattle.atomic_steps.specs.declared.steps.Step.TheVariants.{Add, Link, Clone,
 use Rattle.atomic_steps.specs.declared.steps.StepReply.{StepReply}
 use Rattle.atomic_steps.specs.declared.steps.StepReply.TheVariants as reply
 use Rattle.string_cache_core.specs.Tables.{Tables}
-use Rattle.atomic_steps.specs.World.{Entry, World, is_living}
+use Rattle.atomic_steps.specs.World.{WorldEntry, World, is_living}
 use Rattle.atomic_steps.specs.Steps.{step, IsStep, pass_of, entry_at, last_of, ◌>>=◌}
 use Rattle.string_cache_core.specs.Map.{InternMap, Holding, MapCall, MapReply, MayReply}
 use Rattle.string_cache_core.specs.Map as map
@@ -41,7 +41,7 @@ events_of (s ∷ script) (r ∷ replies) = record { party = s.0; does = s.1; rep
 -- ---- reading a run as calls
 
 -- of a text the ticket and the holders of its living entry
-unfoldable pub living_at : List Entry → List ℕ → Option Holding
+unfoldable pub living_at : List WorldEntry → List ℕ → Option Holding
 living_at entries text = option_map (λ entry. record { ticket = entry.ticket; holders = entry.count }) (find (λ entry. is_living entry && bytes_eq entry.text text) entries)
 
 -- The map that a world shows: its living entries, and the last serials.

@@ -5,14 +5,14 @@ use Rattle.std.specs.Option.{unwrap_or, option_map_or}
 use Rattle.std.specs.Str.{bytes_eq}
 use Rattle.std.specs.String.{string_bytes}
 use Rattle.string_cache_core.specs.Bounds.{Bounds}
-use Rattle.atomic_steps.specs.declared.steps.entry.Place.TheVariants as place
+use Rattle.atomic_steps.specs.declared.steps.world_entry.Place.TheVariants as place
 use Rattle.atomic_steps.specs.declared.steps.Step.{Step}
 use Rattle.atomic_steps.specs.declared.steps.Step.TheVariants.{TakeIntern, TakeSweep, Add, Link, Clone, Give, Unlink, Free, Leave}
 use Rattle.atomic_steps.specs.declared.steps.StepReply.{StepReply}
 use Rattle.atomic_steps.specs.declared.steps.StepReply.TheVariants as reply
 use Rattle.string_cache_core.specs.Tables.{Tables, bucket_of, is_dynamic}
 use Rattle.string_cache_core.specs.Word.{ticket_of}
-use Rattle.atomic_steps.specs.World.{Entry, Pass, World, is_linked, is_unlinked_by}
+use Rattle.atomic_steps.specs.World.{WorldEntry, PartyPass, World, is_linked, is_unlinked_by}
 
 infixl 10 ◌>>=◌
 abbrev pub ◌>>=◌ : {A B : Type 0} → Option A → (A → Option B) → Option B
@@ -26,7 +26,7 @@ only_if test x = if test then Some x else None
 -- ---- what a world shows
 
 -- what the party does, where it isn't idle
-abbrev pub pass_of : World → ℕ → Option Pass
+abbrev pub pass_of : World → ℕ → Option PartyPass
 pass_of w party = find (λ pass. pass.party == party) w.passes
 
 -- no party holds the bucket
@@ -34,7 +34,7 @@ abbrev pub is_free : World → ℕ → Bool
 is_free w bucket = list_all (λ pass. not (pass.bucket == bucket)) w.passes
 
 -- entries are numbered from 1
-abbrev pub entry_at : List Entry → ℕ → Option Entry
+abbrev pub entry_at : List WorldEntry → ℕ → Option WorldEntry
 entry_at entries zero = None
 entry_at entries (suc k) = slice_get entries k
 
@@ -47,31 +47,31 @@ abbrev pub last_of : World → ℕ → ℕ
 last_of w bucket = slice_index w.lasts bucket
 
 -- the entry stands in this bucket's list
-abbrev pub is_linked_in : ℕ → Entry → Bool
+abbrev pub is_linked_in : ℕ → WorldEntry → Bool
 is_linked_in bucket entry = is_linked entry.place && entry.bucket == bucket
 
 -- whether the pass is to intern this text, and hasn't decided
-abbrev pub wants : Pass → List ℕ → Bool
+abbrev pub wants : PartyPass → List ℕ → Bool
 wants pass text = option_map_or (λ wanted. bytes_eq wanted text) pass.wanted false
 
 -- ---- changes
 
 -- entry e becomes x
-abbrev pub with_entry : World → ℕ → Entry → World
+abbrev pub with_entry : World → ℕ → WorldEntry → World
 with_entry w zero x = w
 with_entry w (suc k) x = record w { entries = slice_set w.entries k x }
 
 -- the party's pass becomes this one
-abbrev pub replaced : List Pass → Pass → List Pass
+abbrev pub replaced : List PartyPass → PartyPass → List PartyPass
 replaced [] new = []
 replaced (pass ∷ passes) new = if pass.party == new.party then new ∷ passes else pass ∷ replaced passes new
 
 -- the passes without the party's
-abbrev pub without_party : List Pass → ℕ → List Pass
+abbrev pub without_party : List PartyPass → ℕ → List PartyPass
 without_party [] party = []
 without_party (pass ∷ passes) party = if pass.party == party then passes else pass ∷ without_party passes party
 
-abbrev pub with_pass : World → Pass → World
+abbrev pub with_pass : World → PartyPass → World
 with_pass w pass = record w { passes = replaced w.passes pass }
 
 -- the list with one x more: in front of the first, or at the end where it has none
@@ -88,13 +88,13 @@ without_one x (y ∷ ys) = if y == x then ys else y ∷ without_one x ys
 abbrev pub with_ticket : World → ℕ → World
 with_ticket w ticket = record w { bag = with_one ticket w.bag }
 
-abbrev pub finds_dying : Pass → ℕ → Pass
+abbrev pub finds_dying : PartyPass → ℕ → PartyPass
 finds_dying pass e = record pass { dying = pass.dying ++ e ∷ [] }
 
-abbrev pub looks_at : Pass → ℕ → Pass
+abbrev pub looks_at : PartyPass → ℕ → PartyPass
 looks_at pass e = record pass { looked = pass.looked ++ e ∷ [] }
 
-abbrev pub decides : Pass → Pass
+abbrev pub decides : PartyPass → PartyPass
 decides pass = record pass { wanted = None }
 
 -- ---- the rows of the table
@@ -105,7 +105,7 @@ take_bucket w party bucket wanted =
     (reply.Taken, record w { passes = w.passes ++ record { party = party; bucket = bucket; wanted = wanted; dying = []; looked = [] } ∷ [] })
 
 -- At zero the entry is found dying. Below the limit it gets one holder more; at the limit it is full. Both decide.
-unfoldable pub add : World → Pass → ℕ → Entry → StepReply × World
+unfoldable pub add : World → PartyPass → ℕ → WorldEntry → StepReply × World
 add w pass e entry =
     if entry.count == 0 then (reply.Dying, with_pass w (finds_dying pass e))
     else if nat_lt entry.count w.limits.holders then (
@@ -115,21 +115,21 @@ add w pass e entry =
     else (reply.Full, with_pass w (decides (looks_at pass e)))
 
 -- Where the entry is linked with the text, its number is one that was found dying.
-abbrev pub dying_if_linked : List ℕ → List ℕ → ℕ × Entry → Bool
+abbrev pub dying_if_linked : List ℕ → List ℕ → ℕ × WorldEntry → Bool
 dying_if_linked dying text e = not (is_linked e.1.place && bytes_eq e.1.text text) || has dying e.0
 
 -- Each linked entry of the text was found dying in this pass.
-abbrev pub all_found_dying : World → Pass → List ℕ → Bool
+abbrev pub all_found_dying : World → PartyPass → List ℕ → Bool
 all_found_dying w pass text = list_all (dying_if_linked pass.dying text) (enumerate_from 1 w.entries)
 
 -- A new entry with the bucket's next serial and one holder, where a serial is left and there is room. It decides, also
 -- where it refuses.
-unfoldable pub link : World → Pass → Bool → List ℕ → StepReply × World
+unfoldable pub link : World → PartyPass → Bool → List ℕ → StepReply × World
 link w pass room text =
     let serial = last_of w pass.bucket + 1 in
     let ticket = ticket_of serial pass.bucket in
     let e = length w.entries + 1 in
-    let entry : Entry = record { text = text; bucket = pass.bucket; ticket = ticket; count = 1; place = place.Linked } in
+    let entry : WorldEntry = record { text = text; bucket = pass.bucket; ticket = ticket; count = 1; place = place.Linked } in
     if nat_lt (last_of w pass.bucket) w.limits.serials then
     if room then (
       reply.Linked e ticket,
@@ -145,30 +145,30 @@ link w pass room text =
     else (reply.Spent, with_pass w (decides pass))
 
 -- one holder more, below the limit
-unfoldable pub clone : World → ℕ → Entry → StepReply × World
+unfoldable pub clone : World → ℕ → WorldEntry → StepReply × World
 clone w e entry =
     if nat_lt entry.count w.limits.holders then
     (reply.Cloned (entry.count + 1), with_ticket (with_entry w e (record entry { count = entry.count + 1 })) entry.ticket)
     else (reply.Full, w)
 
 -- one holder less
-unfoldable pub give : World → ℕ → Entry → StepReply × World
+unfoldable pub give : World → ℕ → WorldEntry → StepReply × World
 give w e entry =
     let left = with_entry w e (record entry { count = entry.count - 1 }) in
     (reply.Given (entry.count - 1), record left { bag = without_one entry.ticket w.bag })
 
 -- At zero the entry leaves the list. Else it stays, and was looked at.
-unfoldable pub unlink : World → Pass → ℕ → Entry → StepReply × World
+unfoldable pub unlink : World → PartyPass → ℕ → WorldEntry → StepReply × World
 unlink w pass e entry =
     if entry.count == 0 then (reply.Unlinked, with_entry w e (record entry { place = place.UnlinkedBy pass.party }))
     else (reply.Kept, with_pass w (looks_at pass e))
 
 -- Where the entry is linked in the bucket, its number is one that was looked at.
-abbrev pub looked_at_if_linked : ℕ → List ℕ → ℕ × Entry → Bool
+abbrev pub looked_at_if_linked : ℕ → List ℕ → ℕ × WorldEntry → Bool
 looked_at_if_linked bucket looked e = not (is_linked_in bucket e.1) || has looked e.0
 
 -- Each linked entry of the bucket was looked at or linked in this pass.
-abbrev pub all_looked_at : World → Pass → Bool
+abbrev pub all_looked_at : World → PartyPass → Bool
 all_looked_at w pass = list_all (looked_at_if_linked pass.bucket pass.looked) (enumerate_from 1 w.entries)
 
 -- ---- where each step is enabled

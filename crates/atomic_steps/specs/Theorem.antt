@@ -5,14 +5,14 @@ use Rattle.std.specs.List.{filter, AllByRecursion}
 use Rattle.std.specs.String.{string_bytes}
 use Rattle.string_cache_core.specs.Bounds.{Bounds}
 use Rattle.string_cache_core.specs.Layout.{most_buckets}
-use Rattle.atomic_steps.specs.declared.steps.entry.Place.TheVariants as place
+use Rattle.atomic_steps.specs.declared.steps.world_entry.Place.TheVariants as place
 use Rattle.atomic_steps.specs.declared.steps.Step.{Step}
 use Rattle.atomic_steps.specs.declared.steps.Step.TheVariants.{TakeIntern, TakeSweep, Add, Link, Clone, Give, Unlink, Free, Leave}
 use Rattle.atomic_steps.specs.declared.steps.StepReply.{StepReply}
 use Rattle.atomic_steps.specs.declared.steps.StepReply.TheVariants as reply
 use Rattle.string_cache_core.specs.Tables.{Tables, bucket_of}
 use Rattle.string_cache_core.specs.Times.{times}
-use Rattle.atomic_steps.specs.World.{Entry, World, is_linked, is_living}
+use Rattle.atomic_steps.specs.World.{WorldEntry, World, is_linked, is_living}
 use Rattle.atomic_steps.specs.Steps.{step, entry_at, is_linked_in, opening}
 use Rattle.string_cache_core.specs.Map.{MapCall, empty_map}
 use Rattle.string_cache_core.specs.Map as map
@@ -32,7 +32,7 @@ pub record Part (t : Tables) (old : World) (events : List Event) (w : World) (pa
 -- ---- an entry is freed by who unlinked it, without a holder, and never again
 
 pub record FreesSoundly (w : World) (party e : ℕ) (later : List Event) : Type 0 where
-  pub entry : Entry
+  pub entry : WorldEntry
   pub is : entry_at w.entries e ≡ Some entry
   pub own : entry.place ≡ place.UnlinkedBy party
   pub not_held : times entry.ticket w.bag ≡ 0
@@ -92,8 +92,8 @@ bucket_taken t buckets Leave = None
 
 -- Each entry that was linked in the bucket without a holder is there later, and isn't linked.
 abbrev pub ZerosGo : World → World → ℕ → Type 0
-ZerosGo taken left bucket = (e : ℕ) (before : Entry) → entry_at taken.entries e ≡ Some before → is_linked_in bucket before ≡ true → before.count ≡ 0
-    → (after : Entry) × (entry_at left.entries e ≡ Some after) × (is_linked after.place ≡ false)
+ZerosGo taken left bucket = (e : ℕ) (before : WorldEntry) → entry_at taken.entries e ≡ Some before → is_linked_in bucket before ≡ true → before.count ≡ 0
+    → (after : WorldEntry) × (entry_at left.entries e ≡ Some after) × (is_linked after.place ≡ false)
 
 -- ---- one party that sweeps all buckets leaves exactly the entries with a holder linked
 
@@ -107,7 +107,7 @@ Sweeps party events bucket = (before : List Event) × (middle : List Event) × (
     × (events ≡ before ++ event party (TakeSweep bucket) reply.Taken ∷ middle ++ event party Leave reply.Left ∷ after)
 
 abbrev pub OnlyHeldLinked : World → Type 0
-OnlyHeldLinked w = (e : ℕ) (entry : Entry) → entry_at w.entries e ≡ Some entry → (is_linked entry.place ≡ true) ↔ (0 < times entry.ticket w.bag)
+OnlyHeldLinked w = (e : ℕ) (entry : WorldEntry) → entry_at w.entries e ≡ Some entry → (is_linked entry.place ≡ true) ↔ (0 < times entry.ticket w.bag)
 
 -- ---- all together
 
@@ -117,10 +117,10 @@ pub record IsSoundRun (t : Tables) (old : World) (events : List Event) (new : Wo
   -- The calls that the replies are read as are those of one map, from the empty map to what the last world shows.
   pub one_map : ReplaysHistory t old.limits (empty_map (length old.lasts)) (history_of t old events) (live_map new)
   -- No two entries that were ever linked have one ticket, and no two living ones one text.
-  pub distinct_tickets : (j k : ℕ) (x y : Entry) → entry_at new.entries j ≡ Some x → entry_at new.entries k ≡ Some y → x.ticket ≡ y.ticket → j ≡ k
-  pub distinct_texts : (j k : ℕ) (x y : Entry) → entry_at new.entries j ≡ Some x → entry_at new.entries k ≡ Some y → is_living x ≡ true → is_living y ≡ true → x.text ≡ y.text → j ≡ k
+  pub distinct_tickets : (j k : ℕ) (x y : WorldEntry) → entry_at new.entries j ≡ Some x → entry_at new.entries k ≡ Some y → x.ticket ≡ y.ticket → j ≡ k
+  pub distinct_texts : (j k : ℕ) (x y : WorldEntry) → entry_at new.entries j ≡ Some x → entry_at new.entries k ≡ Some y → is_living x ≡ true → is_living y ≡ true → x.text ≡ y.text → j ≡ k
   -- Counts are places in the bag. An entry is freed by who unlinked it and without a holder, and at one place of the run.
-  pub counts : (e : ℕ) (entry : Entry) → entry_at new.entries e ≡ Some entry → entry.count ≡ times entry.ticket new.bag
+  pub counts : (e : ℕ) (entry : WorldEntry) → entry_at new.entries e ≡ Some entry → entry.count ≡ times entry.ticket new.bag
   pub frees : (w v : World) (party e : ℕ) (later : List Event) → Part t old events w (event party (Free e) reply.Freed ∷ later) v → FreesSoundly w party e later
   pub freed_once : (i j p q e : ℕ) → slice_get events i ≡ Some (event p (Free e) reply.Freed) → slice_get events j ≡ Some (event q (Free e) reply.Freed) → i ≡ j
   -- Each party's calls stand in its own order, and a pass interns its text exactly once until it has left, before that at most once.

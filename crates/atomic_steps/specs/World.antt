@@ -1,11 +1,11 @@
 -- The world that steps act on.
 use Rattle.std.specs.Prelude.{ℕ, ◌==◌, ◌&&◌, nat_lt, Bool, true, false, List, Option}
 use Rattle.string_cache_core.specs.Bounds.{Bounds}
-use Rattle.atomic_steps.specs.declared.steps.entry.Place.{Place}
-use Rattle.atomic_steps.specs.declared.steps.entry.Place.TheVariants as place
+use Rattle.atomic_steps.specs.declared.steps.world_entry.Place.{Place}
+use Rattle.atomic_steps.specs.declared.steps.world_entry.Place.TheVariants as place
 
 -- A text that was linked. Its place is Linked, UnlinkedBy a party, or Freed.
-pub record Entry : Type 0 where
+pub record WorldEntry : Type 0 where
   pub text : List ℕ
   pub bucket : ℕ
   pub ticket : ℕ
@@ -13,7 +13,7 @@ pub record Entry : Type 0 where
   pub place : Place
 
 -- What a party does that isn't idle: it holds a bucket.
-pub record Pass : Type 0 where
+pub record PartyPass : Type 0 where
   pub party : ℕ
   pub bucket : ℕ
   pub wanted : Option (List ℕ)  -- the text to intern, until that is decided. None from the start in a sweep
@@ -23,8 +23,8 @@ pub record Pass : Type 0 where
 pub record World : Type 0 where
   pub limits : Bounds
   pub lasts : List ℕ  -- each bucket's last serial: there are as many buckets
-  pub entries : List Entry  -- all that were ever linked, in order: entry 1 first
-  pub passes : List Pass  -- of all parties that aren't idle
+  pub entries : List WorldEntry  -- all that were ever linked, in order: entry 1 first
+  pub passes : List PartyPass  -- of all parties that aren't idle
   pub bag : List ℕ  -- the held tickets, each as often as it is held
 
 -- the entry stands in its bucket's list
@@ -34,7 +34,7 @@ is_linked (place.UnlinkedBy party) = false
 is_linked place.Freed = false
 
 -- the entry is found, and has a holder
-abbrev pub is_living : Entry → Bool
+abbrev pub is_living : WorldEntry → Bool
 is_living entry = is_linked entry.place && nat_lt 0 entry.count
 
 -- this party took the entry out of its bucket's list, and hasn't freed it

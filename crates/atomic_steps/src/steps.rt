@@ -10,10 +10,10 @@ ghost use Rattle.atomic_steps.specs.Steps.{IsStep, entry_at, opening};
 ghost use Rattle.atomic_steps.specs.Theorem.{HasRun};
 ghost use Rattle.atomic_steps.specs.PassSteps.{PassIsSteps};
 
-mod entry;
-mod listed;
-mod pass;
+mod entry_numbers;
+mod party_pass;
 mod state;
+mod world_entry;
 
 use state::State;
 use std::alloc::Global;
@@ -172,7 +172,7 @@ impl<S: StaticAtomSet> World<S> {
     /// How many hold the entry, 0 once it is unlinked or freed. `None` where no entry has the number.
     pub fn count(&self, entry: u64) -> Option<u64>
         ensures value { result ≡ option_map (λ entry. entry.count) (entry_at self.now.entries entry) }
-        ensures unlinked { (gone : world.Entry) → entry_at self.now.entries entry ≡ Some gone → is_linked gone.place ≡ false → result ≡ Some 0 }
+        ensures unlinked { (gone : world.WorldEntry) → entry_at self.now.entries entry ≡ Some gone → is_linked gone.place ≡ false → result ≡ Some 0 }
     {
         self.state.count(entry)
     }

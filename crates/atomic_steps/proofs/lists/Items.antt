@@ -6,7 +6,7 @@ use Rattle.std.proofs.lemmas.Bool.{eq-eqb, or_cases, false_from_ne_true, cases_B
 use Rattle.std.proofs.lemmas.List.{reverse-append}
 use Rattle.std.proofs.lemmas.List.Elements.{filter-append}
 use Rattle.std.proofs.lemmas.Option.{none-some}
-use Rattle.atomic_steps.specs.World.{Entry}
+use Rattle.atomic_steps.specs.World.{WorldEntry}
 use Rattle.atomic_steps.specs.Steps.{has, is_linked_in}
 use Rattle.atomic_steps.specs.Sound.{At}
 use Rattle.atomic_steps.specs.PassSteps.{Item, item}
@@ -23,25 +23,25 @@ Falls n [] = Unit {0}
 Falls n (e ∷ es) = (e.number < n) × Falls e.number es
 
 -- the items of the bucket's entries, of a list that is numbered from n, the oldest first
-abbrev pub items : ℕ → ℕ → List Entry → List Item
-items bucket n es = map item (filter (λ (numbered : ℕ × Entry). is_linked_in bucket numbered.1) (enumerate_from n es))
+abbrev pub items : ℕ → ℕ → List WorldEntry → List Item
+items bucket n es = map item (filter (λ (numbered : ℕ × WorldEntry). is_linked_in bucket numbered.1) (enumerate_from n es))
 
-items_in : (bucket n : ℕ) (x : Entry) (xs : List Entry) → is_linked_in bucket x ≡ true → items bucket n (x ∷ xs) ≡ item (n, x) ∷ items bucket (n + 1) xs
+items_in : (bucket n : ℕ) (x : WorldEntry) (xs : List WorldEntry) → is_linked_in bucket x ≡ true → items bucket n (x ∷ xs) ≡ item (n, x) ∷ items bucket (n + 1) xs
 items_in bucket n x xs e =
-    let rest = filter (λ (numbered : ℕ × Entry). is_linked_in bucket numbered.1) (enumerate_from (n + 1) xs) in
+    let rest = filter (λ (numbered : ℕ × WorldEntry). is_linked_in bucket numbered.1) (enumerate_from (n + 1) xs) in
     ap (λ (c : Bool). map item (cond c ((n, x) ∷ rest) rest)) e
 
-items_out : (bucket n : ℕ) (x : Entry) (xs : List Entry) → is_linked_in bucket x ≡ false → items bucket n (x ∷ xs) ≡ items bucket (n + 1) xs
+items_out : (bucket n : ℕ) (x : WorldEntry) (xs : List WorldEntry) → is_linked_in bucket x ≡ false → items bucket n (x ∷ xs) ≡ items bucket (n + 1) xs
 items_out bucket n x xs e =
-    let rest = filter (λ (numbered : ℕ × Entry). is_linked_in bucket numbered.1) (enumerate_from (n + 1) xs) in
+    let rest = filter (λ (numbered : ℕ × WorldEntry). is_linked_in bucket numbered.1) (enumerate_from (n + 1) xs) in
     ap (λ (c : Bool). map item (cond c ((n, x) ∷ rest) rest)) e
 
 -- ---- what changes the list, and what doesn't
 
-item_is : (n : ℕ) (x y : Entry) → y.text ≡ x.text → y.ticket ≡ x.ticket → item (n, x) ≡ item (n, y)
+item_is : (n : ℕ) (x y : WorldEntry) → y.text ≡ x.text → y.ticket ≡ x.ticket → item (n, x) ≡ item (n, y)
 item_is n x y text ticket = λ i. record { number = n; ticket = sym ticket i; text = sym text i }
 
-pub items_same : (bucket n : ℕ) (es es' : List Entry) → SameIn bucket es es' → items bucket n es ≡ items bucket n es'
+pub items_same : (bucket n : ℕ) (es es' : List WorldEntry) → SameIn bucket es es' → items bucket n es ≡ items bucket n es'
 items_same bucket n [] [] same = refl
 items_same bucket n [] (y ∷ ys) same =
     let out : is_linked_in bucket y ≡ false = false_from_ne_true (is_linked_in bucket y) (λ h. absurd (none-some _ (same.back zero y refl h).1)) in
@@ -57,7 +57,7 @@ items_same bucket n (x ∷ xs) (y ∷ ys) same =
       | inl inside ↦
           let f = same.forth zero x refl inside in
           let is : y ≡ f.0 = (let e : Some y ≡ Some f.0 = f.1 in cc) in
-          let here : item (n, x) ≡ item (n, y) = item_is n x y (ap (λ (v : Entry). v.text) is ∙ f.3) (ap (λ (v : Entry). v.ticket) is ∙ f.4) in
+          let here : item (n, x) ≡ item (n, y) = item_is n x y (ap (λ (v : WorldEntry). v.text) is ∙ f.3) (ap (λ (v : WorldEntry). v.ticket) is ∙ f.4) in
           items_in bucket n x xs inside ∙ (λ i. here i ∷ rest i) ∙ sym (items_in bucket n y ys (ap (is_linked_in bucket) is ∙ f.2))
       | inr out ↦
           let out' : is_linked_in bucket y ≡ false = false_from_ne_true (is_linked_in bucket y) (λ h.
@@ -68,7 +68,7 @@ items_same bucket n (x ∷ xs) (y ∷ ys) same =
     ]
 
 -- a new entry in the bucket is the last
-pub items_push : (bucket n : ℕ) (es : List Entry) (y : Entry) → is_linked_in bucket y ≡ true → items bucket n (es ++ y ∷ []) ≡ items bucket n es ++ item (n + length es, y) ∷ []
+pub items_push : (bucket n : ℕ) (es : List WorldEntry) (y : WorldEntry) → is_linked_in bucket y ≡ true → items bucket n (es ++ y ∷ []) ≡ items bucket n es ++ item (n + length es, y) ∷ []
 items_push bucket n [] y inside =
     let e : n ≡ n + 0 = omega arith in
     items_in bucket n y [] inside ∙ ap (λ (m : ℕ). item (m, y) ∷ []) e
@@ -94,7 +94,7 @@ filter_out : (p : Item → Bool) (x : Item) (xs : List Item) → p x ≡ false �
 filter_out p x xs e = ap (λ (c : Bool). cond c (x ∷ filter p xs) (filter p xs)) e
 
 -- items that are numbered from n have no number below
-none_below : (bucket n : ℕ) (es : List Entry) (number : ℕ) → number < n → filter (is_other number) (items bucket n es) ≡ items bucket n es
+none_below : (bucket n : ℕ) (es : List WorldEntry) (number : ℕ) → number < n → filter (is_other number) (items bucket n es) ≡ items bucket n es
 none_below bucket n [] number below = refl
 none_below bucket n (x ∷ xs) number below =
     let rest = none_below bucket (n + 1) xs number (omega (arith, below)) in
@@ -107,7 +107,7 @@ none_below bucket n (x ∷ xs) number below =
     ]
 
 -- an entry that stands in the list no more is missing, and all else stays
-pub items_cut : (bucket n : ℕ) (es : List Entry) (k : ℕ) (x y : Entry) → At es k x → is_linked_in bucket y ≡ false
+pub items_cut : (bucket n : ℕ) (es : List WorldEntry) (k : ℕ) (x y : WorldEntry) → At es k x → is_linked_in bucket y ≡ false
     → items bucket n (slice_set es k y) ≡ filter (is_other (n + k)) (items bucket n es)
 items_cut bucket n [] k x y at out = absurd (none-some x at)
 items_cut bucket n (z ∷ zs) zero x y at out =
@@ -173,20 +173,20 @@ cut_out top (f ∷ front) e rest falls =
 -- ---- where its items stand
 
 -- The item is of this entry, of a list that is numbered from n.
-pub record IsThere (bucket n : ℕ) (xs : List Entry) (e : Item) : Type 0 where
+pub record IsThere (bucket n : ℕ) (xs : List WorldEntry) (e : Item) : Type 0 where
   pub k : ℕ
-  pub entry : Entry
+  pub entry : WorldEntry
   pub number : e.number ≡ n + k
   pub at : At xs k entry
   pub inside : is_linked_in bucket entry ≡ true
   pub text : entry.text ≡ e.text
 
-pub record IsListed (bucket n : ℕ) (xs : List Entry) (l : List Item) : Type 0 where
+pub record IsListed (bucket n : ℕ) (xs : List WorldEntry) (l : List Item) : Type 0 where
   pub each : AllByRecursion (IsThere bucket n xs) l
-  pub all : (k : ℕ) (x : Entry) → At xs k x → is_linked_in bucket x ≡ true → has (numbers l) (n + k) ≡ true
+  pub all : (k : ℕ) (x : WorldEntry) → At xs k x → is_linked_in bucket x ≡ true → has (numbers l) (n + k) ≡ true
   pub falls : Falls (n + length xs) l
 
-one_later : (bucket n : ℕ) (x : Entry) (xs : List Entry) (l : List Item) → AllByRecursion (IsThere bucket (n + 1) xs) l → AllByRecursion (IsThere bucket n (x ∷ xs)) l
+one_later : (bucket n : ℕ) (x : WorldEntry) (xs : List WorldEntry) (l : List Item) → AllByRecursion (IsThere bucket (n + 1) xs) l → AllByRecursion (IsThere bucket n (x ∷ xs)) l
 one_later bucket n x xs [] all = tt
 one_later bucket n x xs (e ∷ l) all =
     let s = all.0 in
@@ -208,15 +208,15 @@ all_last P [] e all pe = (pe, tt)
 all_last P (x ∷ l) e all pe = (all.0, all_last P l e all.1 pe)
 
 -- numbers that fall, and a smaller one
-falls_last : (bucket n top : ℕ) (xs : List Entry) (l : List Item) (e : Item) → AllByRecursion (IsThere bucket n xs) l → e.number < n → e.number < top → Falls top l → Falls top (l ++ e ∷ [])
+falls_last : (bucket n top : ℕ) (xs : List WorldEntry) (l : List Item) (e : Item) → AllByRecursion (IsThere bucket n xs) l → e.number < n → e.number < top → Falls top l → Falls top (l ++ e ∷ [])
 falls_last bucket n top xs [] e all less below falls = (below, tt)
 falls_last bucket n top xs (x ∷ l) e all less below falls =
     (falls.0, falls_last bucket n x.number xs l e all.1 less (let m = all.0.number in omega (arith, m, less)) falls.1)
 
-pub listed : (bucket n : ℕ) (xs : List Entry) → IsListed bucket n xs (reverse (items bucket n xs))
-listed bucket n [] = record { each = tt; all = λ k x at h. absurd (let e : ◌≡◌ {A = Option Entry} None (Some x) = at in cc); falls = tt }
+pub listed : (bucket n : ℕ) (xs : List WorldEntry) → IsListed bucket n xs (reverse (items bucket n xs))
+listed bucket n [] = record { each = tt; all = λ k x at h. absurd (let e : ◌≡◌ {A = Option WorldEntry} None (Some x) = at in cc); falls = tt }
 listed bucket n (x ∷ xs) =
-    let numbered = filter (λ (numbered : ℕ × Entry). is_linked_in bucket numbered.1) (enumerate_from (n + 1) xs) in
+    let numbered = filter (λ (numbered : ℕ × WorldEntry). is_linked_in bucket numbered.1) (enumerate_from (n + 1) xs) in
     let rest = items bucket (n + 1) xs in
     let was = listed bucket (n + 1) xs in
     let top : n + 1 + length xs ≡ n + length (x ∷ xs) = omega arith in
@@ -240,10 +240,10 @@ listed bucket n (x ∷ xs) =
     shifted : (j : ℕ) (l : List Item) → has (numbers l) (n + 1 + j) ≡ true → has (numbers l) (n + suc j) ≡ true
     shifted j l h = let e : n + 1 + j ≡ n + suc j = omega arith in sym (ap (has (numbers l)) e) ∙ h
 
-    all_in : (rest : List Item) → IsListed bucket (n + 1) xs (reverse rest) → is_linked_in bucket x ≡ true → (k : ℕ) (y : Entry) → At (x ∷ xs) k y → is_linked_in bucket y ≡ true → has (numbers (reverse rest ++ item (n, x) ∷ [])) (n + k) ≡ true
+    all_in : (rest : List Item) → IsListed bucket (n + 1) xs (reverse rest) → is_linked_in bucket x ≡ true → (k : ℕ) (y : WorldEntry) → At (x ∷ xs) k y → is_linked_in bucket y ≡ true → has (numbers (reverse rest ++ item (n, x) ∷ [])) (n + k) ≡ true
     all_in rest was i zero y at h = let e : n ≡ n + 0 = omega arith in has_last (reverse rest) (item (n, x)) (n + 0) e
     all_in rest was i (suc j) y at h = has_before (reverse rest) (item (n, x)) (n + suc j) (shifted j (reverse rest) (was.all j y at h))
 
-    all_out : (rest : List Item) → IsListed bucket (n + 1) xs (reverse rest) → is_linked_in bucket x ≡ false → (k : ℕ) (y : Entry) → At (x ∷ xs) k y → is_linked_in bucket y ≡ true → has (numbers (reverse rest)) (n + k) ≡ true
+    all_out : (rest : List Item) → IsListed bucket (n + 1) xs (reverse rest) → is_linked_in bucket x ≡ false → (k : ℕ) (y : WorldEntry) → At (x ∷ xs) k y → is_linked_in bucket y ≡ true → has (numbers (reverse rest)) (n + k) ≡ true
     all_out rest was out zero y at h = absurd (let e : x ≡ y = cc in let clash : true ≡ false = sym h ∙ ap (is_linked_in bucket) (sym e) ∙ out in cc)
     all_out rest was out (suc j) y at h = shifted j (reverse rest) (was.all j y at h)

@@ -4,7 +4,7 @@ use Rattle.std.specs.Prelude.{slice_get, slice_set, MatchOption, nat_lt, ◌==�
 use Rattle.std.specs.List.{find, position, position_or_len, remove}
 use Rattle.std.proofs.lemmas.Bool.{eqb-true, eq-eqb, cases_Bool, ltb-true, ltb-false}
 use Rattle.std.proofs.lemmas.Option.{slice_get_within}
-use Rattle.atomic_steps.specs.World.{Pass, World}
+use Rattle.atomic_steps.specs.World.{PartyPass, World}
 use Rattle.atomic_steps.specs.Steps.{pass_of, entry_at, replaced, without_party}
 use Rattle.atomic_steps.specs.Places.{PassAt, EntryAt}
 use Rattle.atomic_steps.specs.Sound.{At}
@@ -30,31 +30,31 @@ pub entry_is : (w : World) (n k : ℕ) (e : EntryAt w n k) → entry_at w.entrie
 entry_is w n k e = ap (entry_at w.entries) e.numbered ∙ e.there
 
 -- the first pass of the party, and what replacing it does
-pub record Place (passes : List Pass) (party at : ℕ) : Type 0 where
-  pub pass : Pass
+pub record Place (passes : List PartyPass) (party at : ℕ) : Type 0 where
+  pub pass : PartyPass
   pub found : find (λ pass. pass.party == party) passes ≡ Some pass
   pub there : At passes at pass
-  pub replaces : (new : Pass) → new.party ≡ pass.party → replaced passes new ≡ slice_set passes at new
+  pub replaces : (new : PartyPass) → new.party ≡ pass.party → replaced passes new ≡ slice_set passes at new
   pub own : pass.party ≡ party
   pub removes : without_party passes party ≡ remove passes at
 
 -- what the list's first place says, one pass further on
-later : (z : Pass) (zs : List Pass) (party i : ℕ) → (z.party == party) ≡ false → Place zs party i → Place (z ∷ zs) party (suc i)
+later : (z : PartyPass) (zs : List PartyPass) (party i : ℕ) → (z.party == party) ≡ false → Place zs party i → Place (z ∷ zs) party (suc i)
 later z zs party i other at = record {
   pass = at.pass;
-  found = ap (λ (b : Bool). cond b (Some z) (find (λ (pass : Pass). pass.party == party) zs)) other ∙ at.found;
+  found = ap (λ (b : Bool). cond b (Some z) (find (λ (pass : PartyPass). pass.party == party) zs)) other ∙ at.found;
   there = at.there;
   replaces = λ new same.
       let not_this : (z.party == new.party) ≡ false = ap (λ (q : ℕ). z.party == q) (same ∙ at.own) ∙ other in
-      ap (λ (b : Bool). cond b (new ∷ zs) (z ∷ replaced zs new)) not_this ∙ ap (λ (ys : List Pass). z ∷ ys) (at.replaces new same);
+      ap (λ (b : Bool). cond b (new ∷ zs) (z ∷ replaced zs new)) not_this ∙ ap (λ (ys : List PartyPass). z ∷ ys) (at.replaces new same);
   own = at.own;
-  removes = ap (λ (b : Bool). cond b zs (z ∷ without_party zs party)) other ∙ ap (λ (ys : List Pass). z ∷ ys) at.removes;
+  removes = ap (λ (b : Bool). cond b zs (z ∷ without_party zs party)) other ∙ ap (λ (ys : List PartyPass). z ∷ ys) at.removes;
 }
 
-here : (z : Pass) (zs : List Pass) (party : ℕ) → (z.party == party) ≡ true → Place (z ∷ zs) party 0
+here : (z : PartyPass) (zs : List PartyPass) (party : ℕ) → (z.party == party) ≡ true → Place (z ∷ zs) party 0
 here z zs party hit = record {
   pass = z;
-  found = ap (λ (b : Bool). cond b (Some z) (find (λ (pass : Pass). pass.party == party) zs)) hit;
+  found = ap (λ (b : Bool). cond b (Some z) (find (λ (pass : PartyPass). pass.party == party) zs)) hit;
   there = refl;
   replaces = λ new same.
       let this : (z.party == new.party) ≡ true = ap (λ (q : ℕ). z.party == q) same ∙ eq-eqb z.party z.party refl in
@@ -64,29 +64,29 @@ here z zs party hit = record {
 }
 
 -- what an option says of the place: none has the party, or the place
-abbrev IsPlace : List Pass → ℕ → ℕ → Type 0
+abbrev IsPlace : List PartyPass → ℕ → ℕ → Type 0
 IsPlace passes party i = (i < length passes → Place passes party i) × (length passes ≤ i → find (λ pass. pass.party == party) passes ≡ None)
 
-is_place : (passes : List Pass) (party : ℕ) → IsPlace passes party (position_or_len (λ pass. pass.party == party) passes)
+is_place : (passes : List PartyPass) (party : ℕ) → IsPlace passes party (position_or_len (λ pass. pass.party == party) passes)
 is_place [] party = (λ h. absurd (omega arith), λ h. refl)
 is_place (z ∷ zs) party =
     let rest = is_place zs party in
     elim (cases_Bool (z.party == party)) [
       | inl hit ↦ subst (λ (i : ℕ). IsPlace (z ∷ zs) party i) (sym (at_first z zs hit)) (λ h. here z zs party hit, λ h. absurd (omega arith))
       | inr no_match ↦ subst (λ (i : ℕ). IsPlace (z ∷ zs) party i) (sym (at_later z zs no_match))
-          (λ h. later z zs party _ no_match (rest.0 (omega arith)), λ h. ap (λ (b : Bool). cond b (Some z) (find (λ (pass : Pass). pass.party == party) zs)) no_match ∙ rest.1 (omega arith))
+          (λ h. later z zs party _ no_match (rest.0 (omega arith)), λ h. ap (λ (b : Bool). cond b (Some z) (find (λ (pass : PartyPass). pass.party == party) zs)) no_match ∙ rest.1 (omega arith))
     ]
   where
-    at_first : (z : Pass) (zs : List Pass) → (z.party == party) ≡ true → position_or_len (λ pass. pass.party == party) (z ∷ zs) ≡ 0
-    at_first z zs hit = ap (λ (b : Bool). cond (not b) (1 + position_or_len (λ (pass : Pass). pass.party == party) zs) 0) hit
+    at_first : (z : PartyPass) (zs : List PartyPass) → (z.party == party) ≡ true → position_or_len (λ pass. pass.party == party) (z ∷ zs) ≡ 0
+    at_first z zs hit = ap (λ (b : Bool). cond (not b) (1 + position_or_len (λ (pass : PartyPass). pass.party == party) zs) 0) hit
 
-    at_later : (z : Pass) (zs : List Pass) → (z.party == party) ≡ false → position_or_len (λ pass. pass.party == party) (z ∷ zs) ≡ suc (position_or_len (λ pass. pass.party == party) zs)
-    at_later z zs hit = ap (λ (b : Bool). cond (not b) (1 + position_or_len (λ (pass : Pass). pass.party == party) zs) 0) hit ∙ omega arith
+    at_later : (z : PartyPass) (zs : List PartyPass) → (z.party == party) ≡ false → position_or_len (λ pass. pass.party == party) (z ∷ zs) ≡ suc (position_or_len (λ pass. pass.party == party) zs)
+    at_later z zs hit = ap (λ (b : Bool). cond (not b) (1 + position_or_len (λ (pass : PartyPass). pass.party == party) zs) 0) hit ∙ omega arith
 
 pub place_of : (w : World) (party : ℕ) → MatchOption (position (λ pass. pass.party == party) w.passes) (pass_of w party ≡ None) (λ at. PassAt w party at)
 place_of w party =
     let is = is_place w.passes party in
-    let i = position_or_len (λ (pass : Pass). pass.party == party) w.passes in
+    let i = position_or_len (λ (pass : PartyPass). pass.party == party) w.passes in
     if_case (λ o. MatchOption o (pass_of w party ≡ None) (λ at. PassAt w party at)) (nat_lt i (length w.passes)) (Some i) None
     (λ inside. let at = is.0 (ltb-true i (length w.passes) inside) in record { pass = at.pass; found = at.found; there = at.there; own = at.own; replaces = at.replaces; removes = at.removes })
     (λ outside. is.1 (ltb-false i (length w.passes) outside))

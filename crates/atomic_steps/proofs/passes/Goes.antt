@@ -12,7 +12,7 @@ use Rattle.atomic_steps.specs.declared.steps.StepReply.TheVariants as reply
 use Rattle.string_cache_core.specs.Bounds.{Bounds}
 use Rattle.string_cache_core.specs.Layout.{most_buckets}
 use Rattle.string_cache_core.specs.Tables.{Tables, bucket_of}
-use Rattle.atomic_steps.specs.World.{Entry, Pass, World}
+use Rattle.atomic_steps.specs.World.{WorldEntry, PartyPass, World}
 use Rattle.atomic_steps.specs.Steps.{pass_of, is_linked_in, has, add, link, unlink, step_if, step, opening}
 use Rattle.atomic_steps.specs.Runs.{Event, Leads}
 use Rattle.atomic_steps.specs.Theorem.{text_taken}
@@ -32,15 +32,15 @@ use Rattle.atomic_steps.proofs.passes.Plans.{Told, is_of_add, still_wanted, keep
 -- the bucket's list.
 pub data Ready (w : World) (party bucket : ℕ) (begun : Option (List ℕ)) (plan : List Planned) (goal : List Item) : Type 0 where
   Done : plan ≡ [] → Ready w party bucket begun plan goal
-  To_leave : (pass : Pass) → Midway w party pass None [] → plan ≡ leaving → pass.bucket ≡ bucket → list_of w bucket ≡ goal → Ready w party bucket begun plan goal
-  To_link : (pass : Pass) (text : List ℕ) (room : Bool) → Midway w party pass (Some text) [] → plan ≡ planned (Link room) any_reply ∷ leaving → begun ≡ Some text
+  To_leave : (pass : PartyPass) → Midway w party pass None [] → plan ≡ leaving → pass.bucket ≡ bucket → list_of w bucket ≡ goal → Ready w party bucket begun plan goal
+  To_link : (pass : PartyPass) (text : List ℕ) (room : Bool) → Midway w party pass (Some text) [] → plan ≡ planned (Link room) any_reply ∷ leaving → begun ≡ Some text
       → pass.bucket ≡ bucket → list_of w bucket ≡ goal → Ready w party bucket begun plan goal
-  To_add : (pass : Pass) (wanted : Option (List ℕ)) (e : Item) (rest : List Item) (told : Told) (later : List Planned) (front left : List Item) → Midway w party pass wanted (e ∷ rest)
+  To_add : (pass : PartyPass) (wanted : Option (List ℕ)) (e : Item) (rest : List Item) (told : Told) (later : List Planned) (front left : List Item) → Midway w party pass wanted (e ∷ rest)
       → is_of_add told ≡ true → wanted ≡ Some e.text → plan ≡ steps_of e.number told ++ later → IsPlan (still_wanted told wanted) rest later left
       → ((text : List ℕ) → wanted ≡ Some text → begun ≡ Some text)
       → pass.bucket ≡ bucket → list_of w bucket ≡ front ++ e ∷ rest → goal ≡ front ++ keeps told e left → Ready w party bucket begun plan goal
   -- One that was found dying is unlinked, whatever fits. Else it is unlinked or kept, as what fits says.
-  To_unlink : (pass : Pass) (wanted : Option (List ℕ)) (e : Item) (rest : List Item) (told : Told) (fits : StepReply → Bool) (later : List Planned) (front left : List Item)
+  To_unlink : (pass : PartyPass) (wanted : Option (List ℕ)) (e : Item) (rest : List Item) (told : Told) (fits : StepReply → Bool) (later : List Planned) (front left : List Item)
       → Midway w party pass wanted (e ∷ rest) → (wanted ≡ Some e.text → has pass.dying e.number ≡ true) → plan ≡ planned (Unlink e.number) fits ∷ later → IsPlan wanted rest later left
       → ((text : List ℕ) → wanted ≡ Some text → begun ≡ Some text)
       → (fits reply.Unlinked ≡ true → keeps told e left ≡ left) → (fits reply.Kept ≡ true → (keeps told e left ≡ e ∷ left) ⊎ (has pass.dying e.number ≡ true))
@@ -63,7 +63,7 @@ one_more : (front : List Item) (e : Item) (xs : List Item) → front ++ e ∷ xs
 one_more front e xs = sym (append_assoc front (e ∷ []) xs)
 
 module _ (bucket : ℕ) (begun : Option (List ℕ)) where
-  module _ (w : World) (party : ℕ) (pass : Pass) (in_bucket : pass.bucket ≡ bucket) where
+  module _ (w : World) (party : ℕ) (pass : PartyPass) (in_bucket : pass.bucket ≡ bucket) where
     -- from where it stands in the list
     pub ready : (wanted : Option (List ℕ)) (rest : List Item) → Midway w party pass wanted rest → (plan : List Planned) (left : List Item) → IsPlan wanted rest plan left
         → ((text : List ℕ) → wanted ≡ Some text → begun ≡ Some text) → (front goal : List Item) → list_of w bucket ≡ front ++ rest → goal ≡ front ++ left → Ready w party bucket begun plan goal
@@ -84,7 +84,7 @@ module _ (bucket : ℕ) (begun : Option (List ℕ)) where
   module _ (tables : Tables) (w : World) (held : SoundWorld tables w) (party : ℕ) where
     -- ---- another's step
 
-    others_list : (pass : Pass) → pass_of w party ≡ Some pass → pass.bucket ≡ bucket → (q : ℕ) → q ≢ party → (s : Step) → list_of (step tables w q s).1 bucket ≡ list_of w bucket
+    others_list : (pass : PartyPass) → pass_of w party ≡ Some pass → pass.bucket ≡ bucket → (q : ℕ) → q ≢ party → (s : Step) → list_of (step tables w q s).1 bucket ≡ list_of w bucket
     others_list pass found b q n s =
         subst (λ (n : ℕ). list_of (step tables w q s).1 n ≡ list_of w n) b
         (sym (ap reverse (items_same pass.bucket 1 w.entries (step tables w q s).1.entries (others_leave tables w held party pass found q n s))))
@@ -150,7 +150,7 @@ module _ (bucket : ℕ) (begun : Option (List ℕ)) where
     no_more : (wanted : Option (List ℕ)) (rest : List Item) (left : List Item) (plan : List Planned) (v : World) (goal : List Item) → IsPlan wanted rest plan left → plan ≡ [] → list_of v bucket ≡ goal
     no_more wanted rest left plan v goal is e = absurd (plan_some wanted rest left plan is e)
 
-    module _ (pass : Pass) (wanted : Option (List ℕ)) (e : Item) (rest : List Item) (m : Midway w party pass wanted (e ∷ rest)) (of : (text : List ℕ) → wanted ≡ Some text → begun ≡ Some text)
+    module _ (pass : PartyPass) (wanted : Option (List ℕ)) (e : Item) (rest : List Item) (m : Midway w party pass wanted (e ∷ rest)) (of : (text : List ℕ) → wanted ≡ Some text → begun ≡ Some text)
         (b : pass.bucket ≡ bucket) (front : List Item) (list : list_of w bucket ≡ front ++ e ∷ rest) (later : List Planned) (left : List Item) where
       same_list : (v : World) → list_of v pass.bucket ≡ list_of w pass.bucket → list_of v bucket ≡ front ++ e ∷ rest
       same_list v same = subst (λ (n : ℕ). list_of v n ≡ list_of w n) b same ∙ list
@@ -188,7 +188,7 @@ module _ (bucket : ℕ) (begun : Option (List ℕ)) where
           let there = m.there.0 in
           let same : dead.0 ≡ there.k = (let a = dead.2 in let c = there.number in omega (arith, a, c)) in
           let is : dead.1 ≡ there.entry = at_one w.entries there.k dead.1 there.entry (subst (λ (i : ℕ). At w.entries i dead.1) same dead.3) there.at in
-          eq-eqb there.entry.count 0 (sym (ap (λ (x : Entry). x.count) is) ∙ dead.4)
+          eq-eqb there.entry.count 0 (sym (ap (λ (x : WorldEntry). x.count) is) ∙ dead.4)
 
       next_unlink : (told : Told) (fits : StepReply → Bool) → (wanted ≡ Some e.text → has pass.dying e.number ≡ true) → IsPlan wanted rest later left
           → (fits reply.Unlinked ≡ true → keeps told e left ≡ left) → (fits reply.Kept ≡ true → (keeps told e left ≡ e ∷ left) ⊎ (has pass.dying e.number ≡ true))
@@ -300,16 +300,16 @@ module _ (tables : Tables) (party bucket : ℕ) (begun : Option (List ℕ)) wher
 
 -- ---- a pass that was just begun
 
-stand_all : (es : List Entry) (bucket : ℕ) (l : List Item) → AllByRecursion (IsThere bucket 1 es) l → AllByRecursion (Stands es bucket) l
+stand_all : (es : List WorldEntry) (bucket : ℕ) (l : List Item) → AllByRecursion (IsThere bucket 1 es) l → AllByRecursion (Stands es bucket) l
 stand_all es bucket [] all = tt
 stand_all es bucket (e ∷ l) all =
     let s = all.0 in
     (record { k = s.k; entry = s.entry; number = (let n = s.number in omega (arith, n)); at = s.at; inside = s.inside; text = s.text }, stand_all es bucket l all.1)
 
-starts : (w : World) (party : ℕ) (pass : Pass) (wanted : Option (List ℕ)) → pass_of w party ≡ Some pass → pass.wanted ≡ wanted → Midway w party pass wanted (list_of w pass.bucket)
+starts : (w : World) (party : ℕ) (pass : PartyPass) (wanted : Option (List ℕ)) → pass_of w party ≡ Some pass → pass.wanted ≡ wanted → Midway w party pass wanted (list_of w pass.bucket)
 starts w party pass wanted found wants =
     let l = listed pass.bucket 1 w.entries in
-    let all : (k : ℕ) (x : Entry) → At w.entries k x → is_linked_in pass.bucket x ≡ true → has (numbers (list_of w pass.bucket)) (suc k) ≡ true =
+    let all : (k : ℕ) (x : WorldEntry) → At w.entries k x → is_linked_in pass.bucket x ≡ true → has (numbers (list_of w pass.bucket)) (suc k) ≡ true =
     λ k x at h. (let e : suc k ≡ 1 + k = omega arith in ap (has (numbers (list_of w pass.bucket))) e ∙ l.all k x at h) in
     record {
       found = found;
@@ -326,9 +326,9 @@ module _ (tables : Tables) where
   unfolding opening
   no_passes limits n = tt
 
-  no_entries : (limits : Bounds) (n : ℕ) (k : ℕ) (x : Entry) → At (opening limits n).entries k x → x.bucket ≡ bucket_of tables (length (opening limits n).lasts) x.text
+  no_entries : (limits : Bounds) (n : ℕ) (k : ℕ) (x : WorldEntry) → At (opening limits n).entries k x → x.bucket ≡ bucket_of tables (length (opening limits n).lasts) x.text
   unfolding opening
-  no_entries limits n k x at = absurd (let e : ◌≡◌ {A = Option Entry} None (Some x) = at in cc)
+  no_entries limits n k x at = absurd (let e : ◌≡◌ {A = Option WorldEntry} None (Some x) = at in cc)
 
   pub held_opening : (limits : Bounds) (n : ℕ) → 0 < n → n ≤ most_buckets → SoundWorld tables (opening limits n)
   held_opening limits n some few = record { sound = opening_sound tables limits n some few; apart = no_passes limits n; placed = no_entries limits n }

@@ -8,7 +8,7 @@ use Rattle.atomic_steps.specs.declared.steps.Step.{Step}
 use Rattle.atomic_steps.specs.declared.steps.Step.TheVariants.{Leave}
 use Rattle.atomic_steps.specs.declared.steps.StepReply.{StepReply}
 use Rattle.atomic_steps.specs.declared.steps.StepReply.TheVariants as reply
-use Rattle.atomic_steps.specs.World.{Pass, World}
+use Rattle.atomic_steps.specs.World.{PartyPass, World}
 use Rattle.atomic_steps.specs.Steps.{pass_of, step}
 use Rattle.atomic_steps.specs.Runs.{Made, Event, Leads, call_of, history_of}
 use Rattle.atomic_steps.specs.Theorem.{Stays, event, interned_by, texts_in, text_taken, made_by, own_calls}
@@ -42,12 +42,12 @@ module _ (tables : Tables) where
   then a b c xs ys (passes.Now t g h i) (passes.Now u j k l) = absurd (let e : ◌≡◌ {A = Option (List ℕ)} None (Some u) = sym h ∙ j in cc)
 
   -- over the events in which the party stays
-  pub record Went (w : World) (party : ℕ) (pass : Pass) (events : List Event) (v : World) : Type 0 where
-    pub next : Pass
+  pub record Went (w : World) (party : ℕ) (pass : PartyPass) (events : List Event) (v : World) : Type 0 where
+    pub next : PartyPass
     pub found : pass_of v party ≡ Some next
     pub decided : Decided pass.wanted next.wanted (interned_by party (history_of tables w events))
 
-  pub goes_on : (w : World) (party : ℕ) (pass : Pass) → pass_of w party ≡ Some pass → (events : List Event) (v : World) → Leads tables w events v → Stays party events → Went w party pass events v
+  pub goes_on : (w : World) (party : ℕ) (pass : PartyPass) → pass_of w party ≡ Some pass → (events : List Event) (v : World) → Leads tables w events v → Stays party events → Went w party pass events v
   goes_on w party pass found [] v leads stays = record { next = pass; found = subst (λ (u : World). pass_of u party ≡ Some pass) (sym leads) found; decided = passes.NotNow refl refl }
   goes_on w party pass found (e ∷ events) v leads stays =
       let mid = leads.0 in
@@ -55,7 +55,7 @@ module _ (tables : Tables) where
       let calls = call_of w e.party e.does e.reply in
       let split : interned_by party calls ++ interned_by party (history_of tables mid events) ≡ interned_by party (history_of tables w (e ∷ events)) =
       sym (ap (λ (u : World). interned_by party (calls ++ history_of tables u events)) is ∙ interned_by-append party calls (history_of tables mid events)) in
-      let on : (next : Pass) → pass_of mid party ≡ Some next → Decided pass.wanted next.wanted (interned_by party calls) → Went w party pass (e ∷ events) v =
+      let on : (next : PartyPass) → pass_of mid party ≡ Some next → Decided pass.wanted next.wanted (interned_by party calls) → Went w party pass (e ∷ events) v =
       λ next p d.
       let rest = goes_on mid party next p events v leads.2 stays.1 in
       record {

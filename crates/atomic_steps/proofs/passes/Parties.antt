@@ -9,7 +9,7 @@ use Rattle.atomic_steps.specs.declared.steps.Step.{Step}
 use Rattle.atomic_steps.specs.declared.steps.Step.TheVariants.{TakeIntern, TakeSweep, Add, Link, Clone, Give, Unlink, Free, Leave}
 use Rattle.atomic_steps.specs.declared.steps.StepReply.{StepReply}
 use Rattle.atomic_steps.specs.declared.steps.StepReply.TheVariants as reply
-use Rattle.atomic_steps.specs.World.{Entry, Pass, World, is_unlinked_by}
+use Rattle.atomic_steps.specs.World.{WorldEntry, PartyPass, World, is_unlinked_by}
 use Rattle.atomic_steps.specs.Steps.{◌>>=◌, pass_of, is_free, is_linked_in, wants, has, take_bucket, add, link, clone, give, unlink, all_found_dying, all_looked_at, replaced, without_party, finds_dying, looks_at, decides, last_of, step}
 use Rattle.atomic_steps.specs.Runs.{Made, Event, Leads, wanted_by, call_of}
 use Rattle.atomic_steps.specs.Theorem.{interned_by, texts_in, bucket_taken, text_taken}
@@ -20,7 +20,7 @@ use Rattle.string_cache_core.specs.Tables.{Tables, is_dynamic, bucket_of}
 
 -- ---- the list of passes
 
-abbrev pub of_party : ℕ → Pass → Bool
+abbrev pub of_party : ℕ → PartyPass → Bool
 of_party party pass = pass.party == party
 
 pub find_passes : {X : Type 0} (p : X → Bool) (xs : List X) (x : X) → find p xs ≡ Some x → p x ≡ true
@@ -37,7 +37,7 @@ find_push_found {X} p (z ∷ xs) y x h =
     (λ pz e. rw pz e)
     (λ pz e. rw pz (find_push_found p xs y x e)) h
 
-pub replaced_other : (ps : List Pass) (new : Pass) (party : ℕ) → new.party ≢ party → find (of_party party) (replaced ps new) ≡ find (of_party party) ps
+pub replaced_other : (ps : List PartyPass) (new : PartyPass) (party : ℕ) → new.party ≢ party → find (of_party party) (replaced ps new) ≡ find (of_party party) ps
 replaced_other [] new party n = refl
 replaced_other (q ∷ ps) new party n =
     if_case (λ qs. find (of_party party) qs ≡ find (of_party party) (q ∷ ps)) (q.party == new.party) (new ∷ ps) (q ∷ replaced ps new)
@@ -46,20 +46,20 @@ replaced_other (q ∷ ps) new party n =
     ap (λ (c : Bool). cond c (Some new) (find (of_party party) ps)) a ∙ sym (ap (λ (c : Bool). cond c (Some q) (find (of_party party) ps)) b))
     (λ e. ap (cond (q.party == party) (Some q)) (replaced_other ps new party n))
 
-replaced_at : (ps : List Pass) (new pass : Pass) → find (of_party new.party) ps ≡ Some pass → find (of_party new.party) (replaced ps new) ≡ Some new
-replaced_at [] new pass h = absurd (let e : ◌≡◌ {A = Option Pass} None (Some pass) = h in cc)
+replaced_at : (ps : List PartyPass) (new pass : PartyPass) → find (of_party new.party) ps ≡ Some pass → find (of_party new.party) (replaced ps new) ≡ Some new
+replaced_at [] new pass h = absurd (let e : ◌≡◌ {A = Option PartyPass} None (Some pass) = h in cc)
 replaced_at (q ∷ ps) new pass h =
     if_case (λ qs. find (of_party new.party) qs ≡ Some new) (q.party == new.party) (new ∷ ps) (q ∷ replaced ps new)
     (λ e. ap (λ (c : Bool). cond c (Some new) (find (of_party new.party) ps)) (eq-eqb new.party new.party refl))
     (λ e. let rest : find (of_party new.party) ps ≡ Some pass = sym (ap (λ (c : Bool). cond c (Some q) (find (of_party new.party) ps)) e) ∙ h in
     ap (λ (c : Bool). cond c (Some q) (find (of_party new.party) (replaced ps new))) e ∙ replaced_at ps new pass rest)
 
-pub replaced_same : (ps : List Pass) (new pass : Pass) (party : ℕ) → new.party ≡ party → find (of_party party) ps ≡ Some pass → find (of_party party) (replaced ps new) ≡ Some new
+pub replaced_same : (ps : List PartyPass) (new pass : PartyPass) (party : ℕ) → new.party ≡ party → find (of_party party) ps ≡ Some pass → find (of_party party) (replaced ps new) ≡ Some new
 replaced_same ps new pass party e h =
     subst (λ (p : ℕ). find (of_party p) (replaced ps new) ≡ Some new) e
     (replaced_at ps new pass (subst (λ (p : ℕ). find (of_party p) ps ≡ Some pass) (sym e) h))
 
-pub without_other : (ps : List Pass) (q party : ℕ) → q ≢ party → find (of_party party) (without_party ps q) ≡ find (of_party party) ps
+pub without_other : (ps : List PartyPass) (q party : ℕ) → q ≢ party → find (of_party party) (without_party ps q) ≡ find (of_party party) ps
 without_other [] q party n = refl
 without_other (p ∷ ps) q party n =
     if_case (λ qs. find (of_party party) qs ≡ find (of_party party) (p ∷ ps)) (p.party == q) ps (p ∷ without_party ps q)
@@ -114,15 +114,15 @@ pub data Decided (before after : Option (List ℕ)) (texts : List (List ℕ)) : 
   NotNow : texts ≡ [] → after ≡ before → Decided before after texts
   Now : (text : List ℕ) → before ≡ Some text → after ≡ None → texts ≡ text ∷ [] → Decided before after texts
 
-pub record GoesOn (w : World) (party : ℕ) (pass : Pass) (s : Step) (o : StepReply × World) : Type 0 where
-  pub next : Pass
+pub record GoesOn (w : World) (party : ℕ) (pass : PartyPass) (s : Step) (o : StepReply × World) : Type 0 where
+  pub next : PartyPass
   pub found : pass_of o.1 party ≡ Some next
   pub stays : o.0 ≢ reply.Left
   pub bucket : next.bucket ≡ pass.bucket
-  pub looked : (k : ℕ) (x : Entry) → At w.entries k x → x.count ≡ 0 → has next.looked (suc k) ≡ true → has pass.looked (suc k) ≡ true
+  pub looked : (k : ℕ) (x : WorldEntry) → At w.entries k x → x.count ≡ 0 → has next.looked (suc k) ≡ true → has pass.looked (suc k) ≡ true
   pub decided : Decided pass.wanted next.wanted (interned_by party (call_of w party s o.0))
 
-pub record Leaves (w : World) (party : ℕ) (pass : Pass) (s : Step) (o : StepReply × World) : Type 0 where
+pub record Leaves (w : World) (party : ℕ) (pass : PartyPass) (s : Step) (o : StepReply × World) : Type 0 where
   pub left : o.0 ≡ reply.Left
   pub decided : pass.wanted ≡ None
   pub all : all_looked_at w pass ≡ true
@@ -133,11 +133,11 @@ none_is {X} None h = refl
 none_is {X} (Some x) h = absurd (let e : false ≡ true = h in cc)
 
 module _ (tables : Tables) where
-  module _ (w : World) (party : ℕ) (pass : Pass) (found : pass_of w party ≡ Some pass) (q : ℕ) (n : q ≢ party) where
+  module _ (w : World) (party : ℕ) (pass : PartyPass) (found : pass_of w party ≡ Some pass) (q : ℕ) (n : q ≢ party) where
     abbrev Kept : StepReply × World → Type 0
     Kept o = pass_of o.1 party ≡ Some pass
 
-    other_put : (old new : Pass) → pass_of w q ≡ Some old → new.party ≡ old.party → find (of_party party) (replaced w.passes new) ≡ Some pass
+    other_put : (old new : PartyPass) → pass_of w q ≡ Some old → new.party ≡ old.party → find (of_party party) (replaced w.passes new) ≡ Some pass
     other_put old new p same =
         let is : old.party ≡ q = eqb-true old.party q (find_passes (of_party q) w.passes old p) in
         replaced_other w.passes new party (λ e. n (sym is ∙ sym same ∙ e)) ∙ found
@@ -146,28 +146,28 @@ module _ (tables : Tables) where
     unfolding take_bucket
     take_other bucket wanted = find_push_found (of_party party) w.passes _ pass found
 
-    add_other : (k : ℕ) (old : Pass) (x : Entry) → pass_of w q ≡ Some old → Kept (add w old (suc k) x)
+    add_other : (k : ℕ) (old : PartyPass) (x : WorldEntry) → pass_of w q ≡ Some old → Kept (add w old (suc k) x)
     unfolding add
     add_other k old x p =
         if_case Kept (x.count == 0) _ _ (λ e. other_put old _ p refl)
         (λ e. if_case Kept (nat_lt x.count w.limits.holders) _ _ (λ r. other_put old _ p refl) (λ r. other_put old _ p refl))
 
-    link_other : (old : Pass) (room : Bool) (text : List ℕ) → pass_of w q ≡ Some old → Kept (link w old room text)
+    link_other : (old : PartyPass) (room : Bool) (text : List ℕ) → pass_of w q ≡ Some old → Kept (link w old room text)
     unfolding link
     link_other old room text p =
         if_case Kept (nat_lt _ w.limits.serials) _ _
         (λ e. if_case Kept room _ _ (λ r. other_put old _ p refl) (λ r. other_put old _ p refl))
         (λ e. other_put old _ p refl)
 
-    clone_other : (k : ℕ) (x : Entry) → Kept (clone w (suc k) x)
+    clone_other : (k : ℕ) (x : WorldEntry) → Kept (clone w (suc k) x)
     unfolding clone
     clone_other k x = if_case Kept (nat_lt x.count w.limits.holders) _ _ (λ r. found) (λ r. found)
 
-    give_other : (k : ℕ) (x : Entry) → Kept (give w (suc k) x)
+    give_other : (k : ℕ) (x : WorldEntry) → Kept (give w (suc k) x)
     unfolding give
     give_other k x = found
 
-    unlink_other : (k : ℕ) (old : Pass) (x : Entry) → pass_of w q ≡ Some old → Kept (unlink w old (suc k) x)
+    unlink_other : (k : ℕ) (old : PartyPass) (x : WorldEntry) → pass_of w q ≡ Some old → Kept (unlink w old (suc k) x)
     unfolding unlink
     unlink_other k old x p = if_case Kept (x.count == 0) _ _ (λ e. found) (λ e. other_put old _ p refl)
 
@@ -201,7 +201,7 @@ module _ (tables : Tables) where
 
   -- ---- a step of the party itself: it goes on with its pass, or leaves
 
-  module _ (w : World) (party : ℕ) (pass : Pass) (found : pass_of w party ≡ Some pass) where
+  module _ (w : World) (party : ℕ) (pass : PartyPass) (found : pass_of w party ≡ Some pass) where
     abbrev Own : Step → StepReply × World → Type 0
     Own s o = GoesOn w party pass s o ⊎ Leaves w party pass s o
 
@@ -222,26 +222,26 @@ module _ (tables : Tables) where
     pub is_party : pass.party ≡ party
     is_party = eqb-true pass.party party (find_passes (of_party party) w.passes pass found)
 
-    put : (new : Pass) → new.party ≡ pass.party → find (of_party party) (replaced w.passes new) ≡ Some new
+    put : (new : PartyPass) → new.party ≡ pass.party → find (of_party party) (replaced w.passes new) ≡ Some new
     put new same = replaced_same w.passes new pass party (same ∙ is_party) found
 
     -- looking at an entry with a holder, or at none that is there
-    looked_more : (e : ℕ) → ((k : ℕ) (x : Entry) → At w.entries k x → x.count ≡ 0 → suc k ≢ e)
-        → (k : ℕ) (x : Entry) → At w.entries k x → x.count ≡ 0 → has (pass.looked ++ e ∷ []) (suc k) ≡ true → has pass.looked (suc k) ≡ true
+    looked_more : (e : ℕ) → ((k : ℕ) (x : WorldEntry) → At w.entries k x → x.count ≡ 0 → suc k ≢ e)
+        → (k : ℕ) (x : WorldEntry) → At w.entries k x → x.count ≡ 0 → has (pass.looked ++ e ∷ []) (suc k) ≡ true → has pass.looked (suc k) ≡ true
     looked_more e other k x at z h = elim (has-push pass.looked e (suc k) h) [ inl old ↦ old | inr new ↦ absurd (other k x at z new) ]
 
     own_text : (text : List ℕ) → wanted_by w party ≡ text → cond (party == party) (wanted_by w party ∷ []) [] ++ [] ≡ text ∷ []
     own_text text e = ap (λ (c : Bool). cond c (wanted_by w party ∷ []) [] ++ []) (eq-eqb party party refl) ∙ ap (λ (t : List ℕ). t ∷ []) e
 
-    with_holder : (k : ℕ) (x : Entry) → At w.entries k x → (x.count == 0) ≡ false → (j : ℕ) (y : Entry) → At w.entries j y → y.count ≡ 0 → suc j ≢ suc k
+    with_holder : (k : ℕ) (x : WorldEntry) → At w.entries k x → (x.count == 0) ≡ false → (j : ℕ) (y : WorldEntry) → At w.entries j y → y.count ≡ 0 → suc j ≢ suc k
     with_holder k x at some j y b z e =
         let same : j ≡ k = omega (arith, e) in
         let is : y ≡ x = at_one w.entries k y x (subst (λ (i : ℕ). At w.entries i y) same b) at in
-        let test : (x.count == 0) ≡ true = eq-eqb x.count 0 (sym (ap (λ (v : Entry). v.count) is) ∙ z) in
+        let test : (x.count == 0) ≡ true = eq-eqb x.count 0 (sym (ap (λ (v : WorldEntry). v.count) is) ∙ z) in
         let clash : true ≡ false = sym test ∙ some in
         absurd cc
 
-    add_own : (k : ℕ) (x : Entry) → At w.entries k x → pass.wanted ≡ Some x.text → Own (Add (suc k)) (add w pass (suc k) x)
+    add_own : (k : ℕ) (x : WorldEntry) → At w.entries k x → pass.wanted ≡ Some x.text → Own (Add (suc k)) (add w pass (suc k) x)
     unfolding add
     add_own k x at wanted =
         if_case (Own (Add (suc k))) (x.count == 0) _ _
@@ -272,18 +272,18 @@ module _ (tables : Tables) where
         (λ r. inl (record { next = decides pass; found = put (decides pass) refl; stays = λ l. absurd cc; bucket = refl; looked = λ k x at z h. h; decided = Now text wanted refl own })))
         (λ e. inl (record { next = decides pass; found = put (decides pass) refl; stays = λ l. absurd cc; bucket = refl; looked = λ k x at z h. h; decided = Now text wanted refl own }))
 
-    clone_own : (k : ℕ) (x : Entry) → Own (Clone (suc k)) (clone w (suc k) x)
+    clone_own : (k : ℕ) (x : WorldEntry) → Own (Clone (suc k)) (clone w (suc k) x)
     unfolding clone
     clone_own k x =
         if_case (Own (Clone (suc k))) (nat_lt x.count w.limits.holders) _ _
         (λ r. still (Clone (suc k)) _ refl (λ l. absurd cc) (no_texts (party == party)))
         (λ r. still (Clone (suc k)) _ refl (λ l. absurd cc) (no_texts (party == party)))
 
-    give_own : (k : ℕ) (x : Entry) → Own (Give (suc k)) (give w (suc k) x)
+    give_own : (k : ℕ) (x : WorldEntry) → Own (Give (suc k)) (give w (suc k) x)
     unfolding give
     give_own k x = still (Give (suc k)) _ refl (λ l. absurd cc) (no_texts (party == party))
 
-    unlink_own : (k : ℕ) (x : Entry) → At w.entries k x → Own (Unlink (suc k)) (unlink w pass (suc k) x)
+    unlink_own : (k : ℕ) (x : WorldEntry) → At w.entries k x → Own (Unlink (suc k)) (unlink w pass (suc k) x)
     unfolding unlink
     unlink_own k x at =
         if_case (Own (Unlink (suc k))) (x.count == 0) _ _
@@ -297,7 +297,7 @@ module _ (tables : Tables) where
         let clash : true ≡ false = sym idle ∙ ap is_none found in
         absurd cc
 
-    by_pass : (s : Step) (f : Pass → Option (StepReply × World)) → Own s (unwrap_or (f pass) (reply.No, w)) → Own s (unwrap_or (pass_of w party >>= f) (reply.No, w))
+    by_pass : (s : Step) (f : PartyPass → Option (StepReply × World)) → Own s (unwrap_or (f pass) (reply.No, w)) → Own s (unwrap_or (pass_of w party >>= f) (reply.No, w))
     by_pass s f h = subst (Own s) (sym (some_then (pass_of w party) f (reply.No, w) pass found)) h
 
     pub own_step : (s : Step) → Own s (step tables w party s)
@@ -342,20 +342,20 @@ module _ (tables : Tables) where
 
   -- ---- an event, seen from a pass
 
-  pub own_event : (w : World) (party : ℕ) (pass : Pass) → pass_of w party ≡ Some pass → (e : Event) (mid : World) → e.party ≡ party → step tables w e.party e.does ≡ (e.reply, mid)
+  pub own_event : (w : World) (party : ℕ) (pass : PartyPass) → pass_of w party ≡ Some pass → (e : Event) (mid : World) → e.party ≡ party → step tables w e.party e.does ≡ (e.reply, mid)
       → GoesOn w party pass e.does (e.reply, mid) ⊎ Leaves w party pass e.does (e.reply, mid)
   own_event w party pass found e mid is does =
       subst (λ (o : StepReply × World). GoesOn w party pass e.does o ⊎ Leaves w party pass e.does o)
       (ap (λ (p : ℕ). step tables w p e.does) (sym is) ∙ does) (own_step w party pass found e.does)
 
-  pub other_event : (w : World) (party : ℕ) (pass : Pass) → pass_of w party ≡ Some pass → (e : Event) (mid : World) → e.party ≢ party → step tables w e.party e.does ≡ (e.reply, mid)
+  pub other_event : (w : World) (party : ℕ) (pass : PartyPass) → pass_of w party ≡ Some pass → (e : Event) (mid : World) → e.party ≢ party → step tables w e.party e.does ≡ (e.reply, mid)
       → pass_of mid party ≡ Some pass
   other_event w party pass found e mid n does = subst (λ (o : StepReply × World). pass_of o.1 party ≡ Some pass) does (others_keep w party pass found e.party n e.does)
 
   -- ---- a bucket was taken
 
   pub record Took (w : World) (party : ℕ) (take : Step) (o : StepReply × World) : Type 0 where
-    pub pass : Pass
+    pub pass : PartyPass
     pub found : pass_of o.1 party ≡ Some pass
     pub bucket : bucket_taken tables (length w.lasts) take ≡ Some pass.bucket
     pub wanted : pass.wanted ≡ text_taken take

@@ -8,14 +8,14 @@ use Rattle.std.proofs.lemmas.Bool.{eqb-true, eq-eqb, and_parts, and_from, or_cas
 use Rattle.std.proofs.lemmas.List.{reverse-append}
 use Rattle.std.proofs.lemmas.Option.{none-some}
 use Rattle.std.proofs.lemmas.Slice.Eq.{bytes_eq-Decides}
-use Rattle.atomic_steps.specs.declared.steps.entry.Place.TheVariants as place
+use Rattle.atomic_steps.specs.declared.steps.world_entry.Place.TheVariants as place
 use Rattle.atomic_steps.specs.declared.steps.Step.{Step}
 use Rattle.atomic_steps.specs.declared.steps.Step.TheVariants.{Add, Link, Unlink, Leave}
 use Rattle.atomic_steps.specs.declared.steps.StepReply.{StepReply}
 use Rattle.atomic_steps.specs.declared.steps.StepReply.TheVariants as reply
 use Rattle.atomic_steps.specs.Steps.{◌>>=◌, only_if, pass_of, is_linked_in, wants, has, add, link, unlink, dying_if_linked, all_looked_at, looked_at_if_linked, replaced, without_party, with_pass, finds_dying, looks_at, decides, last_of, step_if, step}
 use Rattle.string_cache_core.specs.Word.{ticket_of}
-use Rattle.atomic_steps.specs.World.{Entry, Pass, World, is_linked}
+use Rattle.atomic_steps.specs.World.{WorldEntry, PartyPass, World, is_linked}
 use Rattle.string_cache_core.specs.Pass as th
 use Rattle.atomic_steps.specs.PassSteps.{Item, item, list_of, steps_of_all, end_of, plan_of, Planned, planned, any_reply, is_dying, steps_of, linked_by}
 use Rattle.atomic_steps.specs.Sound.{At, SoundPass, SoundWorld}
@@ -29,7 +29,7 @@ use Rattle.string_cache_core.specs.Tables.{Tables, bucket_of}
 -- ---- a plan, entry by entry
 
 abbrev pub Told : Type 0
-Told = th.Reply (Unit {0})
+Told = th.PassReply (Unit {0})
 
 abbrev pub is_of_add : Told → Bool
 is_of_add (th.added s) = true
@@ -88,7 +88,7 @@ end_absent S room (Some text) = (room, refl)
 
 module _ {S : Type 0} where
   -- a pass that wants no text, or no text any more
-  plan_without : (es : List Item) (replies : List (th.Reply S)) → th.Asked None (map (λ (e : Item). e.text) es) replies → IsPlan None es (steps_of_all es replies ++ leaving) (th.kept es replies)
+  plan_without : (es : List Item) (replies : List (th.PassReply S)) → th.Asked None (map (λ (e : Item). e.text) es) replies → IsPlan None es (steps_of_all es replies ++ leaving) (th.kept es replies)
   plan_without [] [] asked = (refl, refl)
   plan_without [] (r ∷ rs) asked = absurd asked
   plan_without (e ∷ es) [] asked = absurd asked
@@ -100,7 +100,7 @@ module _ {S : Type 0} where
   plan_without (e ∷ es) (th.stays ∷ rs) asked =
       (th.stays, steps_of_all es rs ++ leaving, th.kept es rs, asked.0, append_assoc (steps_of {S = S} e.number th.stays) (steps_of_all es rs) leaving, refl, plan_without es rs asked.1)
 
-  pub plan_is : (room : Bool) (wanted : Option (List ℕ)) (es : List Item) (replies : List (th.Reply S)) → th.Asked wanted (map (λ (e : Item). e.text) es) replies
+  pub plan_is : (room : Bool) (wanted : Option (List ℕ)) (es : List Item) (replies : List (th.PassReply S)) → th.Asked wanted (map (λ (e : Item). e.text) es) replies
       → IsPlan wanted es (plan_of room wanted es replies) (th.kept es replies)
   plan_is room wanted [] [] asked = (end_absent S room wanted, refl)
   plan_is room wanted [] (r ∷ rs) asked = absurd asked
@@ -133,25 +133,25 @@ module _ {S : Type 0} where
 -- ---- a pass on its way through the list
 
 -- The numbered entry stands in the bucket, with its text.
-pub record Stands (es : List Entry) (bucket : ℕ) (e : Item) : Type 0 where
+pub record Stands (es : List WorldEntry) (bucket : ℕ) (e : Item) : Type 0 where
   pub k : ℕ
-  pub entry : Entry
+  pub entry : WorldEntry
   pub number : e.number ≡ suc k
   pub at : At es k entry
   pub inside : is_linked_in bucket entry ≡ true
   pub text : entry.text ≡ e.text
 
 -- What is still to be asked, and that all else of the bucket was looked at or, where its text is wanted, found dying.
-pub record Midway (w : World) (party : ℕ) (pass : Pass) (wanted : Option (List ℕ)) (rest : List Item) : Type 0 where
+pub record Midway (w : World) (party : ℕ) (pass : PartyPass) (wanted : Option (List ℕ)) (rest : List Item) : Type 0 where
   pub found : pass_of w party ≡ Some pass
   pub wants : pass.wanted ≡ wanted
   pub there : AllByRecursion (Stands w.entries pass.bucket) rest
   pub top : ℕ
   pub falls : Falls top rest
-  pub covered : (k : ℕ) (x : Entry) → At w.entries k x → is_linked_in pass.bucket x ≡ true → (has (numbers rest) (suc k) ≡ true) ⊎ (has pass.looked (suc k) ≡ true)
-  pub dying : (k : ℕ) (x : Entry) → At w.entries k x → is_linked_in pass.bucket x ≡ true → wanted ≡ Some x.text → (has (numbers rest) (suc k) ≡ true) ⊎ (has pass.dying (suc k) ≡ true)
+  pub covered : (k : ℕ) (x : WorldEntry) → At w.entries k x → is_linked_in pass.bucket x ≡ true → (has (numbers rest) (suc k) ≡ true) ⊎ (has pass.looked (suc k) ≡ true)
+  pub dying : (k : ℕ) (x : WorldEntry) → At w.entries k x → is_linked_in pass.bucket x ≡ true → wanted ≡ Some x.text → (has (numbers rest) (suc k) ≡ true) ⊎ (has pass.dying (suc k) ≡ true)
 
-stand_on : (b : ℕ) (es es' : List Entry) → SameIn b es es' → (rest : List Item) → AllByRecursion (Stands es b) rest → AllByRecursion (Stands es' b) rest
+stand_on : (b : ℕ) (es es' : List WorldEntry) → SameIn b es es' → (rest : List Item) → AllByRecursion (Stands es b) rest → AllByRecursion (Stands es' b) rest
 stand_on b es es' same [] all = tt
 stand_on b es es' same (e ∷ rest) all =
     let s = all.0 in
@@ -160,8 +160,8 @@ stand_on b es es' same (e ∷ rest) all =
 
 module _ (tables : Tables) where
   -- the world goes on with the same entries in the bucket, and the pass with more that it looked at or found dying
-  module _ (w : World) (party : ℕ) (pass : Pass) (wanted : Option (List ℕ)) (rest : List Item) (m : Midway w party pass wanted rest) where
-    pub goes_on : (v : World) (wanted' : Option (List ℕ)) (looked' dying' : List ℕ) → (let next : Pass = record { party = pass.party; bucket = pass.bucket; wanted = wanted'; dying = dying'; looked = looked' } in
+  module _ (w : World) (party : ℕ) (pass : PartyPass) (wanted : Option (List ℕ)) (rest : List Item) (m : Midway w party pass wanted rest) where
+    pub goes_on : (v : World) (wanted' : Option (List ℕ)) (looked' dying' : List ℕ) → (let next : PartyPass = record { party = pass.party; bucket = pass.bucket; wanted = wanted'; dying = dying'; looked = looked' } in
         pass_of v party ≡ Some next → SameIn pass.bucket w.entries v.entries
         → ((e : ℕ) → has pass.looked e ≡ true → has looked' e ≡ true) → ((e : ℕ) → has pass.dying e ≡ true → has dying' e ≡ true)
         → ((t : List ℕ) → wanted' ≡ Some t → wanted ≡ Some t) → Midway v party next wanted' rest)
@@ -193,9 +193,9 @@ module _ (tables : Tables) where
         }
 
   -- one entry is done with
-  pub passes_on : (w : World) (party : ℕ) (pass : Pass) (wanted : Option (List ℕ)) (e : Item) (rest : List Item) → Midway w party pass wanted (e ∷ rest)
-      → ((k : ℕ) (x : Entry) → At w.entries k x → is_linked_in pass.bucket x ≡ true → e.number ≡ suc k → has pass.looked (suc k) ≡ true)
-      → ((k : ℕ) (x : Entry) → At w.entries k x → is_linked_in pass.bucket x ≡ true → wanted ≡ Some x.text → e.number ≡ suc k → has pass.dying (suc k) ≡ true)
+  pub passes_on : (w : World) (party : ℕ) (pass : PartyPass) (wanted : Option (List ℕ)) (e : Item) (rest : List Item) → Midway w party pass wanted (e ∷ rest)
+      → ((k : ℕ) (x : WorldEntry) → At w.entries k x → is_linked_in pass.bucket x ≡ true → e.number ≡ suc k → has pass.looked (suc k) ≡ true)
+      → ((k : ℕ) (x : WorldEntry) → At w.entries k x → is_linked_in pass.bucket x ≡ true → wanted ≡ Some x.text → e.number ≡ suc k → has pass.dying (suc k) ≡ true)
       → Midway w party pass wanted rest
   passes_on w party pass wanted e rest m looked dying = record {
     found = m.found;
@@ -221,17 +221,17 @@ module _ (tables : Tables) where
   only : {B : Type 0} (b : Bool) (x : B) → b ≡ true → only_if b x ≡ Some x
   only b x e = ap (λ c. only_if c x) e
 
-  module _ (w : World) (held : SoundWorld tables w) (party : ℕ) (pass : Pass) (wanted : Option (List ℕ)) (e : Item) (rest : List Item) (m : Midway w party pass wanted (e ∷ rest)) where
+  module _ (w : World) (held : SoundWorld tables w) (party : ℕ) (pass : PartyPass) (wanted : Option (List ℕ)) (e : Item) (rest : List Item) (m : Midway w party pass wanted (e ∷ rest)) where
     here : Stands w.entries pass.bucket e
     here = m.there.0
 
     abbrev Same : World → Type 0
     Same v = list_of v pass.bucket ≡ list_of w pass.bucket
 
-    list_same : (es es' : List Entry) → SameIn pass.bucket es es' → reverse (items pass.bucket 1 es) ≡ reverse (items pass.bucket 1 es')
+    list_same : (es es' : List WorldEntry) → SameIn pass.bucket es es' → reverse (items pass.bucket 1 es) ≡ reverse (items pass.bucket 1 es')
     list_same es es' same = ap reverse (items_same pass.bucket 1 es es' same)
 
-    put : (new : Pass) → new.party ≡ pass.party → find (of_party party) (replaced w.passes new) ≡ Some new
+    put : (new : PartyPass) → new.party ≡ pass.party → find (of_party party) (replaced w.passes new) ≡ Some new
     put new same = replaced_same w.passes new pass party (same ∙ is_party tables w party pass m.found) m.found
 
     wants_it : wanted ≡ Some e.text → wants pass here.entry.text ≡ true
@@ -254,10 +254,10 @@ module _ (tables : Tables) where
         ∙ only _ _ m.there.0.inside
 
     abbrev pub AfterAdd : StepReply × World → Type 0
-    AfterAdd o = ((next : Pass) × Midway o.1 party next wanted (e ∷ rest) × (next.bucket ≡ pass.bucket) × Same o.1 × (has next.dying e.number ≡ true) × (is_dying o.0 ≡ true))
-        ⊎ ((next : Pass) × Midway o.1 party next None rest × (next.bucket ≡ pass.bucket) × Same o.1 × (is_dying o.0 ≡ false))
+    AfterAdd o = ((next : PartyPass) × Midway o.1 party next wanted (e ∷ rest) × (next.bucket ≡ pass.bucket) × Same o.1 × (has next.dying e.number ≡ true) × (is_dying o.0 ≡ true))
+        ⊎ ((next : PartyPass) × Midway o.1 party next None rest × (next.bucket ≡ pass.bucket) × Same o.1 × (is_dying o.0 ≡ false))
 
-    looked_at : (v : World) (pass' : Pass) → pass'.looked ≡ pass.looked ++ suc m.there.0.k ∷ [] → (j : ℕ) → e.number ≡ suc j → has pass'.looked (suc j) ≡ true
+    looked_at : (v : World) (pass' : PartyPass) → pass'.looked ≡ pass.looked ++ suc m.there.0.k ∷ [] → (j : ℕ) → e.number ≡ suc j → has pass'.looked (suc j) ≡ true
     looked_at v pass' is j n = ap (λ (xs : List ℕ). has xs (suc j)) is ∙ has_new pass.looked (suc m.there.0.k) (suc j) (sym m.there.0.number ∙ n)
 
     -- decided by a look at the entry
@@ -285,18 +285,18 @@ module _ (tables : Tables) where
         inl (next, subst (λ (o : Option (List ℕ)). Midway v party next o (e ∷ rest)) m.wants on, refl, refl, has_new pass.dying (suc k) e.number (sym m.there.0.number), refl))
         (λ z. if_case AfterAdd (nat_lt x.count w.limits.holders) _ _
         (λ r.
-        let more : Entry = record x { count = x.count + 1 } in
+        let more : WorldEntry = record x { count = x.count + 1 } in
         let same = same_change pass.bucket w.entries k x more m.there.0.at refl refl refl (λ l. l) (λ i l. l) in
         inr (decides (looks_at pass (suc k)), decided _ refl same, refl, sym (list_same w.entries (slice_set w.entries k more) same), refl))
         (λ r. inr (decides (looks_at pass (suc k)), decided _ refl (same_in pass.bucket w.entries), refl, refl, refl)))
 
     -- an entry at zero is missing afterwards, and one with a holder stays
     abbrev pub AfterUnlink : StepReply × World → Type 0
-    AfterUnlink o = (next : Pass) × Midway o.1 party next wanted rest × (next.bucket ≡ pass.bucket)
+    AfterUnlink o = (next : PartyPass) × Midway o.1 party next wanted rest × (next.bucket ≡ pass.bucket)
         × (((o.0 ≡ reply.Unlinked) × (list_of o.1 pass.bucket ≡ filter (is_other e.number) (list_of w pass.bucket)))
         ⊎ ((o.0 ≡ reply.Kept) × Same o.1 × ((m.there.0.entry.count == 0) ≡ false)))
 
-    there_set : (k n : ℕ) (y : Entry) (es : List Item) → n ≤ suc k → Falls n es → AllByRecursion (Stands w.entries pass.bucket) es → AllByRecursion (Stands (slice_set w.entries k y) pass.bucket) es
+    there_set : (k n : ℕ) (y : WorldEntry) (es : List Item) → n ≤ suc k → Falls n es → AllByRecursion (Stands w.entries pass.bucket) es → AllByRecursion (Stands (slice_set w.entries k y) pass.bucket) es
     there_set k n y [] le falls all = tt
     there_set k n y (x ∷ es) le falls all =
         let s = all.0 in
@@ -312,7 +312,7 @@ module _ (tables : Tables) where
         let x = m.there.0.entry in
         if_case AfterUnlink (x.count == 0) _ _
         (λ z.
-        let y : Entry = record x { place = place.UnlinkedBy pass.party } in
+        let y : WorldEntry = record x { place = place.UnlinkedBy pass.party } in
         let number : e.number ≤ suc k = (let n = m.there.0.number in omega (arith, n)) in (
           pass,
           record {
@@ -348,7 +348,7 @@ module _ (tables : Tables) where
               (λ j u at h n. looked_at v next refl j n)
               (λ j u at h t n.
               let same : u ≡ x = at_one w.entries k u x (subst (λ (i : ℕ). At w.entries i u) (let a = m.there.0.number in let b : j ≡ k = omega (arith, a, n) in b) at) m.there.0.at in
-              ap (λ (i : ℕ). has pass.dying i) (sym n) ∙ found (t ∙ ap (λ (q : Entry). Some q.text) same ∙ ap (λ (q : List ℕ). Some q) m.there.0.text)),
+              ap (λ (i : ℕ). has pass.dying i) (sym n) ∙ found (t ∙ ap (λ (q : WorldEntry). Some q.text) same ∙ ap (λ (q : List ℕ). Some q) m.there.0.text)),
           refl,
           inr (refl, refl, z),
         ))
@@ -361,14 +361,14 @@ module _ (tables : Tables) where
 
   -- ---- the end of the pass
 
-  looked_new : (bucket : ℕ) (looked : List ℕ) (es : List Entry) (new : Entry) → ((k : ℕ) (x : Entry) → At es k x → is_linked_in bucket x ≡ true → has looked (suc k) ≡ true)
-      → (k : ℕ) (x : Entry) → At (es ++ new ∷ []) k x → is_linked_in bucket x ≡ true → has (looked ++ (length es + 1) ∷ []) (suc k) ≡ true
+  looked_new : (bucket : ℕ) (looked : List ℕ) (es : List WorldEntry) (new : WorldEntry) → ((k : ℕ) (x : WorldEntry) → At es k x → is_linked_in bucket x ≡ true → has looked (suc k) ≡ true)
+      → (k : ℕ) (x : WorldEntry) → At (es ++ new ∷ []) k x → is_linked_in bucket x ≡ true → has (looked ++ (length es + 1) ∷ []) (suc k) ≡ true
   looked_new bucket looked es new all k x at h = elim (at_push_cases es new k x at) [
     | inl old ↦ has_old looked (length es + 1) (suc k) (all k x old h)
     | inr (i, f) ↦ (let number : length es + 1 ≡ suc k = omega (arith, i) in has_new looked (length es + 1) (suc k) number)
   ]
 
-  module _ (w : World) (held : SoundWorld tables w) (party : ℕ) (pass : Pass) where
+  module _ (w : World) (held : SoundWorld tables w) (party : ℕ) (pass : PartyPass) where
     none_left : (n : ℕ) {P : Type 0} → has [] n ≡ true → P
     none_left n h = false_is_true h
 
@@ -399,9 +399,9 @@ module _ (tables : Tables) where
           ])))
 
       abbrev pub AfterLink : StepReply × World → Type 0
-      AfterLink o = (next : Pass) × Midway o.1 party next None [] × (next.bucket ≡ pass.bucket) × (list_of o.1 pass.bucket ≡ linked_by (Some text) o.0 ++ list_of w pass.bucket)
+      AfterLink o = (next : PartyPass) × Midway o.1 party next None [] × (next.bucket ≡ pass.bucket) × (list_of o.1 pass.bucket ≡ linked_by (Some text) o.0 ++ list_of w pass.bucket)
 
-      put_last : (new : Pass) → new.party ≡ pass.party → find (of_party party) (replaced w.passes new) ≡ Some new
+      put_last : (new : PartyPass) → new.party ≡ pass.party → find (of_party party) (replaced w.passes new) ≡ Some new
       put_last new same = replaced_same w.passes new pass party (same ∙ is_party tables w party pass m.found) m.found
 
       pub after_link : (room : Bool) → AfterLink (link w pass room text)
@@ -413,7 +413,7 @@ module _ (tables : Tables) where
           (λ r. if_case AfterLink room _ _
           (λ q.
           let next = decides (looks_at pass (length w.entries + 1)) in
-          let new : Entry = record { text = text; bucket = pass.bucket; ticket = ticket_of (last_of w pass.bucket + 1) pass.bucket; count = 1; place = place.Linked } in (
+          let new : WorldEntry = record { text = text; bucket = pass.bucket; ticket = ticket_of (last_of w pass.bucket + 1) pass.bucket; count = 1; place = place.Linked } in (
             next,
             record {
               found = put_last next refl;

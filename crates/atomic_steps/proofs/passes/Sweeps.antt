@@ -3,12 +3,12 @@ use Rattle.std.proofs.Common.{◌≡◌, ℕ, ◌+◌, ◌<◌, ◌≢◌, inl, 
 use Rattle.std.specs.Prelude.{slice_get, slice_set, nat_lt, ◌==◌, ◌&&◌, is_none}
 use Rattle.std.specs.List.{AllByRecursion}
 use Rattle.std.proofs.lemmas.Bool.{cases_eq}
-use Rattle.atomic_steps.specs.declared.steps.entry.Place.TheVariants as place
+use Rattle.atomic_steps.specs.declared.steps.world_entry.Place.TheVariants as place
 use Rattle.atomic_steps.specs.declared.steps.Step.{Step}
 use Rattle.atomic_steps.specs.declared.steps.Step.TheVariants.{TakeIntern, TakeSweep, Add, Link, Clone, Give, Unlink, Free, Leave}
 use Rattle.atomic_steps.specs.declared.steps.StepReply.{StepReply}
 use Rattle.atomic_steps.specs.declared.steps.StepReply.TheVariants as reply
-use Rattle.atomic_steps.specs.World.{Entry, Pass, World, is_linked, is_unlinked_by}
+use Rattle.atomic_steps.specs.World.{WorldEntry, PartyPass, World, is_linked, is_unlinked_by}
 use Rattle.atomic_steps.specs.Steps.{pass_of, is_linked_in, wants, has, take_bucket, add, link, clone, unlink, all_found_dying, all_looked_at, step}
 use Rattle.atomic_steps.specs.Runs.{Event, Leads}
 use Rattle.atomic_steps.specs.Theorem.{event, IsAlone, Sweeps, OnlyHeldLinked}
@@ -22,34 +22,34 @@ use Rattle.atomic_steps.proofs.passes.Zeros.{AtZero, zero_taken, zero_all, zero_
 use Rattle.string_cache_core.specs.Tables.{Tables}
 
 -- What stood at zero here, linked if z is.
-pub record StoodAtZero (es : List Entry) (k : ℕ) (z : Entry) : Type 0 where
-  pub entry : Entry
+pub record StoodAtZero (es : List WorldEntry) (k : ℕ) (z : WorldEntry) : Type 0 where
+  pub entry : WorldEntry
   pub at : At es k entry
   pub zero_then : entry.count ≡ 0
   pub bucket : z.bucket ≡ entry.bucket
   pub linked : is_linked z.place ≡ true → is_linked entry.place ≡ true
 
 -- Whatever is at zero now was so before.
-abbrev pub Came : List Entry → List Entry → Type 0
-Came es es' = (k : ℕ) (z : Entry) → At es' k z → z.count ≡ 0 → StoodAtZero es k z
+abbrev pub Came : List WorldEntry → List WorldEntry → Type 0
+Came es es' = (k : ℕ) (z : WorldEntry) → At es' k z → z.count ≡ 0 → StoodAtZero es k z
 
-came_same : (es : List Entry) → Came es es
+came_same : (es : List WorldEntry) → Came es es
 came_same es k z at zero_now = record { entry = z; at = at; zero_then = zero_now; bucket = refl; linked = λ h. h }
 
-came_push : (es : List Entry) (y : Entry) → y.count ≡ 1 → Came es (es ++ y ∷ [])
+came_push : (es : List WorldEntry) (y : WorldEntry) → y.count ≡ 1 → Came es (es ++ y ∷ [])
 came_push es y one k z at zero_now = elim (at_push_cases es y k z at) [
   | inl old ↦ came_same es k z old zero_now
-  | inr (e, f) ↦ absurd (let c : z.count ≡ y.count = ap (λ (v : Entry). v.count) f in omega (arith, c, one, zero_now))
+  | inr (e, f) ↦ absurd (let c : z.count ≡ y.count = ap (λ (v : WorldEntry). v.count) f in omega (arith, c, one, zero_now))
 ]
 
-came_set : (es : List Entry) (j : ℕ) (x y : Entry) → At es j x → (y.count ≡ 0 → x.count ≡ 0) → y.bucket ≡ x.bucket → (is_linked y.place ≡ true → is_linked x.place ≡ true) → Came es (slice_set es j y)
+came_set : (es : List WorldEntry) (j : ℕ) (x y : WorldEntry) → At es j x → (y.count ≡ 0 → x.count ≡ 0) → y.bucket ≡ x.bucket → (is_linked y.place ≡ true → is_linked x.place ≡ true) → Came es (slice_set es j y)
 came_set es j x y at zero_was bucket linked k z b zero_now = elim (at_set_cases es j y k z b) [
   | inl (e, f) ↦ record {
     entry = x;
     at = subst (λ (i : ℕ). At es i x) (sym e) at;
-    zero_then = zero_was (sym (ap (λ (v : Entry). v.count) f) ∙ zero_now);
-    bucket = ap (λ (v : Entry). v.bucket) f ∙ bucket;
-    linked = λ h. linked (sym (ap (λ (v : Entry). is_linked v.place) f) ∙ h);
+    zero_then = zero_was (sym (ap (λ (v : WorldEntry). v.count) f) ∙ zero_now);
+    bucket = ap (λ (v : WorldEntry). v.bucket) f ∙ bucket;
+    linked = λ h. linked (sym (ap (λ (v : WorldEntry). is_linked v.place) f) ∙ h);
   }
   | inr (n, old) ↦ came_same es k z old zero_now
 ]
@@ -59,7 +59,7 @@ module _ (tables : Tables) where
     abbrev From : StepReply × World → Type 0
     From o = Came w.entries o.1.entries
 
-    add_came : (k : ℕ) (pass : Pass) (x : Entry) → At w.entries k x → From (add w pass (suc k) x)
+    add_came : (k : ℕ) (pass : PartyPass) (x : WorldEntry) → At w.entries k x → From (add w pass (suc k) x)
     unfolding add
     add_came k pass x at =
         if_case From (x.count == 0) _ _ (λ e. came_same w.entries)
@@ -67,21 +67,21 @@ module _ (tables : Tables) where
         (λ r. came_set w.entries k x (record x { count = x.count + 1 }) at (λ h. absurd (omega (arith, h))) refl (λ h. h))
         (λ r. came_same w.entries))
 
-    link_came : (pass : Pass) (room : Bool) (text : List ℕ) → From (link w pass room text)
+    link_came : (pass : PartyPass) (room : Bool) (text : List ℕ) → From (link w pass room text)
     unfolding link
     link_came pass room text =
         if_case From (nat_lt _ w.limits.serials) _ _
         (λ e. if_case From room _ _ (λ r. came_push w.entries _ refl) (λ r. came_same w.entries))
         (λ e. came_same w.entries)
 
-    clone_came : (k : ℕ) (x : Entry) → At w.entries k x → From (clone w (suc k) x)
+    clone_came : (k : ℕ) (x : WorldEntry) → At w.entries k x → From (clone w (suc k) x)
     unfolding clone
     clone_came k x at =
         if_case From (nat_lt x.count w.limits.holders) _ _
         (λ r. came_set w.entries k x (record x { count = x.count + 1 }) at (λ h. absurd (omega (arith, h))) refl (λ h. h))
         (λ r. came_same w.entries)
 
-    unlink_came : (k : ℕ) (pass : Pass) (x : Entry) → At w.entries k x → From (unlink w pass (suc k) x)
+    unlink_came : (k : ℕ) (pass : PartyPass) (x : WorldEntry) → At w.entries k x → From (unlink w pass (suc k) x)
     unfolding unlink
     unlink_came k pass x at =
         if_case From (x.count == 0) _ _
@@ -131,14 +131,14 @@ module _ (tables : Tables) where
   all_right P [] ys all = all
   all_right P (x ∷ xs) ys all = all_right P xs ys all.1
 
-  unlinked_is : (es : List Entry) (k : ℕ) (x y : Entry) → At es k x → At es k y → is_linked x.place ≡ false → is_linked y.place ≡ true → ⊥
+  unlinked_is : (es : List WorldEntry) (k : ℕ) (x y : WorldEntry) → At es k x → At es k y → is_linked x.place ≡ false → is_linked y.place ≡ true → ⊥
   unlinked_is es k x y a b out l =
-      let clash : false ≡ true = sym out ∙ ap (λ (z : Entry). is_linked z.place) (at_one es k x y a b) ∙ l in
+      let clash : false ≡ true = sym out ∙ ap (λ (z : WorldEntry). is_linked z.place) (at_one es k x y a b) ∙ l in
       false_is_true clash
 
   -- What was at zero in a bucket that the party held isn't linked once the party has left.
   left_gone : (u : World) → Sound tables u → (party bucket k : ℕ) → AtZero u party bucket k → (after : List Event) (v : World) → Leads tables u (event party Leave reply.Left ∷ after) v
-      → (y : Entry) → At v.entries k y → is_linked y.place ≡ true → ⊥
+      → (y : WorldEntry) → At v.entries k y → is_linked y.place ≡ true → ⊥
   left_gone u sound party bucket k z after v leads y at l =
       let leave = event party Leave reply.Left in
       let out = zero_left tables u sound party bucket k z leave leads.0 leads.1 refl refl in
@@ -148,7 +148,7 @@ module _ (tables : Tables) where
   -- Nor is what is at zero at the end, where the party is alone from the step on that took the bucket.
   taken_gone : (u mid : World) → Sound tables u → (party bucket : ℕ) → step tables u party (TakeSweep bucket) ≡ (reply.Taken, mid) → (middle after : List Event) (v : World)
       → Leads tables mid (middle ++ event party Leave reply.Left ∷ after) v → IsAlone party (middle ++ event party Leave reply.Left ∷ after)
-      → (k : ℕ) (y : Entry) → At v.entries k y → y.count ≡ 0 → y.bucket ≡ bucket → is_linked y.place ≡ true → ⊥
+      → (k : ℕ) (y : WorldEntry) → At v.entries k y → y.count ≡ 0 → y.bucket ≡ bucket → is_linked y.place ≡ true → ⊥
   taken_gone u mid sound party bucket does middle after v leads alone k y at zero_now right l =
       let sound' = sound_by tables u sound (event party (TakeSweep bucket) reply.Taken) mid does in
       let then = came_all party mid (middle ++ event party Leave reply.Left ∷ after) v leads alone k y at zero_now in
@@ -160,7 +160,7 @@ module _ (tables : Tables) where
   swept_gone : (w : World) → Sound tables w → (party bucket : ℕ) (before middle after : List Event) (v : World)
       → Leads tables w (before ++ (event party (TakeSweep bucket) reply.Taken ∷ middle ++ event party Leave reply.Left ∷ after)) v
       → IsAlone party (before ++ (event party (TakeSweep bucket) reply.Taken ∷ middle ++ event party Leave reply.Left ∷ after))
-      → (k : ℕ) (y : Entry) → At v.entries k y → y.count ≡ 0 → y.bucket ≡ bucket → is_linked y.place ≡ true → ⊥
+      → (k : ℕ) (y : WorldEntry) → At v.entries k y → y.count ≡ 0 → y.bucket ≡ bucket → is_linked y.place ≡ true → ⊥
   swept_gone w sound party bucket before middle after v leads alone k y at zero_now right l =
       let swept = event party (TakeSweep bucket) reply.Taken ∷ middle ++ event party Leave reply.Left ∷ after in
       let first = leads-append tables w v before swept leads in
@@ -168,7 +168,7 @@ module _ (tables : Tables) where
       taken_gone first.0 first.2.0 (all_sound tables w sound before first.0 first.1) party bucket first.2.1 middle after v first.2.2 alone' k y at zero_now right l
 
   pub only_held : (w : World) → Sound tables w → (party : ℕ) (part : List Event) (v : World) → Leads tables w part v → IsAlone party part → ((bucket : ℕ) → bucket < length w.lasts → Sweeps party part bucket) → OnlyHeldLinked v
-  only_held w sound party part v leads alone sweeps zero y at = absurd (let e : ◌≡◌ {A = Option Entry} None (Some y) = at in cc)
+  only_held w sound party part v leads alone sweeps zero y at = absurd (let e : ◌≡◌ {A = Option WorldEntry} None (Some y) = at in cc)
   only_held w sound party part v leads alone sweeps (suc k) y at = (held, linked)
     where
       sound' : Sound tables v

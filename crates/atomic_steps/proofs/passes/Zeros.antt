@@ -5,7 +5,7 @@ use Rattle.std.proofs.lemmas.Bool.{eqb-true, eq-eqb, cases_eq, and_parts, or_cas
 use Rattle.atomic_steps.specs.declared.steps.Step.{Step}
 use Rattle.atomic_steps.specs.declared.steps.Step.TheVariants.{Leave}
 use Rattle.atomic_steps.specs.declared.steps.StepReply.TheVariants as reply
-use Rattle.atomic_steps.specs.World.{Entry, Pass, World, is_linked}
+use Rattle.atomic_steps.specs.World.{WorldEntry, PartyPass, World, is_linked}
 use Rattle.atomic_steps.specs.Steps.{pass_of, is_linked_in, has, all_looked_at, looked_at_if_linked, step}
 use Rattle.atomic_steps.specs.Runs.{Event, Leads}
 use Rattle.atomic_steps.specs.Theorem.{ZerosGo, event, bucket_taken}
@@ -17,14 +17,14 @@ use Rattle.string_cache_core.specs.Tables.{Tables}
 
 -- The party's pass is over this bucket, and hasn't looked at the entry.
 pub record Unseen (w : World) (party bucket k : ℕ) : Type 0 where
-  pub pass : Pass
+  pub pass : PartyPass
   pub found : pass_of w party ≡ Some pass
   pub over : pass.bucket ≡ bucket
   pub not_looked : has pass.looked (suc k) ≡ false
 
 -- An entry of the bucket at zero, that is unlinked or unseen.
 pub record AtZero (w : World) (party bucket k : ℕ) : Type 0 where
-  pub entry : Entry
+  pub entry : WorldEntry
   pub at : At w.entries k entry
   pub zero_now : entry.count ≡ 0
   pub right : entry.bucket ≡ bucket
@@ -40,7 +40,7 @@ both false b h t = refl
 
 module _ (tables : Tables) where
   -- A party that leaves has looked at each linked entry.
-  seen_all : (w : World) (party bucket k : ℕ) (u : Unseen w party bucket k) (x : Entry) → At w.entries k x → x.bucket ≡ bucket → all_looked_at w u.pass ≡ true → is_linked x.place ≡ false
+  seen_all : (w : World) (party bucket k : ℕ) (u : Unseen w party bucket k) (x : WorldEntry) → At w.entries k x → x.bucket ≡ bucket → all_looked_at w u.pass ≡ true → is_linked x.place ≡ false
   seen_all w party bucket k u x at right all =
       let test = numbered_at (looked_at_if_linked u.pass.bucket u.pass.looked) w.entries 1 k x all at in
       let number : 1 + k ≡ suc k = omega arith in
@@ -51,7 +51,7 @@ module _ (tables : Tables) where
       ]
 
   module _ (w : World) (sound : Sound tables w) (party bucket k : ℕ) (z : AtZero w party bucket k) (e : Event) (mid : World) (does : step tables w e.party e.does ≡ (e.reply, mid)) where
-    later : (y : Entry) × At mid.entries k y × Evolves z.entry y
+    later : (y : WorldEntry) × At mid.entries k y × Evolves z.entry y
     later = goes_by tables w sound e mid does k z.entry z.at
 
     gone_now : is_linked z.entry.place ≡ false → AtZero mid party bucket k
@@ -78,7 +78,7 @@ module _ (tables : Tables) where
     ]
 
     -- once it has left, the entry is unlinked
-    pub zero_left : e.party ≡ party → e.reply ≡ reply.Left → (y : Entry) × At mid.entries k y × (is_linked y.place ≡ false)
+    pub zero_left : e.party ≡ party → e.reply ≡ reply.Left → (y : WorldEntry) × At mid.entries k y × (is_linked y.place ≡ false)
     zero_left is given = elim z.goes [
       | inl n ↦ (later.0, later.1, later.2.gone n)
       | inr u ↦ elim (own_event tables w party u.pass u.found e mid is does) [
@@ -94,7 +94,7 @@ module _ (tables : Tables) where
 
   -- the bucket was just taken
   pub zero_taken : (w : World) (party bucket : ℕ) (take : Step) (mid : World) → bucket_taken tables (length w.lasts) take ≡ Some bucket → step tables w party take ≡ (reply.Taken, mid)
-      → (k : ℕ) (x : Entry) → At mid.entries k x → x.count ≡ 0 → x.bucket ≡ bucket → AtZero mid party bucket k
+      → (k : ℕ) (x : WorldEntry) → At mid.entries k x → x.count ≡ 0 → x.bucket ≡ bucket → AtZero mid party bucket k
   zero_taken w party bucket take mid b does k x at z right =
       let t = took_event tables w party take bucket mid b does in
       let same : Some t.pass.bucket ≡ Some bucket = sym t.bucket ∙ b in
@@ -109,12 +109,12 @@ module _ (tables : Tables) where
   -- from the taking to a leaving
   pub zeros_gone : (w : World) → Sound tables w → (party bucket : ℕ) (take : Step) (middle : List Event) (v : World) → bucket_taken tables (length w.lasts) take ≡ Some bucket
       → Leads tables w (event party take reply.Taken ∷ middle ++ event party Leave reply.Left ∷ []) v
-      → (k : ℕ) (x : Entry) → At w.entries k x → x.bucket ≡ bucket → x.count ≡ 0 → (y : Entry) × At v.entries k y × (is_linked y.place ≡ false)
+      → (k : ℕ) (x : WorldEntry) → At w.entries k x → x.bucket ≡ bucket → x.count ≡ 0 → (y : WorldEntry) × At v.entries k y × (is_linked y.place ≡ false)
   zeros_gone w sound party bucket take middle v b leads k x at right z =
       let mid = leads.0 in
       let t = took_event tables w party take bucket mid b leads.1 in
       let sound' = sound_by tables w sound (event party take reply.Taken) mid leads.1 in
-      let now : At mid.entries k x = subst (λ (es : List Entry). At es k x) (sym t.entries) at in
+      let now : At mid.entries k x = subst (λ (es : List WorldEntry). At es k x) (sym t.entries) at in
       let parts = leads-append tables mid v middle (event party Leave reply.Left ∷ []) leads.2 in
       let sound'' : Sound tables parts.0 = all_sound tables mid sound' middle parts.0 parts.1 in
       let zero_now = zero_all mid sound' party bucket k (zero_taken w party bucket take mid b leads.1 k x now z right) middle parts.0 parts.1 in
@@ -124,7 +124,7 @@ module _ (tables : Tables) where
 
   pub zeros_go_all : (w : World) → Sound tables w → (party bucket : ℕ) (take : Step) (middle : List Event) (v : World) → bucket_taken tables (length w.lasts) take ≡ Some bucket
       → Leads tables w (event party take reply.Taken ∷ middle ++ event party Leave reply.Left ∷ []) v → ZerosGo w v bucket
-  zeros_go_all w sound party bucket take middle v b leads zero x at linked z = absurd (let e : ◌≡◌ {A = Option Entry} None (Some x) = at in cc)
+  zeros_go_all w sound party bucket take middle v b leads zero x at linked z = absurd (let e : ◌≡◌ {A = Option WorldEntry} None (Some x) = at in cc)
   zeros_go_all w sound party bucket take middle v b leads (suc k) x at linked z =
       let right : x.bucket ≡ bucket = eqb-true x.bucket bucket (and_parts (is_linked x.place) (x.bucket == bucket) linked).1 in
       zeros_gone w sound party bucket take middle v b leads k x at right z

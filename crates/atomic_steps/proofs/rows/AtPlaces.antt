@@ -4,11 +4,11 @@ use Rattle.std.specs.Prelude.{slice_set, nat_lt, ◌==◌, ◌&&◌}
 use Rattle.std.proofs.lemmas.Bool.{eq-eqb, cond-true, cond-false, lt-ltb, le-ltb, ne_eqb}
 use Rattle.std.specs.Option.{option_map_or, unwrap_or}
 use Rattle.string_cache_core.specs.Word.{ticket_of}
-use Rattle.atomic_steps.specs.declared.steps.entry.Place.TheVariants as place
+use Rattle.atomic_steps.specs.declared.steps.world_entry.Place.TheVariants as place
 use Rattle.atomic_steps.specs.declared.steps.Step.TheVariants.{Add, Link, Unlink}
 use Rattle.atomic_steps.specs.declared.steps.StepReply.{StepReply}
 use Rattle.atomic_steps.specs.declared.steps.StepReply.TheVariants as reply
-use Rattle.atomic_steps.specs.World.{Pass, World}
+use Rattle.atomic_steps.specs.World.{PartyPass, World}
 use Rattle.atomic_steps.specs.Steps.{is_linked_in, wants, step, IsStep, unlink, add, link, last_of, all_found_dying, replaced, ◌>>=◌, only_if, looks_at, finds_dying, decides, with_pass, with_entry, with_ticket, with_one}
 use Rattle.atomic_steps.specs.Places.{PassAt, EntryAt}
 use Rattle.atomic_steps.proofs.lists.Facts.{some_then, test_fails, test_holds, replied, replied_both}
@@ -17,8 +17,8 @@ use Rattle.string_cache_core.specs.Tables.{Tables}
 
 module _ (tables : Tables) where
   module _ (w : World) (party number at k : ℕ) (p : PassAt w party at) (e : EntryAt w number k) where
-    put : (new : Pass) → new.party ≡ p.pass.party → with_pass w new ≡ record w { passes = slice_set w.passes at new }
-    put new same = ap (λ (ps : List Pass). record w { passes = ps }) (p.replaces new same)
+    put : (new : PartyPass) → new.party ≡ p.pass.party → with_pass w new ≡ record w { passes = slice_set w.passes at new }
+    put new same = ap (λ (ps : List PartyPass). record w { passes = ps }) (p.replaces new same)
 
     pub unlink_is : is_linked_in p.pass.bucket e.entry ≡ true → step tables w party (Unlink number) ≡ unlink w p.pass number e.entry
     unlink_is h = some_then _ _ _ _ p.found ∙ some_then _ _ _ _ (entry_is w number k e) ∙ test_holds _ _ _ h
@@ -71,7 +71,7 @@ module _ (tables : Tables) where
         ∙ cond-true (nat_lt e.entry.count w.limits.holders) _ _ (lt-ltb e.entry.count w.limits.holders room)
         ∙ replied_both (ap (λ (t : ℕ). reply.Added t (e.entry.count + 1)) (sym same_ticket) ∙ ap (λ (n : ℕ). reply.Added ticket n) (sym same_holders))
         (ap (λ (n : ℕ). with_ticket (with_pass (with_entry w n (record e.entry { count = e.entry.count + 1 })) (decides (looks_at p.pass number))) e.entry.ticket) e.numbered
-        ∙ ap (λ (ps : List Pass). record w {
+        ∙ ap (λ (ps : List PartyPass). record w {
           entries = slice_set w.entries k (record e.entry { count = e.entry.count + 1 });
           passes = ps;
           bag = with_one e.entry.ticket w.bag;
@@ -100,7 +100,7 @@ module _ (tables : Tables) where
     link_is text wanted h = some_then _ _ _ _ p.found ∙ some_then _ _ _ _ wanted ∙ test_holds _ _ _ h
 
     decided : (new : World) → new ≡ record w { passes = slice_set w.passes at (decides p.pass) } → with_pass w (decides p.pass) ≡ new
-    decided new is = ap (λ (ps : List Pass). record w { passes = ps }) (p.replaces (decides p.pass) refl) ∙ sym is
+    decided new is = ap (λ (ps : List PartyPass). record w { passes = ps }) (p.replaces (decides p.pass) refl) ∙ sym is
 
     pub link_spent : option_map_or (λ text. all_found_dying w p.pass text) p.pass.wanted false ≡ true → w.limits.serials ≤ last_of w p.pass.bucket
         → (new : World) → new ≡ record w { passes = slice_set w.passes at (decides p.pass) } → IsStep tables w party (Link room) reply.Spent new
@@ -136,7 +136,7 @@ module _ (tables : Tables) where
         ∙ replied_both (ap (λ (n : ℕ). reply.Linked n (ticket_of serial p.pass.bucket)) (sym e) ∙ ap (λ (n : ℕ). reply.Linked entry n) (sym t))
         (ap (linked serial) (p.replaces (decides (looks_at p.pass (length w.entries + 1))) refl) ∙ sym is)
       where
-        linked : ℕ → List Pass → World
+        linked : ℕ → List PartyPass → World
         linked n ps = record w {
           lasts = slice_set w.lasts p.pass.bucket n;
           entries = w.entries ++ record { text = (text_to_link h).0; bucket = p.pass.bucket; ticket = ticket_of n p.pass.bucket; count = 1; place = place.Linked } ∷ [];

@@ -6,7 +6,7 @@ use Rattle.atomic_steps.specs.declared.steps.StepReply.TheVariants as reply
 use Rattle.string_cache_core.specs.Tables.{Tables}
 use Rattle.string_cache_core.specs.Bounds.{Bounds}
 use Rattle.string_cache_core.specs.Layout.{most_buckets}
-use Rattle.atomic_steps.specs.World.{Entry, World, is_living}
+use Rattle.atomic_steps.specs.World.{WorldEntry, World, is_living}
 use Rattle.atomic_steps.specs.Steps.{entry_at, opening}
 use Rattle.atomic_steps.specs.Sound.{At, Sound}
 use Rattle.string_cache_core.specs.Times.{times}
@@ -20,17 +20,17 @@ use Rattle.atomic_steps.proofs.passes.Sweeps.{only_held}
 use Rattle.atomic_steps.proofs.passes.Interns.{interns_at_most, interns_once, calls_in_order}
 
 module _ (tables : Tables) where
-  tickets_apart : (w : World) → Sound tables w → (j k : ℕ) (x y : Entry) → entry_at w.entries j ≡ Some x → entry_at w.entries k ≡ Some y → x.ticket ≡ y.ticket → j ≡ k
+  tickets_apart : (w : World) → Sound tables w → (j k : ℕ) (x y : WorldEntry) → entry_at w.entries j ≡ Some x → entry_at w.entries k ≡ Some y → x.ticket ≡ y.ticket → j ≡ k
   tickets_apart w sound zero k x y a b e = absurd (none-some x a)
   tickets_apart w sound (suc j) zero x y a b e = absurd (none-some y b)
   tickets_apart w sound (suc j) (suc k) x y a b e = ap suc (sound.table.apart j k x y a b e)
 
-  texts_apart : (w : World) → Sound tables w → (j k : ℕ) (x y : Entry) → entry_at w.entries j ≡ Some x → entry_at w.entries k ≡ Some y → is_living x ≡ true → is_living y ≡ true → x.text ≡ y.text → j ≡ k
+  texts_apart : (w : World) → Sound tables w → (j k : ℕ) (x y : WorldEntry) → entry_at w.entries j ≡ Some x → entry_at w.entries k ≡ Some y → is_living x ≡ true → is_living y ≡ true → x.text ≡ y.text → j ≡ k
   texts_apart w sound zero k x y a b lx ly e = absurd (none-some x a)
   texts_apart w sound (suc j) zero x y a b lx ly e = absurd (none-some y b)
   texts_apart w sound (suc j) (suc k) x y a b lx ly e = ap suc (sound.table.one j k x y a b lx ly e)
 
-  counts_held : (w : World) → Sound tables w → (e : ℕ) (x : Entry) → entry_at w.entries e ≡ Some x → x.count ≡ times x.ticket w.bag
+  counts_held : (w : World) → Sound tables w → (e : ℕ) (x : WorldEntry) → entry_at w.entries e ≡ Some x → x.count ≡ times x.ticket w.bag
   counts_held w sound zero x a = absurd (none-some x a)
   counts_held w sound (suc k) x a = sound.table.counted k x a
 

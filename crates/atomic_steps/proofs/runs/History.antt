@@ -10,15 +10,15 @@ use Rattle.std.proofs.lemmas.Nat.{mod_below}
 use Rattle.std.proofs.lemmas.Option.{none-some}
 use Rattle.std.proofs.lemmas.Slice.Eq.{bytes_eq-Decides}
 use borrow.Author.Tests.{ltb-true}
-use Rattle.atomic_steps.specs.declared.steps.entry.Place.{Place}
-use Rattle.atomic_steps.specs.declared.steps.entry.Place.TheVariants as place
+use Rattle.atomic_steps.specs.declared.steps.world_entry.Place.{Place}
+use Rattle.atomic_steps.specs.declared.steps.world_entry.Place.TheVariants as place
 use Rattle.atomic_steps.specs.declared.steps.Step.{Step}
 use Rattle.atomic_steps.specs.declared.steps.Step.TheVariants.{TakeIntern, TakeSweep, Add, Link, Clone, Give, Unlink, Free, Leave}
 use Rattle.atomic_steps.specs.declared.steps.StepReply.{StepReply}
 use Rattle.atomic_steps.specs.declared.steps.StepReply.TheVariants as reply
 use Rattle.atomic_steps.specs.Steps.{◌>>=◌, has, replaced, last_of, pass_of, is_linked_in, wants, with_entry, with_pass, with_ticket, with_one, without_one, finds_dying, looks_at, decides, take_bucket, add, all_found_dying, dying_if_linked, link, clone, give, unlink, all_looked_at, step}
 use Rattle.string_cache_core.specs.Word.{ticket_of}
-use Rattle.atomic_steps.specs.World.{Entry, Pass, World, is_linked, is_unlinked_by, is_living}
+use Rattle.atomic_steps.specs.World.{WorldEntry, PartyPass, World, is_linked, is_unlinked_by, is_living}
 use Rattle.atomic_steps.specs.Sound.{At, Sound, SoundTable, SoundPass}
 use Rattle.string_cache_core.specs.Times.{times}
 use Rattle.atomic_steps.specs.Runs.{holding, living_at, live_map, wanted_by, ticket_at, call_of, Made, ReplaysHistory}
@@ -44,9 +44,9 @@ pub wants_is : (o : Option (List ℕ)) (text : List ℕ) → option_map_or (λ w
 wants_is None text h = absurd (let e : false ≡ true = h in cc)
 wants_is (Some wanted) text h = ap Some (same_text wanted text h)
 
-pub wanted_by-is : (w : World) (party : ℕ) (pass : Pass) (text : List ℕ) → pass_of w party ≡ Some pass → pass.wanted ≡ Some text → wanted_by w party ≡ text
+pub wanted_by-is : (w : World) (party : ℕ) (pass : PartyPass) (text : List ℕ) → pass_of w party ≡ Some pass → pass.wanted ≡ Some text → wanted_by w party ≡ text
 wanted_by-is w party pass text p e =
-    ap (λ (o : Option Pass). unwrap_or (o >>= λ (q : Pass). q.wanted) []) p ∙ ap (λ (o : Option (List ℕ)). unwrap_or o []) e
+    ap (λ (o : Option PartyPass). unwrap_or (o >>= λ (q : PartyPass). q.wanted) []) p ∙ ap (λ (o : Option (List ℕ)). unwrap_or o []) e
 
 -- what a party unlinked isn't linked
 pub not_both : (party : ℕ) (at : Place) → is_linked at ≡ true → is_unlinked_by party at ≡ true → ⊥
@@ -58,10 +58,10 @@ above : (n : ℕ) → (n == 0) ≡ false → 0 < n
 above zero e = absurd (let f : true ≡ false = e in cc)
 above (suc n) e = omega arith
 
-lives : (x : Entry) → is_linked x.place ≡ true → 0 < x.count → is_living x ≡ true
+lives : (x : WorldEntry) → is_linked x.place ≡ true → 0 < x.count → is_living x ≡ true
 lives x l h = and_from (is_linked x.place) (nat_lt 0 x.count) l (lt-ltb 0 x.count h)
 
-count_of_living : (x : Entry) → is_living x ≡ true → 0 < x.count
+count_of_living : (x : WorldEntry) → is_living x ≡ true → 0 < x.count
 count_of_living x h = ltb-true 0 x.count (and_parts (is_linked x.place) (nat_lt 0 x.count) h).1
 
 module _ (tables : Tables) where
@@ -93,7 +93,7 @@ module _ (tables : Tables) where
     }
 
     -- a pass that looks at an entry, or decides
-    pass_kept : (es : List Entry) (pass new : Pass) → new.bucket ≡ pass.bucket → new.dying ≡ pass.dying → ((text : List ℕ) → new.wanted ≡ Some text → pass.wanted ≡ Some text) → SoundPass tables (length w.lasts) es pass → SoundPass tables (length w.lasts) es new
+    pass_kept : (es : List WorldEntry) (pass new : PartyPass) → new.bucket ≡ pass.bucket → new.dying ≡ pass.dying → ((text : List ℕ) → new.wanted ≡ Some text → pass.wanted ≡ Some text) → SoundPass tables (length w.lasts) es pass → SoundPass tables (length w.lasts) es new
     pass_kept es pass new b d wanted s = record {
       below = rw b s.below;
       right = λ text h. b ∙ s.right text (wanted text h);
@@ -101,8 +101,8 @@ module _ (tables : Tables) where
     }
 
     -- an entry counts one more holder
-    module _ (k : ℕ) (x : Entry) (at : At w.entries k x) (linked : is_linked x.place ≡ true) (some : 0 < x.count) where
-      more : Entry
+    module _ (k : ℕ) (x : WorldEntry) (at : At w.entries k x) (linked : is_linked x.place ≡ true) (some : 0 < x.count) where
+      more : WorldEntry
       more = record x { count = x.count + 1 }
 
       more_changes : Changes x more
@@ -120,7 +120,7 @@ module _ (tables : Tables) where
       unfolding more
       more_seen new e l = same_map _ _ (ap (λ (xs : List ℕ). length xs) l)
           (λ text.
-          ap (λ (es : List Entry). living_at es text) e
+          ap (λ (es : List WorldEntry). living_at es text) e
           ∙ living_at-changed w.entries w.lasts w.bag sound.table k x more (with_one x.ticket w.bag) at (lives x linked some) more_changes more_table text
           ∙ ap (λ (b : Bool). cond {A = Option Holding} (bytes_eq x.text text) (cond b (Some (holding_of more)) None) (living_at w.entries text)) (lives more linked (omega arith)))
           (λ b. ap (λ (xs : List ℕ). slice_index xs b) l)
@@ -138,10 +138,10 @@ module _ (tables : Tables) where
         subst (λ (t : List ℕ). MayReply tables w.limits (live_map w) (map.Intern t) given new) (sym is)
         (subst (λ (o : Option Holding). MayIntern tables w.limits (live_map w) text o given new) (sym found) may)
 
-    add_keeps : (k : ℕ) (pass : Pass) (x : Entry) → pass_of w party ≡ Some pass → At w.entries k x → is_linked x.place ≡ true → pass.wanted ≡ Some x.text → Keeps w party (Add (suc k)) (add w pass (suc k) x)
+    add_keeps : (k : ℕ) (pass : PartyPass) (x : WorldEntry) → pass_of w party ≡ Some pass → At w.entries k x → is_linked x.place ≡ true → pass.wanted ≡ Some x.text → Keeps w party (Add (suc k)) (add w pass (suc k) x)
     unfolding add more
     add_keeps k pass x p at linked wanted =
-        let sp : SoundPass tables (length w.lasts) w.entries pass = find-all (λ (q : Pass). q.party == party) (SoundPass tables (length w.lasts) w.entries) w.passes pass p sound.each in
+        let sp : SoundPass tables (length w.lasts) w.entries pass = find-all (λ (q : PartyPass). q.party == party) (SoundPass tables (length w.lasts) w.entries) w.passes pass p sound.each in
         let is : wanted_by w party ≡ x.text = wanted_by-is w party pass x.text p wanted in
         if_case (Keeps w party (Add (suc k))) (x.count == 0) _ _
         (λ zero_now. record {
@@ -170,7 +170,7 @@ module _ (tables : Tables) where
             table = more_table k x at linked some_now;
             each = all_replaced (SoundPass tables (length w.lasts) (slice_set w.entries k (more k x at linked some_now))) w.passes _ (more_each k x at linked some_now)
                 (pass_kept _ pass _ refl refl (λ text e. absurd (none-some text e))
-                (find-all (λ (q : Pass). q.party == party) (SoundPass tables (length w.lasts) (slice_set w.entries k (more k x at linked some_now))) w.passes pass p (more_each k x at linked some_now)));
+                (find-all (λ (q : PartyPass). q.party == party) (SoundPass tables (length w.lasts) (slice_set w.entries k (more k x at linked some_now))) w.passes pass p (more_each k x at linked some_now)));
           };
           limits = refl;
           buckets = refl;
@@ -197,7 +197,7 @@ module _ (tables : Tables) where
         }))
 
     -- a text that each linked entry was found dying of has no living entry
-    none_living : (pass : Pass) (text : List ℕ) → SoundPass tables (length w.lasts) w.entries pass → all_found_dying w pass text ≡ true → (k : ℕ) (x : Entry) → At w.entries k x → is_living x ≡ true → x.text ≢ text
+    none_living : (pass : PartyPass) (text : List ℕ) → SoundPass tables (length w.lasts) w.entries pass → all_found_dying w pass text ≡ true → (k : ℕ) (x : WorldEntry) → At w.entries k x → is_living x ≡ true → x.text ≢ text
     none_living pass text sp all k x at living e =
         let parts = and_parts (is_linked x.place) (nat_lt 0 x.count) living in
         let same : bytes_eq x.text text ≡ true = (bytes_eq-Decides x.text text).1 e in
@@ -210,14 +210,14 @@ module _ (tables : Tables) where
               let dead = sp.dead (1 + k) found in
               let number : dead.0 ≡ k = omega (arith, dead.2) in
               let is : dead.1 ≡ x = at_one w.entries k dead.1 x (subst (λ (i : ℕ). At w.entries i dead.1) number dead.3) at in
-              let zero_now : x.count ≡ 0 = sym (ap (λ (z : Entry). z.count) is) ∙ dead.4 in
+              let zero_now : x.count ≡ 0 = sym (ap (λ (z : WorldEntry). z.count) is) ∙ dead.4 in
               let some = count_of_living x living in omega arith
         ]
 
-    link_keeps : (room : Bool) (pass : Pass) (text : List ℕ) → pass_of w party ≡ Some pass → pass.wanted ≡ Some text → all_found_dying w pass text ≡ true → Keeps w party (Link room) (link w pass room text)
+    link_keeps : (room : Bool) (pass : PartyPass) (text : List ℕ) → pass_of w party ≡ Some pass → pass.wanted ≡ Some text → all_found_dying w pass text ≡ true → Keeps w party (Link room) (link w pass room text)
     unfolding link
     link_keeps room pass text p wanted all =
-        let sp : SoundPass tables (length w.lasts) w.entries pass = find-all (λ (q : Pass). q.party == party) (SoundPass tables (length w.lasts) w.entries) w.passes pass p sound.each in
+        let sp : SoundPass tables (length w.lasts) w.entries pass = find-all (λ (q : PartyPass). q.party == party) (SoundPass tables (length w.lasts) w.entries) w.passes pass p sound.each in
         let is : wanted_by w party ≡ text = wanted_by-is w party pass text p wanted in
         let right : pass.bucket ≡ bucket_of tables (length w.lasts) text = sp.right text wanted in
         let alone = none_living pass text sp all in
@@ -226,7 +226,7 @@ module _ (tables : Tables) where
         if_case (Keeps w party (Link room)) (nat_lt (last_of w pass.bucket) w.limits.serials) _ _
         (λ serial. if_case (Keeps w party (Link room)) room _ _
         (λ _.
-        let y : Entry = record { text = text; bucket = pass.bucket; ticket = ticket_of (last_of w pass.bucket + 1) pass.bucket; count = 1; place = place.Linked } in
+        let y : WorldEntry = record { text = text; bucket = pass.bucket; ticket = ticket_of (last_of w pass.bucket + 1) pass.bucket; count = 1; place = place.Linked } in
         let lasts' = slice_set w.lasts pass.bucket (last_of w pass.bucket + 1) in
         let table' : SoundTable (w.entries ++ y ∷ []) lasts' (with_one y.ticket w.bag) = table-push w.entries w.lasts w.bag y sound.table sp.below refl refl refl alone in
         let each'' = passes-weaker tables (length w.lasts) w.entries (w.entries ++ y ∷ []) (dead-push w.entries w.lasts w.bag y sound.table sp.below refl) w.passes sound.each in
@@ -249,7 +249,7 @@ module _ (tables : Tables) where
             each = subst (λ (n : ℕ). AllByRecursion (SoundPass tables n (w.entries ++ y ∷ [])) (replaced w.passes pass')) (sym longer)
                 (all_replaced (SoundPass tables (length w.lasts) (w.entries ++ y ∷ [])) w.passes pass' each''
                 (pass_kept (w.entries ++ y ∷ []) pass pass' refl refl (λ text e. absurd (none-some text e))
-                (find-all (λ (q : Pass). q.party == party) (SoundPass tables (length w.lasts) (w.entries ++ y ∷ [])) w.passes pass p each'')));
+                (find-all (λ (q : PartyPass). q.party == party) (SoundPass tables (length w.lasts) (w.entries ++ y ∷ [])) w.passes pass p each'')));
           };
           limits = refl;
           buckets = longer;
@@ -287,13 +287,13 @@ module _ (tables : Tables) where
 
     -- ---- Clone and Give
 
-    ticket_at-is : (k : ℕ) (x : Entry) → At w.entries k x → ticket_at w (suc k) ≡ x.ticket
-    ticket_at-is k x at = ap (λ (o : Option Entry). unwrap_or (option_map (λ (z : Entry). z.ticket) o) 0) at
+    ticket_at-is : (k : ℕ) (x : WorldEntry) → At w.entries k x → ticket_at w (suc k) ≡ x.ticket
+    ticket_at-is k x at = ap (λ (o : Option WorldEntry). unwrap_or (option_map (λ (z : WorldEntry). z.ticket) o) 0) at
 
-    abbrev held_ticket : (k : ℕ) (x : Entry) → At w.entries k x → is_linked x.place ≡ true → 0 < x.count → IsHeldTicket (live_map w) x.ticket
+    abbrev held_ticket : (k : ℕ) (x : WorldEntry) → At w.entries k x → is_linked x.place ≡ true → 0 < x.count → IsHeldTicket (live_map w) x.ticket
     held_ticket k x at linked some = record { text = x.text; holders = x.count; held = held_now k x at linked some }
 
-    clone_keeps : (k : ℕ) (x : Entry) → At w.entries k x → has w.bag x.ticket ≡ true → Keeps w party (Clone (suc k)) (clone w (suc k) x)
+    clone_keeps : (k : ℕ) (x : WorldEntry) → At w.entries k x → has w.bag x.ticket ≡ true → Keeps w party (Clone (suc k)) (clone w (suc k) x)
     unfolding clone more
     clone_keeps k x at h =
         let some = held_counts w.entries w.lasts w.bag sound.table k x at h in
@@ -325,14 +325,14 @@ module _ (tables : Tables) where
           );
         })
 
-    give_keeps : (k : ℕ) (x : Entry) → At w.entries k x → has w.bag x.ticket ≡ true → Keeps w party (Give (suc k)) (give w (suc k) x)
+    give_keeps : (k : ℕ) (x : WorldEntry) → At w.entries k x → has w.bag x.ticket ≡ true → Keeps w party (Give (suc k)) (give w (suc k) x)
     unfolding give
     give_keeps k x at h =
         let some = held_counts w.entries w.lasts w.bag sound.table k x at h in
         let linked = sound.table.linked k x at some in
         let is = ticket_at-is k x at in
         let living = lives x linked some in
-        let y : Entry = record x { count = x.count - 1 } in
+        let y : WorldEntry = record x { count = x.count - 1 } in
         let bag' = without_one x.ticket w.bag in
         let changes : Changes x y = record { text = refl; bucket = refl; ticket = refl; living = λ _. living; zero_stays = λ e. absurd (omega arith) } in
         let one_less : y.count ≡ times y.ticket bag' = let c = sound.table.counted k x at in let t = times-without_one_same x.ticket w.bag h in omega (arith, c, t) in
@@ -364,17 +364,17 @@ module _ (tables : Tables) where
             let not_zero : (suc n == 0) ≡ false = false_from_ne_true (suc n == 0) (λ e. let f = eqb-true (suc n) 0 e in omega (arith, f)) in
             ap (λ (b : Bool). cond {A = Option Holding} b (Some h) None) positive ∙ sym (ap (λ (b : Bool). cond {A = Option Holding} b None (Some h)) not_zero)
 
-        left_or_gone : (y : Entry) → is_linked y.place ≡ true → cond {A = Option Holding} (is_living y) (Some (holding_of y)) None ≡ unless_given_up (holding_of y)
+        left_or_gone : (y : WorldEntry) → is_linked y.place ≡ true → cond {A = Option Holding} (is_living y) (Some (holding_of y)) None ≡ unless_given_up (holding_of y)
         left_or_gone y l = ap (λ (b : Bool). cond {A = Option Holding} (b && nat_lt 0 y.count) (Some (holding_of y)) None) l ∙ of_count y.count (holding_of y) refl
 
     -- ---- Unlink, Free and Leave
 
     -- an entry at zero moves
-    module _ (k : ℕ) (x : Entry) (at : At w.entries k x) (at_zero : x.count ≡ 0) (to : Place) where
-      moved : Entry
+    module _ (k : ℕ) (x : WorldEntry) (at : At w.entries k x) (at_zero : x.count ≡ 0) (to : Place) where
+      moved : WorldEntry
       moved = record x { place = to }
 
-      not_living : (z : Entry) → z.count ≡ 0 → is_living z ≡ false
+      not_living : (z : WorldEntry) → z.count ≡ 0 → is_living z ≡ false
       not_living z e = and_right (is_linked z.place) (nat_lt 0 z.count) (ap (nat_lt 0) e)
 
       moved_changes : Changes x moved
@@ -392,7 +392,7 @@ module _ (tables : Tables) where
       unfolding moved
       moved_seen = same_map _ _ refl (living_at-dead w.entries w.lasts w.bag sound.table k x moved at (not_living x at_zero) (not_living moved at_zero)) (λ b. refl)
 
-    unlink_keeps : (k : ℕ) (pass : Pass) (x : Entry) → pass_of w party ≡ Some pass → At w.entries k x → Keeps w party (Unlink (suc k)) (unlink w pass (suc k) x)
+    unlink_keeps : (k : ℕ) (pass : PartyPass) (x : WorldEntry) → pass_of w party ≡ Some pass → At w.entries k x → Keeps w party (Unlink (suc k)) (unlink w pass (suc k) x)
     unfolding unlink moved
     unlink_keeps k pass x p at =
         if_case (Keeps w party (Unlink (suc k))) (x.count == 0) _ _
@@ -403,20 +403,20 @@ module _ (tables : Tables) where
             table = sound.table;
             each = all_replaced (SoundPass tables (length w.lasts) w.entries) w.passes (looks_at pass (suc k)) sound.each
                 (pass_kept w.entries pass (looks_at pass (suc k)) refl refl (λ text h. h)
-                (find-all (λ (q : Pass). q.party == party) (SoundPass tables (length w.lasts) w.entries) w.passes pass p sound.each));
+                (find-all (λ (q : PartyPass). q.party == party) (SoundPass tables (length w.lasts) w.entries) w.passes pass p sound.each));
           };
           limits = refl;
           buckets = refl;
           told = refl;
         })
 
-    pub unlinked_counts_zero : (k : ℕ) (x : Entry) → At w.entries k x → is_unlinked_by party x.place ≡ true → x.count ≡ 0
+    pub unlinked_counts_zero : (k : ℕ) (x : WorldEntry) → At w.entries k x → is_unlinked_by party x.place ≡ true → x.count ≡ 0
     unlinked_counts_zero k x at u = elim (cases_eq x.count 0) [
       | inl e ↦ e
       | inr n ↦ absurd (not_both party x.place (sound.table.linked k x at (omega arith)) u)
     ]
 
-    free_keeps : (k : ℕ) (x : Entry) → At w.entries k x → is_unlinked_by party x.place ≡ true → Keeps w party (Free (suc k)) (reply.Freed, with_entry w (suc k) (record x { place = place.Freed }))
+    free_keeps : (k : ℕ) (x : WorldEntry) → At w.entries k x → is_unlinked_by party x.place ≡ true → Keeps w party (Free (suc k)) (reply.Freed, with_entry w (suc k) (record x { place = place.Freed }))
     unfolding moved
     free_keeps k x at u =
         let z = unlinked_counts_zero k x at u in

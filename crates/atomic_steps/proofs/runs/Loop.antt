@@ -5,7 +5,7 @@ use Rattle.std.proofs.lemmas.List.{take_more, length-take-le}
 use Rattle.atomic_steps.specs.declared.steps.Step.{Step}
 use Rattle.atomic_steps.specs.declared.steps.StepReply.{StepReply}
 use Rattle.string_cache_core.specs.Tables.{Tables}
-use Rattle.atomic_steps.specs.World.{Entry, World, is_linked}
+use Rattle.atomic_steps.specs.World.{WorldEntry, World, is_linked}
 use Rattle.atomic_steps.specs.Sound.{SoundWorld}
 use Rattle.atomic_steps.specs.Steps.{step, IsStep, entry_at, opening}
 use Rattle.atomic_steps.specs.Runs.{Script, Leads, events_of}
@@ -28,8 +28,8 @@ module _ (tables : Tables) where
   sound_step w party s reply new sound does = held_by tables w sound (record { party = party; does = s; reply = reply }) new does
 
   -- what isn't linked has no holder
-  pub unlinked_zero : (w : World) → SoundWorld tables w → (number : ℕ) (x : Entry) → entry_at w.entries number ≡ Some x → is_linked x.place ≡ false → x.count ≡ 0
-  unlinked_zero w sound zero x at gone = absurd (let e : ◌≡◌ {A = Option Entry} None (Some x) = at in cc)
+  pub unlinked_zero : (w : World) → SoundWorld tables w → (number : ℕ) (x : WorldEntry) → entry_at w.entries number ≡ Some x → is_linked x.place ≡ false → x.count ≡ 0
+  unlinked_zero w sound zero x at gone = absurd (let e : ◌≡◌ {A = Option WorldEntry} None (Some x) = at in cc)
   unlinked_zero w sound (suc k) x at gone = elim (cases_eq x.count 0) [
     | inl e ↦ e
     | inr n ↦ absurd (let linked = sound.sound.table.linked k x at (omega arith) in let clash : true ≡ false = sym linked ∙ gone in cc)

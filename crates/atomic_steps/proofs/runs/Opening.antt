@@ -6,7 +6,7 @@ use Rattle.atomic_steps.specs.declared.steps.StepReply.{StepReply}
 use Rattle.atomic_steps.specs.Steps.{step, opening}
 use Rattle.string_cache_core.specs.Bounds.{Bounds}
 use Rattle.string_cache_core.specs.Layout.{most_buckets}
-use Rattle.atomic_steps.specs.World.{Entry, World}
+use Rattle.atomic_steps.specs.World.{WorldEntry, World}
 use Rattle.atomic_steps.specs.Sound.{At, Sound}
 use Rattle.atomic_steps.specs.Runs.{living_at, live_map, call_of, history_of, Event, Leads, Made, ReplaysHistory}
 use Rattle.string_cache_core.specs.Map.{InternMap, empty_map}
@@ -51,8 +51,8 @@ module _ (tables : Tables) where
   zeros (suc n) zero = refl
   zeros (suc n) (suc b) = zeros n b
 
-  nothing_at : (j : ℕ) (x : Entry) {P : Type 0} → At {X = Entry} [] j x → P
-  nothing_at j x h = absurd (let e : ◌≡◌ {A = Option Entry} None (Some x) = h in cc)
+  nothing_at : (j : ℕ) (x : WorldEntry) {P : Type 0} → At {X = WorldEntry} [] j x → P
+  nothing_at j x h = absurd (let e : ◌≡◌ {A = Option WorldEntry} None (Some x) = h in cc)
 
   opens : (limits : Bounds) (n : ℕ) → 0 < n → n ≤ most_buckets → Sound tables (record { limits = limits; lasts = replicate n 0; entries = []; passes = []; bag = [] })
   opens limits n some few = record {

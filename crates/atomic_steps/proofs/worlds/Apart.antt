@@ -4,13 +4,13 @@ use Rattle.std.specs.Prelude.{slice_get, slice_set, nat_lt, ◌==◌, ◌&&◌, 
 use Rattle.std.specs.List.{find, list_all, AllByRecursion}
 use Rattle.std.specs.String.{string_bytes}
 use Rattle.std.proofs.lemmas.Bool.{eqb-true, eq-eqb, cases_eq, and_parts, and_from}
-use Rattle.atomic_steps.specs.declared.steps.entry.Place.TheVariants as place
+use Rattle.atomic_steps.specs.declared.steps.world_entry.Place.TheVariants as place
 use Rattle.atomic_steps.specs.declared.steps.Step.{Step}
 use Rattle.atomic_steps.specs.declared.steps.Step.TheVariants.{TakeIntern, TakeSweep, Add, Link, Clone, Give, Unlink, Free, Leave}
 use Rattle.atomic_steps.specs.declared.steps.StepReply.{StepReply}
 use Rattle.atomic_steps.specs.Steps.{pass_of, is_free, is_linked_in, wants, has, take_bucket, add, link, clone, give, unlink, all_found_dying, all_looked_at, replaced, without_party, finds_dying, looks_at, decides, last_of, step}
-use Rattle.atomic_steps.specs.World.{Entry, Pass, World, is_linked, is_unlinked_by}
-use Rattle.atomic_steps.specs.Listed.{AreWithin}
+use Rattle.atomic_steps.specs.World.{WorldEntry, PartyPass, World, is_linked, is_unlinked_by}
+use Rattle.atomic_steps.specs.EntryNumbers.{AreWithin}
 use Rattle.atomic_steps.specs.Runs.{Event, Leads}
 use Rattle.atomic_steps.specs.Sound.{At, SoundPass, DiffersFrom, Apart, SoundWorld}
 use Rattle.atomic_steps.proofs.lists.Facts.{at_set_cases, at_push_cases, at_set_same, at_push_old, at_one, bind_case, guard_case, if_case, find-all, all_at, at_set_other, false_is_true}
@@ -22,19 +22,19 @@ use Rattle.string_cache_core.specs.Tables.{Tables, is_dynamic, bucket_of}
 
 -- ---- what a step may do to the entries, and to the passes
 
-pub data EntriesGo (w : World) (q : ℕ) (es : List Entry) : Type 0 where
+pub data EntriesGo (w : World) (q : ℕ) (es : List WorldEntry) : Type 0 where
   Stay : es ≡ w.entries → EntriesGo w q es
   -- an entry changes; it is only unlinked by who holds its bucket
-  Change : (k : ℕ) (x y : Entry) → At w.entries k x → y.text ≡ x.text → y.ticket ≡ x.ticket → y.bucket ≡ x.bucket → (is_linked y.place ≡ true → is_linked x.place ≡ true)
-      → (is_linked x.place ≡ true → (is_linked y.place ≡ true) ⊎ ((pass : Pass) × (pass_of w q ≡ Some pass) × (x.bucket ≡ pass.bucket)))
+  Change : (k : ℕ) (x y : WorldEntry) → At w.entries k x → y.text ≡ x.text → y.ticket ≡ x.ticket → y.bucket ≡ x.bucket → (is_linked y.place ≡ true → is_linked x.place ≡ true)
+      → (is_linked x.place ≡ true → (is_linked y.place ≡ true) ⊎ ((pass : PartyPass) × (pass_of w q ≡ Some pass) × (x.bucket ≡ pass.bucket)))
       → es ≡ slice_set w.entries k y → EntriesGo w q es
   -- a new entry in the bucket that the party holds
-  Add_one : (pass : Pass) (y : Entry) → pass_of w q ≡ Some pass → y.bucket ≡ pass.bucket → pass.wanted ≡ Some y.text → es ≡ w.entries ++ y ∷ [] → EntriesGo w q es
+  Add_one : (pass : PartyPass) (y : WorldEntry) → pass_of w q ≡ Some pass → y.bucket ≡ pass.bucket → pass.wanted ≡ Some y.text → es ≡ w.entries ++ y ∷ [] → EntriesGo w q es
 
-pub data PassesGo (w : World) (q : ℕ) (ps : List Pass) : Type 0 where
+pub data PassesGo (w : World) (q : ℕ) (ps : List PartyPass) : Type 0 where
   As_they_are : ps ≡ w.passes → PassesGo w q ps
-  One_more : (new : Pass) → new.party ≡ q → is_none (pass_of w q) ≡ true → is_free w new.bucket ≡ true → ps ≡ w.passes ++ new ∷ [] → PassesGo w q ps
-  Next : (old new : Pass) → pass_of w q ≡ Some old → new.party ≡ old.party → new.bucket ≡ old.bucket → ps ≡ replaced w.passes new → PassesGo w q ps
+  One_more : (new : PartyPass) → new.party ≡ q → is_none (pass_of w q) ≡ true → is_free w new.bucket ≡ true → ps ≡ w.passes ++ new ∷ [] → PassesGo w q ps
+  Next : (old new : PartyPass) → pass_of w q ≡ Some old → new.party ≡ old.party → new.bucket ≡ old.bucket → ps ≡ replaced w.passes new → PassesGo w q ps
   One_less : ps ≡ without_party w.passes q → PassesGo w q ps
 
 pub record Goes (w : World) (q : ℕ) (o : StepReply × World) : Type 0 where
@@ -43,16 +43,16 @@ pub record Goes (w : World) (q : ℕ) (o : StepReply × World) : Type 0 where
 
 -- ---- no two passes have one party or one bucket
 
-all_push_one : (P : Pass → Type 0) (xs : List Pass) (y : Pass) → AllByRecursion P xs → P y → AllByRecursion P (xs ++ y ∷ [])
+all_push_one : (P : PartyPass → Type 0) (xs : List PartyPass) (y : PartyPass) → AllByRecursion P xs → P y → AllByRecursion P (xs ++ y ∷ [])
 all_push_one P [] y all py = (py, tt)
 all_push_one P (z ∷ xs) y all py = (all.0, all_push_one P xs y all.1 py)
 
-apart_push : (ps : List Pass) (new : Pass) → Apart ps → find (of_party new.party) ps ≡ None → list_all (λ (p : Pass). not (p.bucket == new.bucket)) ps ≡ true → Apart (ps ++ new ∷ [])
+apart_push : (ps : List PartyPass) (new : PartyPass) → Apart ps → find (of_party new.party) ps ≡ None → list_all (λ (p : PartyPass). not (p.bucket == new.bucket)) ps ≡ true → Apart (ps ++ new ∷ [])
 apart_push [] new apart none free = (tt, tt)
 apart_push (p ∷ ps) new apart none free =
     let parts = and_parts (not (p.bucket == new.bucket)) _ free in
     if_case (λ o. o ≡ None → Apart ((p ∷ ps) ++ new ∷ [])) (p.party == new.party) (Some p) (find (of_party new.party) ps)
-    (λ e n. absurd (let f : ◌≡◌ {A = Option Pass} (Some p) None = n in cc))
+    (λ e n. absurd (let f : ◌≡◌ {A = Option PartyPass} (Some p) None = n in cc))
     (λ e n. (
       all_push_one (DiffersFrom p) ps new apart.0 (
         λ h. (let a : (p.party == new.party) ≡ true = eq-eqb p.party new.party (sym h) in let c : true ≡ false = sym a ∙ e in absurd cc),
@@ -62,25 +62,25 @@ apart_push (p ∷ ps) new apart none free =
     ))
     none
 
-apart_replaced : (ps : List Pass) (old new : Pass) → Apart ps → find (of_party new.party) ps ≡ Some old → new.party ≡ old.party → new.bucket ≡ old.bucket → Apart (replaced ps new)
+apart_replaced : (ps : List PartyPass) (old new : PartyPass) → Apart ps → find (of_party new.party) ps ≡ Some old → new.party ≡ old.party → new.bucket ≡ old.bucket → Apart (replaced ps new)
 apart_replaced [] old new apart found same bucket = tt
 apart_replaced (p ∷ ps) old new apart found same bucket =
     if_case (λ ys. Apart ys) (p.party == new.party) (new ∷ ps) (p ∷ replaced ps new)
     (λ e.
     let is : p ≡ old = (let f : Some p ≡ Some old = sym (ap (λ (b : Bool). cond b (Some p) (find (of_party new.party) ps)) e) ∙ found in cc) in
     let here : AllByRecursion (DiffersFrom new) ps =
-    all_like ps p new (sym (same ∙ sym (ap (λ (v : Pass). v.party) is))) (sym (bucket ∙ sym (ap (λ (v : Pass). v.bucket) is))) apart.0 in
+    all_like ps p new (sym (same ∙ sym (ap (λ (v : PartyPass). v.party) is))) (sym (bucket ∙ sym (ap (λ (v : PartyPass). v.bucket) is))) apart.0 in
     (here, apart.1))
     (λ e.
     let rest : find (of_party new.party) ps ≡ Some old = sym (ap (λ (b : Bool). cond b (Some p) (find (of_party new.party) ps)) e) ∙ found in
     let other = find-all (of_party new.party) (DiffersFrom p) ps old rest apart.0 in
     (all_replaced (DiffersFrom p) ps new apart.0 (λ h. other.0 (sym same ∙ h), λ h. other.1 (sym bucket ∙ h)), apart_replaced ps old new apart.1 rest same bucket))
   where
-    all_like : (qs : List Pass) (a b : Pass) → a.party ≡ b.party → a.bucket ≡ b.bucket → AllByRecursion (DiffersFrom a) qs → AllByRecursion (DiffersFrom b) qs
+    all_like : (qs : List PartyPass) (a b : PartyPass) → a.party ≡ b.party → a.bucket ≡ b.bucket → AllByRecursion (DiffersFrom a) qs → AllByRecursion (DiffersFrom b) qs
     all_like [] a b e f all = tt
     all_like (z ∷ qs) a b e f all = ((λ h. all.0.0 (h ∙ sym e), λ h. all.0.1 (h ∙ sym f)), all_like qs a b e f all.1)
 
-apart_without : (ps : List Pass) (q : ℕ) → Apart ps → Apart (without_party ps q)
+apart_without : (ps : List PartyPass) (q : ℕ) → Apart ps → Apart (without_party ps q)
 apart_without [] q apart = tt
 apart_without (p ∷ ps) q apart =
     if_case (λ ys. Apart ys) (p.party == q) ps (p ∷ without_party ps q)
@@ -88,33 +88,33 @@ apart_without (p ∷ ps) q apart =
     (λ e. (all_without_party (DiffersFrom p) ps q apart.0, apart_without ps q apart.1))
 
 -- who hold one bucket are one party
-pub alone : (ps : List Pass) (a b : ℕ) (x y : Pass) → Apart ps → find (of_party a) ps ≡ Some x → find (of_party b) ps ≡ Some y → x.bucket ≡ y.bucket → a ≡ b
-alone [] a b x y apart fa fb same = absurd (let e : ◌≡◌ {A = Option Pass} None (Some x) = fa in cc)
+pub alone : (ps : List PartyPass) (a b : ℕ) (x y : PartyPass) → Apart ps → find (of_party a) ps ≡ Some x → find (of_party b) ps ≡ Some y → x.bucket ≡ y.bucket → a ≡ b
+alone [] a b x y apart fa fb same = absurd (let e : ◌≡◌ {A = Option PartyPass} None (Some x) = fa in cc)
 alone (p ∷ ps) a b x y apart fa fb same =
     if_case (λ o. o ≡ Some x → a ≡ b) (p.party == a) (Some p) (find (of_party a) ps)
     (λ ea ga. if_case (λ o. o ≡ Some y → a ≡ b) (p.party == b) (Some p) (find (of_party b) ps)
     (λ eb gb. sym (eqb-true p.party a ea) ∙ eqb-true p.party b eb)
-    (λ eb gb. absurd (let is : p ≡ x = cc in (find-all (of_party b) (DiffersFrom p) ps y gb apart.0).1 (sym same ∙ sym (ap (λ (v : Pass). v.bucket) is))))
+    (λ eb gb. absurd (let is : p ≡ x = cc in (find-all (of_party b) (DiffersFrom p) ps y gb apart.0).1 (sym same ∙ sym (ap (λ (v : PartyPass). v.bucket) is))))
     fb)
     (λ ea ga. if_case (λ o. o ≡ Some y → a ≡ b) (p.party == b) (Some p) (find (of_party b) ps)
-    (λ eb gb. absurd (let is : p ≡ y = cc in (find-all (of_party a) (DiffersFrom p) ps x ga apart.0).1 (same ∙ sym (ap (λ (v : Pass). v.bucket) is))))
+    (λ eb gb. absurd (let is : p ≡ y = cc in (find-all (of_party a) (DiffersFrom p) ps x ga apart.0).1 (same ∙ sym (ap (λ (v : PartyPass). v.bucket) is))))
     (λ eb gb. alone ps a b x y apart.1 ga gb same)
     fb)
     fa
 
 -- The same entries stand in the bucket.
-pub record SameIn (bucket : ℕ) (es es' : List Entry) : Type 0 where
-  pub forth : (k : ℕ) (x : Entry) → At es k x → is_linked_in bucket x ≡ true → (y : Entry) × At es' k y × (is_linked_in bucket y ≡ true) × (y.text ≡ x.text) × (y.ticket ≡ x.ticket)
-  pub back : (k : ℕ) (y : Entry) → At es' k y → is_linked_in bucket y ≡ true → (x : Entry) × At es k x × (is_linked_in bucket x ≡ true) × (y.text ≡ x.text) × (y.ticket ≡ x.ticket)
+pub record SameIn (bucket : ℕ) (es es' : List WorldEntry) : Type 0 where
+  pub forth : (k : ℕ) (x : WorldEntry) → At es k x → is_linked_in bucket x ≡ true → (y : WorldEntry) × At es' k y × (is_linked_in bucket y ≡ true) × (y.text ≡ x.text) × (y.ticket ≡ x.ticket)
+  pub back : (k : ℕ) (y : WorldEntry) → At es' k y → is_linked_in bucket y ≡ true → (x : WorldEntry) × At es k x × (is_linked_in bucket x ≡ true) × (y.text ≡ x.text) × (y.ticket ≡ x.ticket)
 
-pub same_in : (bucket : ℕ) (es : List Entry) → SameIn bucket es es
+pub same_in : (bucket : ℕ) (es : List WorldEntry) → SameIn bucket es es
 same_in bucket es = record { forth = λ k x at h. (x, at, h, refl, refl); back = λ k y at h. (y, at, h, refl, refl) }
 
-in_bucket : (bucket : ℕ) (x y : Entry) → y.bucket ≡ x.bucket → is_linked y.place ≡ true → is_linked_in bucket x ≡ true → is_linked_in bucket y ≡ true
+in_bucket : (bucket : ℕ) (x y : WorldEntry) → y.bucket ≡ x.bucket → is_linked y.place ≡ true → is_linked_in bucket x ≡ true → is_linked_in bucket y ≡ true
 in_bucket bucket x y same l h = and_from (is_linked y.place) (y.bucket == bucket) l (ap (λ (b : ℕ). b == bucket) same ∙ (and_parts (is_linked x.place) (x.bucket == bucket) h).1)
 
 -- an entry changes, and stays linked if it is in the bucket
-pub same_change : (bucket : ℕ) (es : List Entry) (k : ℕ) (x y : Entry) → At es k x → y.text ≡ x.text → y.ticket ≡ x.ticket → y.bucket ≡ x.bucket → (is_linked y.place ≡ true → is_linked x.place ≡ true)
+pub same_change : (bucket : ℕ) (es : List WorldEntry) (k : ℕ) (x y : WorldEntry) → At es k x → y.text ≡ x.text → y.ticket ≡ x.ticket → y.bucket ≡ x.bucket → (is_linked y.place ≡ true → is_linked x.place ≡ true)
     → (x.bucket ≡ bucket → is_linked x.place ≡ true → is_linked y.place ≡ true) → SameIn bucket es (slice_set es k y)
 same_change bucket es k x y at text ticket same back forth = record {
   forth = λ j z a h. elim (cases_eq j k) [
@@ -125,25 +125,25 @@ same_change bucket es k x y at text ticket same back forth = record {
           y,
           subst (λ (i : ℕ). At (slice_set es k y) i y) (sym e) (at_set_same es k x y at),
           in_bucket bucket x y same (forth (eqb-true x.bucket bucket parts.1) parts.0) hx,
-          text ∙ sym (ap (λ (v : Entry). v.text) is),
-          ticket ∙ sym (ap (λ (v : Entry). v.ticket) is),
+          text ∙ sym (ap (λ (v : WorldEntry). v.text) is),
+          ticket ∙ sym (ap (λ (v : WorldEntry). v.ticket) is),
         )
     | inr n ↦ (z, at_set_other es k y j z n a, h, refl, refl)
   ];
   back = λ j z a h. elim (at_set_cases es k y j z a) [
     | inl (e, f) ↦
         let hy : is_linked_in bucket y ≡ true = sym (ap (is_linked_in bucket) f) ∙ h in
-        (x, subst (λ (i : ℕ). At es i x) (sym e) at, in_bucket bucket y x (sym same) (back (and_parts (is_linked y.place) (y.bucket == bucket) hy).0) hy, ap (λ (v : Entry). v.text) f ∙ text, ap (λ (v : Entry). v.ticket) f ∙ ticket)
+        (x, subst (λ (i : ℕ). At es i x) (sym e) at, in_bucket bucket y x (sym same) (back (and_parts (is_linked y.place) (y.bucket == bucket) hy).0) hy, ap (λ (v : WorldEntry). v.text) f ∙ text, ap (λ (v : WorldEntry). v.ticket) f ∙ ticket)
     | inr (n, old) ↦ (z, old, h, refl, refl)
   ];
 }
 
-same_push : (bucket : ℕ) (es : List Entry) (y : Entry) → y.bucket ≢ bucket → SameIn bucket es (es ++ y ∷ [])
+same_push : (bucket : ℕ) (es : List WorldEntry) (y : WorldEntry) → y.bucket ≢ bucket → SameIn bucket es (es ++ y ∷ [])
 same_push bucket es y n = record {
   forth = λ k x at h. (x, at_push_old es y k x at, h, refl, refl);
   back = λ k z at h. elim (at_push_cases es y k z at) [
     | inl old ↦ (z, old, h, refl, refl)
-    | inr (e, f) ↦ absurd (n (sym (ap (λ (v : Entry). v.bucket) f) ∙ eqb-true z.bucket bucket (and_parts (is_linked z.place) (z.bucket == bucket) h).1))
+    | inr (e, f) ↦ absurd (n (sym (ap (λ (v : WorldEntry). v.bucket) f) ∙ eqb-true z.bucket bucket (and_parts (is_linked z.place) (z.bucket == bucket) h).1))
   ];
 }
 
@@ -155,14 +155,14 @@ module _ (tables : Tables) where
     nothing : (r : StepReply) → G (r, w)
     nothing r = record { entries = Stay refl; passes = As_they_are refl }
 
-    counts : (k : ℕ) (x : Entry) (n : ℕ) → At w.entries k x → EntriesGo w q (slice_set w.entries k (record x { count = n }))
+    counts : (k : ℕ) (x : WorldEntry) (n : ℕ) → At w.entries k x → EntriesGo w q (slice_set w.entries k (record x { count = n }))
     counts k x n at = Change k x (record x { count = n }) at refl refl refl (λ l. l) (λ l. inl l) refl
 
     take_goes : (bucket : ℕ) (wanted : Option (List ℕ)) → is_none (pass_of w q) ≡ true → is_free w bucket ≡ true → G (take_bucket w q bucket wanted)
     unfolding take_bucket
     take_goes bucket wanted idle free = record { entries = Stay refl; passes = One_more _ refl idle free refl }
 
-    add_goes : (k : ℕ) (pass : Pass) (x : Entry) → pass_of w q ≡ Some pass → At w.entries k x → G (add w pass (suc k) x)
+    add_goes : (k : ℕ) (pass : PartyPass) (x : WorldEntry) → pass_of w q ≡ Some pass → At w.entries k x → G (add w pass (suc k) x)
     unfolding add
     add_goes k pass x p at =
         if_case G (x.count == 0) _ _ (λ e. record { entries = Stay refl; passes = Next pass (finds_dying pass (suc k)) p refl refl refl })
@@ -170,7 +170,7 @@ module _ (tables : Tables) where
         (λ r. record { entries = counts k x (x.count + 1) at; passes = Next pass (decides (looks_at pass (suc k))) p refl refl refl })
         (λ r. record { entries = Stay refl; passes = Next pass (decides (looks_at pass (suc k))) p refl refl refl }))
 
-    link_goes : (pass : Pass) (room : Bool) (text : List ℕ) → pass_of w q ≡ Some pass → pass.wanted ≡ Some text → G (link w pass room text)
+    link_goes : (pass : PartyPass) (room : Bool) (text : List ℕ) → pass_of w q ≡ Some pass → pass.wanted ≡ Some text → G (link w pass room text)
     unfolding link
     link_goes pass room text p wanted =
         if_case G (nat_lt (last_of w pass.bucket) w.limits.serials) _ _
@@ -179,15 +179,15 @@ module _ (tables : Tables) where
         (λ r. record { entries = Stay refl; passes = Next pass (decides pass) p refl refl refl }))
         (λ e. record { entries = Stay refl; passes = Next pass (decides pass) p refl refl refl })
 
-    clone_goes : (k : ℕ) (x : Entry) → At w.entries k x → G (clone w (suc k) x)
+    clone_goes : (k : ℕ) (x : WorldEntry) → At w.entries k x → G (clone w (suc k) x)
     unfolding clone
     clone_goes k x at = if_case G (nat_lt x.count w.limits.holders) _ _ (λ r. record { entries = counts k x (x.count + 1) at; passes = As_they_are refl }) (λ r. nothing _)
 
-    give_goes : (k : ℕ) (x : Entry) → At w.entries k x → G (give w (suc k) x)
+    give_goes : (k : ℕ) (x : WorldEntry) → At w.entries k x → G (give w (suc k) x)
     unfolding give
     give_goes k x at = record { entries = counts k x (x.count - 1) at; passes = As_they_are refl }
 
-    unlink_goes : (k : ℕ) (pass : Pass) (x : Entry) → pass_of w q ≡ Some pass → At w.entries k x → x.bucket ≡ pass.bucket → G (unlink w pass (suc k) x)
+    unlink_goes : (k : ℕ) (pass : PartyPass) (x : WorldEntry) → pass_of w q ≡ Some pass → At w.entries k x → x.bucket ≡ pass.bucket → G (unlink w pass (suc k) x)
     unfolding unlink
     unlink_goes k pass x p at b =
         if_case G (x.count == 0) _ _
@@ -233,10 +233,10 @@ module _ (tables : Tables) where
   -- ---- what every reached world keeps besides
 
   module _ (w : World) (held : SoundWorld tables w) (q : ℕ) where
-    right_pass : (pass : Pass) (text : List ℕ) → pass_of w q ≡ Some pass → pass.wanted ≡ Some text → pass.bucket ≡ bucket_of tables (length w.lasts) text
+    right_pass : (pass : PartyPass) (text : List ℕ) → pass_of w q ≡ Some pass → pass.wanted ≡ Some text → pass.bucket ≡ bucket_of tables (length w.lasts) text
     right_pass pass text p wanted = (find-all (of_party q) (SoundPass tables (length w.lasts) w.entries) w.passes pass p held.sound.each).right text wanted
 
-    still_apart : (ps : List Pass) → PassesGo w q ps → Apart ps
+    still_apart : (ps : List PartyPass) → PassesGo w q ps → Apart ps
     still_apart ps (As_they_are e) = subst Apart (sym e) held.apart
     still_apart ps (One_more new same idle free e) =
         subst Apart (sym e) (apart_push w.passes new held.apart (none_is (find (of_party new.party) w.passes) (ap (λ (p : ℕ). is_none (pass_of w p)) same ∙ idle)) free)
@@ -245,15 +245,15 @@ module _ (tables : Tables) where
         subst Apart (sym e) (apart_replaced w.passes old new held.apart (ap (λ (p : ℕ). find (of_party p) w.passes) is ∙ p) same bucket)
     still_apart ps (One_less e) = subst Apart (sym e) (apart_without w.passes q held.apart)
 
-    still_placed : (es : List Entry) → EntriesGo w q es → (k : ℕ) (x : Entry) → At es k x → x.bucket ≡ bucket_of tables (length w.lasts) x.text
-    still_placed es (Stay e) k x at = held.placed k x (subst (λ (v : List Entry). At v k x) e at)
-    still_placed es (Change j x y a text ticket bucket back forth e) k z at = elim (at_set_cases w.entries j y k z (subst (λ (v : List Entry). At v k z) e at)) [
-      | inl (i, f) ↦ ap (λ (v : Entry). v.bucket) f ∙ bucket ∙ held.placed j x a ∙ ap (bucket_of tables (length w.lasts)) (sym (ap (λ (v : Entry). v.text) f ∙ text))
+    still_placed : (es : List WorldEntry) → EntriesGo w q es → (k : ℕ) (x : WorldEntry) → At es k x → x.bucket ≡ bucket_of tables (length w.lasts) x.text
+    still_placed es (Stay e) k x at = held.placed k x (subst (λ (v : List WorldEntry). At v k x) e at)
+    still_placed es (Change j x y a text ticket bucket back forth e) k z at = elim (at_set_cases w.entries j y k z (subst (λ (v : List WorldEntry). At v k z) e at)) [
+      | inl (i, f) ↦ ap (λ (v : WorldEntry). v.bucket) f ∙ bucket ∙ held.placed j x a ∙ ap (bucket_of tables (length w.lasts)) (sym (ap (λ (v : WorldEntry). v.text) f ∙ text))
       | inr (n, old) ↦ held.placed k z old
     ]
-    still_placed es (Add_one pass y p bucket wanted e) k z at = elim (at_push_cases w.entries y k z (subst (λ (v : List Entry). At v k z) e at)) [
+    still_placed es (Add_one pass y p bucket wanted e) k z at = elim (at_push_cases w.entries y k z (subst (λ (v : List WorldEntry). At v k z) e at)) [
       | inl old ↦ held.placed k z old
-      | inr (i, f) ↦ ap (λ (v : Entry). v.bucket) f ∙ bucket ∙ right_pass pass y.text p wanted ∙ ap (λ (v : Entry). bucket_of tables (length w.lasts) v.text) (sym f)
+      | inr (i, f) ↦ ap (λ (v : WorldEntry). v.bucket) f ∙ bucket ∙ right_pass pass y.text p wanted ∙ ap (λ (v : WorldEntry). bucket_of tables (length w.lasts) v.text) (sym f)
     ]
 
   -- an entry of the text that a pass wants stands in the pass's bucket
@@ -261,10 +261,10 @@ module _ (tables : Tables) where
   pub all_within : (w : World) → SoundWorld tables w → AreWithin w
   all_within w held at pass there = (all_at (SoundPass tables (length w.lasts) w.entries) w.passes at pass there held.sound.each).below
 
-  pub placed_in : (w : World) → SoundWorld tables w → (party : ℕ) (pass found : Pass) (text : List ℕ) → pass_of w party ≡ Some found → pass ≡ found → pass.wanted ≡ Some text
-      → (k : ℕ) (x : Entry) → At w.entries k x → x.text ≡ text → x.bucket ≡ pass.bucket
+  pub placed_in : (w : World) → SoundWorld tables w → (party : ℕ) (pass found : PartyPass) (text : List ℕ) → pass_of w party ≡ Some found → pass ≡ found → pass.wanted ≡ Some text
+      → (k : ℕ) (x : WorldEntry) → At w.entries k x → x.text ≡ text → x.bucket ≡ pass.bucket
   placed_in w held party pass found text there same wanted k x at is =
-      let at_place : pass_of w party ≡ Some pass = there ∙ ap (λ (q : Pass). Some q) (sym same) in
+      let at_place : pass_of w party ≡ Some pass = there ∙ ap (λ (q : PartyPass). Some q) (sym same) in
       held.placed k x at ∙ ap (bucket_of tables (length w.lasts)) is ∙ sym (right_pass w held party pass text at_place wanted)
 
   pub held_by : (w : World) → SoundWorld tables w → (e : Event) (mid : World) → step tables w e.party e.does ≡ (e.reply, mid) → SoundWorld tables mid
@@ -283,8 +283,8 @@ module _ (tables : Tables) where
 
   -- ---- the entries of a held bucket, while others make steps
 
-  module _ (w : World) (held : SoundWorld tables w) (party : ℕ) (pass : Pass) (found : pass_of w party ≡ Some pass) (q : ℕ) (n : q ≢ party) where
-    others_same : (es : List Entry) → EntriesGo w q es → SameIn pass.bucket w.entries es
+  module _ (w : World) (held : SoundWorld tables w) (party : ℕ) (pass : PartyPass) (found : pass_of w party ≡ Some pass) (q : ℕ) (n : q ≢ party) where
+    others_same : (es : List WorldEntry) → EntriesGo w q es → SameIn pass.bucket w.entries es
     others_same es (Stay e) = subst (SameIn pass.bucket w.entries) (sym e) (same_in pass.bucket w.entries)
     others_same es (Change k x y at text ticket bucket back forth e) =
         subst (SameIn pass.bucket w.entries) (sym e) (same_change pass.bucket w.entries k x y at text ticket bucket back

@@ -3,13 +3,13 @@ use Rattle.std.proofs.Common.{◌≡◌, ℕ, ◌+◌, ◌-◌, ◌<◌, ◌≢�
 use Rattle.std.specs.Prelude.{slice_get, slice_set, nat_lt, ◌==◌, ◌&&◌, is_none}
 use Rattle.std.proofs.lemmas.Bool.{eqb-true, eq-eqb, cases_eq, and_parts}
 use Rattle.std.specs.List.{AllByRecursion}
-use Rattle.atomic_steps.specs.declared.steps.entry.Place.{Place}
-use Rattle.atomic_steps.specs.declared.steps.entry.Place.TheVariants as place
+use Rattle.atomic_steps.specs.declared.steps.world_entry.Place.{Place}
+use Rattle.atomic_steps.specs.declared.steps.world_entry.Place.TheVariants as place
 use Rattle.atomic_steps.specs.declared.steps.Step.{Step}
 use Rattle.atomic_steps.specs.declared.steps.Step.TheVariants.{TakeIntern, TakeSweep, Add, Link, Clone, Give, Unlink, Free, Leave}
 use Rattle.atomic_steps.specs.declared.steps.StepReply.{StepReply}
 use Rattle.atomic_steps.specs.declared.steps.StepReply.TheVariants as reply
-use Rattle.atomic_steps.specs.World.{Entry, Pass, World, is_linked, is_unlinked_by}
+use Rattle.atomic_steps.specs.World.{WorldEntry, PartyPass, World, is_linked, is_unlinked_by}
 use Rattle.atomic_steps.specs.Steps.{pass_of, is_linked_in, wants, has, take_bucket, add, link, clone, give, unlink, all_found_dying, all_looked_at, step}
 use Rattle.atomic_steps.specs.Runs.{Event, Leads}
 use Rattle.atomic_steps.specs.Theorem.{FreesSoundly}
@@ -19,7 +19,7 @@ use Rattle.atomic_steps.proofs.worlds.Bag.{held_counts}
 use Rattle.atomic_steps.proofs.runs.History.{keeps, unlinked_counts_zero}
 use Rattle.string_cache_core.specs.Tables.{Tables}
 
-pub record Evolves (x y : Entry) : Type 0 where
+pub record Evolves (x y : WorldEntry) : Type 0 where
   pub text : y.text ≡ x.text
   pub bucket : y.bucket ≡ x.bucket
   pub ticket : y.ticket ≡ x.ticket
@@ -27,23 +27,23 @@ pub record Evolves (x y : Entry) : Type 0 where
   pub gone : is_linked x.place ≡ false → is_linked y.place ≡ false
   pub freed : x.place ≡ place.Freed → y.place ≡ place.Freed
 
-same : (x : Entry) → Evolves x x
+same : (x : WorldEntry) → Evolves x x
 same x = record { text = refl; bucket = refl; ticket = refl; dead = λ h. h; gone = λ h. h; freed = λ h. h }
 
-abbrev pub Goes : List Entry → List Entry → Type 0
-Goes es es' = (k : ℕ) (x : Entry) → At es k x → (y : Entry) × At es' k y × Evolves x y
+abbrev pub Goes : List WorldEntry → List WorldEntry → Type 0
+Goes es es' = (k : ℕ) (x : WorldEntry) → At es k x → (y : WorldEntry) × At es' k y × Evolves x y
 
-goes_same : (es : List Entry) → Goes es es
+goes_same : (es : List WorldEntry) → Goes es es
 goes_same es k x a = (x, a, same x)
 
-goes_push : (es : List Entry) (y : Entry) → Goes es (es ++ y ∷ [])
+goes_push : (es : List WorldEntry) (y : WorldEntry) → Goes es (es ++ y ∷ [])
 goes_push es y k x a = (x, at_push_old es y k x a, same x)
 
-goes_set : (es : List Entry) (j : ℕ) (x y : Entry) → At es j x → Evolves x y → Goes es (slice_set es j y)
+goes_set : (es : List WorldEntry) (j : ℕ) (x y : WorldEntry) → At es j x → Evolves x y → Goes es (slice_set es j y)
 goes_set es j x y at ev k z a = elim (cases_eq k j) [
   | inl e ↦
       let is : z ≡ x = at_one es j z x (subst (λ (i : ℕ). At es i z) e a) at in
-      (y, subst (λ (i : ℕ). At (slice_set es j y) i y) (sym e) (at_set_same es j x y at), subst (λ (v : Entry). Evolves v y) (sym is) ev)
+      (y, subst (λ (i : ℕ). At (slice_set es j y) i y) (sym e) (at_set_same es j x y at), subst (λ (v : WorldEntry). Evolves v y) (sym is) ev)
   | inr n ↦ (z, at_set_other es j y k z n a, same z)
 ]
 
@@ -52,13 +52,13 @@ module _ (tables : Tables) where
     abbrev To : StepReply × World → Type 0
     To o = Goes w.entries o.1.entries
 
-    counted : (n m : ℕ) (x : Entry) → 0 < x.count → Evolves x (record x { count = n })
+    counted : (n m : ℕ) (x : WorldEntry) → 0 < x.count → Evolves x (record x { count = n })
     counted n m x some = record { text = refl; bucket = refl; ticket = refl; dead = λ e. absurd (omega arith); gone = λ h. h; freed = λ h. h }
 
-    moved : (x : Entry) (to : Place) → is_linked to ≡ false → (x.place ≡ place.Freed → to ≡ place.Freed) → Evolves x (record x { place = to })
+    moved : (x : WorldEntry) (to : Place) → is_linked to ≡ false → (x.place ≡ place.Freed → to ≡ place.Freed) → Evolves x (record x { place = to })
     moved x to gone freed = record { text = refl; bucket = refl; ticket = refl; dead = λ h. h; gone = λ h. gone; freed = freed }
 
-    add_goes : (k : ℕ) (pass : Pass) (x : Entry) → At w.entries k x → To (add w pass (suc k) x)
+    add_goes : (k : ℕ) (pass : PartyPass) (x : WorldEntry) → At w.entries k x → To (add w pass (suc k) x)
     unfolding add
     add_goes k pass x at =
         if_case To (x.count == 0) _ _ (λ e. goes_same w.entries)
@@ -66,28 +66,28 @@ module _ (tables : Tables) where
         (λ r. goes_set w.entries k x (record x { count = x.count + 1 }) at (counted (x.count + 1) 0 x (let n : x.count ≢ 0 = λ z. (let a : (x.count == 0) ≡ true = eq-eqb x.count 0 z in let c : true ≡ false = sym a ∙ e in cc) in omega (arith, n))))
         (λ r. goes_same w.entries))
 
-    link_goes : (pass : Pass) (room : Bool) (text : List ℕ) → To (link w pass room text)
+    link_goes : (pass : PartyPass) (room : Bool) (text : List ℕ) → To (link w pass room text)
     unfolding link
     link_goes pass room text =
         if_case To (nat_lt _ w.limits.serials) _ _
         (λ e. if_case To room _ _ (λ r. goes_push w.entries _) (λ r. goes_same w.entries))
         (λ e. goes_same w.entries)
 
-    clone_goes : (k : ℕ) (x : Entry) → At w.entries k x → has w.bag x.ticket ≡ true → To (clone w (suc k) x)
+    clone_goes : (k : ℕ) (x : WorldEntry) → At w.entries k x → has w.bag x.ticket ≡ true → To (clone w (suc k) x)
     unfolding clone
     clone_goes k x at h =
         if_case To (nat_lt x.count w.limits.holders) _ _
         (λ r. goes_set w.entries k x (record x { count = x.count + 1 }) at (counted (x.count + 1) 0 x (held_counts w.entries w.lasts w.bag sound.table k x at h)))
         (λ r. goes_same w.entries)
 
-    give_goes : (k : ℕ) (x : Entry) → At w.entries k x → has w.bag x.ticket ≡ true → To (give w (suc k) x)
+    give_goes : (k : ℕ) (x : WorldEntry) → At w.entries k x → has w.bag x.ticket ≡ true → To (give w (suc k) x)
     unfolding give
     give_goes k x at h = goes_set w.entries k x (record x { count = x.count - 1 }) at (counted (x.count - 1) 0 x (held_counts w.entries w.lasts w.bag sound.table k x at h))
 
     not_freed_linked : (p : Place) {P : Type 0} → is_linked p ≡ true → p ≡ place.Freed → P
     not_freed_linked p l f = absurd (let e : is_linked p ≡ false = ap is_linked f in let c : true ≡ false = sym l ∙ e in cc)
 
-    unlink_goes : (k : ℕ) (pass : Pass) (x : Entry) → At w.entries k x → is_linked x.place ≡ true → To (unlink w pass (suc k) x)
+    unlink_goes : (k : ℕ) (pass : PartyPass) (x : WorldEntry) → At w.entries k x → is_linked x.place ≡ true → To (unlink w pass (suc k) x)
     unfolding unlink
     unlink_goes k pass x at l =
         if_case To (x.count == 0) _ _
@@ -137,8 +137,8 @@ module _ (tables : Tables) where
   all_sound w sound [] v leads = subst (Sound tables) (sym leads) sound
   all_sound w sound (e ∷ events) v leads = all_sound leads.0 (sound_by w sound e leads.0 leads.1) events v leads.2
 
-  pub stays_gone : (w : World) → Sound tables w → (events : List Event) (v : World) → Leads tables w events v → (k : ℕ) (x : Entry) → At w.entries k x → is_linked x.place ≡ false
-      → (y : Entry) × At v.entries k y × (is_linked y.place ≡ false)
+  pub stays_gone : (w : World) → Sound tables w → (events : List Event) (v : World) → Leads tables w events v → (k : ℕ) (x : WorldEntry) → At w.entries k x → is_linked x.place ≡ false
+      → (y : WorldEntry) × At v.entries k y × (is_linked y.place ≡ false)
   stays_gone w sound [] v leads k x at n = (x, subst (λ (u : World). At u.entries k x) (sym leads) at, n)
   stays_gone w sound (e ∷ events) v leads k x at n =
       let next = goes_by w sound e leads.0 leads.1 k x at in
@@ -148,7 +148,7 @@ module _ (tables : Tables) where
 
   -- Free was enabled: the entry, that the party had unlinked it, and what the step left.
   pub record WasFreed (w : World) (party k : ℕ) (new : World) : Type 0 where
-    pub entry : Entry
+    pub entry : WorldEntry
     pub at : At w.entries k entry
     pub own : is_unlinked_by party entry.place ≡ true
     pub left : new.entries ≡ slice_set w.entries k (record entry { place = place.Freed })
@@ -173,7 +173,7 @@ module _ (tables : Tables) where
   own_place party place.Freed h = absurd (let e : false ≡ true = h in cc)
 
   -- what is freed isn't freed again
-  freed_once : (w : World) → Sound tables w → (events : List Event) (new : World) → Leads tables w events new → (k : ℕ) (x : Entry) → At w.entries k x → x.place ≡ place.Freed
+  freed_once : (w : World) → Sound tables w → (events : List Event) (new : World) → Leads tables w events new → (k : ℕ) (x : WorldEntry) → At w.entries k x → x.place ≡ place.Freed
       → AllByRecursion (λ (e : Event). e.does ≡ Free (suc k) → e.reply ≢ reply.Freed) events
   freed_once w sound [] new leads k x at f = tt
   freed_once w sound (e ∷ events) new leads k x at f =
@@ -182,7 +182,7 @@ module _ (tables : Tables) where
             let freed : (step tables w e.party (Free (suc k))).0 ≡ reply.Freed =
             ap (λ (s : Step). (step tables w e.party s).0) (sym is) ∙ ap (λ (o : StepReply × World). o.0) leads.1 ∙ given in
             let twice = was_freed w e.party k freed in
-            freed_not_own e.party twice.entry.place (ap (λ (z : Entry). z.place) (at_one w.entries k twice.entry x twice.at at) ∙ f) twice.own),
+            freed_not_own e.party twice.entry.place (ap (λ (z : WorldEntry). z.place) (at_one w.entries k twice.entry x twice.at at) ∙ f) twice.own),
         freed_once leads.0 (sound_by w sound e leads.0 leads.1) events new leads.2 k next.0 next.1 (next.2.freed f),
       )
 
@@ -192,7 +192,7 @@ module _ (tables : Tables) where
       let was = was_freed w party k (ap (λ (o : StepReply × World). o.0) does) in
       let left : mid.entries ≡ slice_set w.entries k (record was.entry { place = place.Freed }) = ap (λ (o : StepReply × World). o.1.entries) (sym does) ∙ was.left in
       let now : At mid.entries k (record was.entry { place = place.Freed }) =
-      subst (λ (es : List Entry). At es k (record was.entry { place = place.Freed })) (sym left) (at_set_same w.entries k was.entry (record was.entry { place = place.Freed }) was.at) in
+      subst (λ (es : List WorldEntry). At es k (record was.entry { place = place.Freed })) (sym left) (at_set_same w.entries k was.entry (record was.entry { place = place.Freed }) was.at) in
       let sound' : Sound tables mid = subst (λ (o : StepReply × World). Sound tables o.1) does (keeps tables w sound party (Free (suc k))).sound in
       record {
         entry = was.entry;

@@ -7,15 +7,15 @@ ghost use Rattle.string_cache_core.specs.Layout.{holder_bound, most_buckets, ser
 ghost use Rattle.atomic_steps.specs.World.{is_unlinked_by};
 ghost use Rattle.atomic_steps.specs.Sound.{SoundTable};
 ghost use Rattle.atomic_steps.specs.Steps.{all_found_dying, all_looked_at, entry_at, has, is_free, is_linked_in, last_of, opening, pass_of, wants};
-ghost use Rattle.atomic_steps.specs.Listed.{AreWithin};
+ghost use Rattle.atomic_steps.specs.EntryNumbers.{AreWithin};
 ghost use Rattle.atomic_steps.specs.Places.{PassAt, EntryAt};
 
 mod changes;
 mod rows;
 
-use super::entry::Entry;
-use super::listed::Listed;
-use super::pass::Pass;
+use super::entry_numbers::EntryNumbers;
+use super::party_pass::PartyPass;
+use super::world_entry::WorldEntry;
 use std::alloc::Global;
 use std::marker::Model;
 use string_cache_core::Fault;
@@ -26,17 +26,17 @@ pub struct State {
     limits: Limits,
     buckets: Buckets,
     lasts: Vec<u64>,
-    entries: Vec<Entry>,
+    entries: Vec<WorldEntry>,
     // Of each bucket the numbers of its linked entries.
-    linked: Vec<Listed>,
-    passes: Vec<Pass>,
+    linked: Vec<EntryNumbers>,
+    passes: Vec<PartyPass>,
 }
 
 impl Model for State {
     ghost use Rattle.std.specs.Prelude.{◌≡◌, length};
     ghost use Rattle.atomic_steps.specs.World as world;
     ghost use Rattle.atomic_steps.specs.Places.{held_places};
-    ghost use Rattle.atomic_steps.specs.Listed.{AreListsKept};
+    ghost use Rattle.atomic_steps.specs.EntryNumbers.{AreListsKept};
 
     ghost Value = { world.World };
 
@@ -45,25 +45,25 @@ impl Model for State {
     ghost invariant = { λ a. AreListsKept a.buckets a.entries.items a.lasts.items a.linked.items };
 }
 
-fn place_of(passes: &[Pass], party: u32) -> Option<usize>
+fn place_of(passes: &[PartyPass], party: u32) -> Option<usize>
     ensures { result ≡ position (λ pass. pass.party == party) passes.now }
 {
     passes.iter().position(|pass| pass.party == party)
 }
 
-fn is_free(passes: &[Pass], bucket: u16) -> bool
+fn is_free(passes: &[PartyPass], bucket: u16) -> bool
     ensures { result ≡ list_all (λ pass. not (pass.bucket == bucket)) passes.now }
 {
     passes.iter().all(|pass| pass.bucket != bucket)
 }
 
-fn empty_lists(alloc: Global, count: usize) -> Result<Vec<Listed>, Fault>
+fn empty_lists(alloc: Global, count: usize) -> Result<Vec<EntryNumbers>, Fault>
     ensures ok { IfOk result (λ lists. length lists.items ≡ count) }
     ensures err { OnErr result (result ≡ Err Fault.Memory) }
 {
     let mut lists = Vec::with_capacity(alloc, count)?;
     for _turn in 0..count {
-        lists.push(Listed::new(alloc))?;
+        lists.push(EntryNumbers::new(alloc))?;
     }
     Ok(lists)
 }
@@ -145,7 +145,7 @@ impl State {
     fn last_at(&self, at: usize) -> u64
         requires pass { at < length self.now.passes }
         requires below { AreWithin self.now }
-        ensures { (pass : world.Pass) → slice_get self.now.passes at ≡ Some pass → result ≡ last_of self.now pass.bucket }
+        ensures { (pass : world.PartyPass) → slice_get self.now.passes at ≡ Some pass → result ≡ last_of self.now pass.bucket }
     {
         let pass = &self.passes[at];
         self.lasts[pass.bucket as usize]
@@ -153,7 +153,7 @@ impl State {
 
     fn count_at(&self, k: usize) -> u64
         requires { k < length self.now.entries }
-        ensures { (entry : world.Entry) → slice_get self.now.entries k ≡ Some entry → result ≡ entry.count }
+        ensures { (entry : world.WorldEntry) → slice_get self.now.entries k ≡ Some entry → result ≡ entry.count }
     {
         let entry = &self.entries[k];
         entry.count
@@ -178,7 +178,7 @@ impl State {
     fn may_add(&self, at: usize, k: usize) -> bool
         requires pass { at < length self.now.passes }
         requires entry { k < length self.now.entries }
-        ensures { (pass : world.Pass) (entry : world.Entry) → slice_get self.now.passes at ≡ Some pass → slice_get self.now.entries k ≡ Some entry
+        ensures { (pass : world.PartyPass) (entry : world.WorldEntry) → slice_get self.now.passes at ≡ Some pass → slice_get self.now.entries k ≡ Some entry
             → result ≡ (is_linked_in pass.bucket entry && wants pass entry.text) }
     {
         let pass = &self.passes[at];
@@ -190,9 +190,9 @@ impl State {
     fn all_dying(&self, at: usize, text: &str) -> bool
         requires pass { at < length self.now.passes }
         requires below { AreWithin self.now }
-        requires placed { (pass : world.Pass) (k : ℕ) (entry : world.Entry) → slice_get self.now.passes at ≡ Some pass → slice_get self.now.entries k ≡ Some entry
+        requires placed { (pass : world.PartyPass) (k : ℕ) (entry : world.WorldEntry) → slice_get self.now.passes at ≡ Some pass → slice_get self.now.entries k ≡ Some entry
             → entry.text ≡ text.now → entry.bucket ≡ pass.bucket }
-        ensures { (pass : world.Pass) → slice_get self.now.passes at ≡ Some pass → result ≡ all_found_dying self.now pass text.now }
+        ensures { (pass : world.PartyPass) → slice_get self.now.passes at ≡ Some pass → result ≡ all_found_dying self.now pass text.now }
     {
         let pass = &self.passes[at];
         let listed = &self.linked[pass.bucket as usize];
@@ -202,9 +202,9 @@ impl State {
     fn may_link(&self, at: usize) -> bool
         requires pass { at < length self.now.passes }
         requires below { AreWithin self.now }
-        requires placed { (pass : world.Pass) (text : List ℕ) (k : ℕ) (entry : world.Entry) → slice_get self.now.passes at ≡ Some pass → pass.wanted ≡ Some text
+        requires placed { (pass : world.PartyPass) (text : List ℕ) (k : ℕ) (entry : world.WorldEntry) → slice_get self.now.passes at ≡ Some pass → pass.wanted ≡ Some text
             → slice_get self.now.entries k ≡ Some entry → entry.text ≡ text → entry.bucket ≡ pass.bucket }
-        ensures { (pass : world.Pass) → slice_get self.now.passes at ≡ Some pass
+        ensures { (pass : world.PartyPass) → slice_get self.now.passes at ≡ Some pass
             → result ≡ option_map_or (λ text. all_found_dying self.now pass text) pass.wanted false }
     {
         let pass = &self.passes[at];
@@ -217,7 +217,7 @@ impl State {
     fn may_unlink(&self, at: usize, k: usize) -> bool
         requires pass { at < length self.now.passes }
         requires entry { k < length self.now.entries }
-        ensures { (pass : world.Pass) (entry : world.Entry) → slice_get self.now.passes at ≡ Some pass → slice_get self.now.entries k ≡ Some entry
+        ensures { (pass : world.PartyPass) (entry : world.WorldEntry) → slice_get self.now.passes at ≡ Some pass → slice_get self.now.entries k ≡ Some entry
             → result ≡ is_linked_in pass.bucket entry }
     {
         let pass = &self.passes[at];
@@ -226,7 +226,7 @@ impl State {
 
     fn may_free(&self, party: u32, k: usize) -> bool
         requires { k < length self.now.entries }
-        ensures { (entry : world.Entry) → slice_get self.now.entries k ≡ Some entry → result ≡ is_unlinked_by party entry.place }
+        ensures { (entry : world.WorldEntry) → slice_get self.now.entries k ≡ Some entry → result ≡ is_unlinked_by party entry.place }
     {
         self.entries[k].is_unlinked_by(party)
     }
@@ -235,7 +235,7 @@ impl State {
     fn all_seen(&self, at: usize) -> bool
         requires pass { at < length self.now.passes }
         requires below { AreWithin self.now }
-        ensures { (pass : world.Pass) → slice_get self.now.passes at ≡ Some pass → result ≡ all_looked_at self.now pass }
+        ensures { (pass : world.PartyPass) → slice_get self.now.passes at ≡ Some pass → result ≡ all_looked_at self.now pass }
     {
         let pass = &self.passes[at];
         let listed = &self.linked[pass.bucket as usize];
@@ -245,7 +245,7 @@ impl State {
     fn may_leave(&self, at: usize) -> bool
         requires pass { at < length self.now.passes }
         requires below { AreWithin self.now }
-        ensures { (pass : world.Pass) → slice_get self.now.passes at ≡ Some pass → result ≡ (is_none pass.wanted && all_looked_at self.now pass) }
+        ensures { (pass : world.PartyPass) → slice_get self.now.passes at ≡ Some pass → result ≡ (is_none pass.wanted && all_looked_at self.now pass) }
     {
         let pass = &self.passes[at];
         !pass.is_undecided() && self.all_seen(at)
@@ -255,7 +255,7 @@ impl State {
     fn is_held(&self, k: usize) -> bool
         requires entry { k < length self.now.entries }
         requires sound { SoundTable self.now.entries self.now.lasts self.now.bag }
-        ensures { (entry : world.Entry) → slice_get self.now.entries k ≡ Some entry → result ≡ has self.now.bag entry.ticket }
+        ensures { (entry : world.WorldEntry) → slice_get self.now.entries k ≡ Some entry → result ≡ has self.now.bag entry.ticket }
     {
         self.count_at(k) > 0
     }

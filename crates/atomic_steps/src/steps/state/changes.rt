@@ -6,14 +6,14 @@ ghost use Rattle.std.specs.Option.{option_map};
 ghost use Rattle.std.specs.String.{string_bytes};
 ghost use Rattle.string_cache_core.specs.Faults.{RefusesUnchanged};
 ghost use Rattle.string_cache_core.specs.Layout.{holder_bound, most_buckets, serial_bound};
-ghost use Rattle.atomic_steps.specs.Listed.{AreWithin};
+ghost use Rattle.atomic_steps.specs.EntryNumbers.{AreWithin};
 ghost use Rattle.string_cache_core.specs.Word.{ticket_of};
 ghost use Rattle.atomic_steps.specs.Sound.{SoundTable};
 ghost use Rattle.atomic_steps.specs.Steps.{decides, finds_dying, last_of, looks_at, take_bucket, with_one, without_one};
 
 use super::State;
-use crate::steps::entry::{Entry, Place};
-use crate::steps::pass::Pass;
+use crate::steps::party_pass::PartyPass;
+use crate::steps::world_entry::{Place, WorldEntry};
 use string_cache_core::Fault;
 use string_cache_core::word::ticket_word;
 
@@ -33,7 +33,7 @@ impl State {
     {
         let alloc = *self.passes.allocator();
         self.passes.reserve(1)?;
-        self.passes.push_reserved(Pass {
+        self.passes.push_reserved(PartyPass {
             party,
             bucket,
             wanted,
@@ -52,7 +52,7 @@ impl State {
 
     pub(super) fn look_at(&mut self, at: usize, number: u64) -> Result<(), Fault>
         requires { at < length self.old.passes }
-        ensures ok { (pass : world.Pass) → slice_get self.old.passes at ≡ Some pass
+        ensures ok { (pass : world.PartyPass) → slice_get self.old.passes at ≡ Some pass
             → OnOk result (self.new ≡ record self.old { passes = slice_set self.old.passes at (looks_at pass number) }) }
         ensures err { RefusesUnchanged self.old result self.new }
     {
@@ -62,7 +62,7 @@ impl State {
 
     pub(super) fn find_dying(&mut self, at: usize, number: u64) -> Result<(), Fault>
         requires { at < length self.old.passes }
-        ensures ok { (pass : world.Pass) → slice_get self.old.passes at ≡ Some pass
+        ensures ok { (pass : world.PartyPass) → slice_get self.old.passes at ≡ Some pass
             → OnOk result (self.new ≡ record self.old { passes = slice_set self.old.passes at (finds_dying pass number) }) }
         ensures err { RefusesUnchanged self.old result self.new }
     {
@@ -72,7 +72,7 @@ impl State {
 
     pub(super) fn decide(&mut self, at: usize)
         requires { at < length self.old.passes }
-        ensures { (pass : world.Pass) → slice_get self.old.passes at ≡ Some pass
+        ensures { (pass : world.PartyPass) → slice_get self.old.passes at ≡ Some pass
             → self.new ≡ record self.old { passes = slice_set self.old.passes at (decides pass) } }
     {
         let pass = &mut self.passes[at];
@@ -82,7 +82,7 @@ impl State {
     // Looks at the entry, and decides.
     pub(super) fn decide_on(&mut self, at: usize, number: u64) -> Result<(), Fault>
         requires { at < length self.old.passes }
-        ensures ok { (pass : world.Pass) → slice_get self.old.passes at ≡ Some pass
+        ensures ok { (pass : world.PartyPass) → slice_get self.old.passes at ≡ Some pass
             → OnOk result (self.new ≡ record self.old { passes = slice_set self.old.passes at (decides (looks_at pass number)) }) }
         ensures err { RefusesUnchanged self.old result self.new }
     {
@@ -96,8 +96,8 @@ impl State {
     pub(super) fn add_share(&mut self, k: usize) -> (u64, u64)
         requires entry { k < length self.old.entries }
         requires sound { SoundTable self.old.entries self.old.lasts self.old.bag }
-        requires fits { (entry : world.Entry) → slice_get self.old.entries k ≡ Some entry → (0 < entry.count) × (entry.count < holder_bound) }
-        ensures { (entry : world.Entry) → slice_get self.old.entries k ≡ Some entry
+        requires fits { (entry : world.WorldEntry) → slice_get self.old.entries k ≡ Some entry → (0 < entry.count) × (entry.count < holder_bound) }
+        ensures { (entry : world.WorldEntry) → slice_get self.old.entries k ≡ Some entry
             → (result.0 ≡ entry.ticket) × (result.1 ≡ entry.count + 1) × (self.new ≡ record self.old {
               entries = slice_set self.old.entries k (record entry { count = entry.count + 1 });
               bag = with_one entry.ticket self.old.bag;
@@ -112,8 +112,8 @@ impl State {
     pub(super) fn give_share(&mut self, k: usize) -> u64
         requires entry { k < length self.old.entries }
         requires sound { SoundTable self.old.entries self.old.lasts self.old.bag }
-        requires held { (entry : world.Entry) → slice_get self.old.entries k ≡ Some entry → 0 < entry.count }
-        ensures { (entry : world.Entry) → slice_get self.old.entries k ≡ Some entry
+        requires held { (entry : world.WorldEntry) → slice_get self.old.entries k ≡ Some entry → 0 < entry.count }
+        ensures { (entry : world.WorldEntry) → slice_get self.old.entries k ≡ Some entry
             → (result ≡ entry.count - 1) × (self.new ≡ record self.old {
               entries = slice_set self.old.entries k (record entry { count = entry.count - 1 });
               bag = without_one entry.ticket self.old.bag;
@@ -129,9 +129,9 @@ impl State {
         requires pass { at < length self.old.passes }
         requires below { AreWithin self.old }
         requires sound { SoundTable self.old.entries self.old.lasts self.old.bag }
-        requires wanted { (pass : world.Pass) → slice_get self.old.passes at ≡ Some pass → IsSome pass.wanted × (serial ≡ last_of self.old pass.bucket + 1) }
+        requires wanted { (pass : world.PartyPass) → slice_get self.old.passes at ≡ Some pass → IsSome pass.wanted × (serial ≡ last_of self.old pass.bucket + 1) }
         requires serial { (1 ≤ serial) × (serial < serial_bound) }
-        ensures ok { (pass : world.Pass) (text : List ℕ) → slice_get self.old.passes at ≡ Some pass → pass.wanted ≡ Some text
+        ensures ok { (pass : world.PartyPass) (text : List ℕ) → slice_get self.old.passes at ≡ Some pass → pass.wanted ≡ Some text
             → IfOk result (λ linked. (linked.0 ≡ length self.old.entries + 1) × (linked.1 ≡ ticket_of serial pass.bucket) × (self.new ≡ record self.old {
               lasts = slice_set self.old.lasts pass.bucket serial;
               entries = self.old.entries ++ record { text = text; bucket = pass.bucket; ticket = ticket_of serial pass.bucket; count = 1; place = Place.Linked } ∷ [];
@@ -148,7 +148,7 @@ impl State {
         let text = pass.link(number, listed)?;
         let ticket = ticket_word(serial, bucket);
         self.lasts[bucket as usize] = serial;
-        self.entries.push_reserved(Entry {
+        self.entries.push_reserved(WorldEntry {
             text,
             bucket,
             ticket,
@@ -163,7 +163,7 @@ impl State {
         requires pass { at < length self.old.passes }
         requires below { AreWithin self.old }
         requires entry { k < length self.old.entries }
-        ensures { (entry : world.Entry) → slice_get self.old.entries k ≡ Some entry
+        ensures { (entry : world.WorldEntry) → slice_get self.old.entries k ≡ Some entry
             → self.new ≡ record self.old { entries = slice_set self.old.entries k (record entry { place = Place.UnlinkedBy party }) } }
     {
         let pass = &self.passes[at];
@@ -174,7 +174,7 @@ impl State {
 
     pub(super) fn set_freed(&mut self, k: usize)
         requires { k < length self.old.entries }
-        ensures { (entry : world.Entry) → slice_get self.old.entries k ≡ Some entry
+        ensures { (entry : world.WorldEntry) → slice_get self.old.entries k ≡ Some entry
             → self.new ≡ record self.old { entries = slice_set self.old.entries k (record entry { place = Place.Freed }) } }
     {
         let entry = &mut self.entries[k];

@@ -2,7 +2,7 @@
 
 ghost use Rattle.std.specs.Prelude.{◌≡◌, ℕ, IfOk};
 ghost use Rattle.string_cache_core.specs.Faults.{RefusesUnchanged};
-ghost use Rattle.atomic_steps.specs.Listed.{AreWithin};
+ghost use Rattle.atomic_steps.specs.EntryNumbers.{AreWithin};
 ghost use Rattle.string_cache_core.specs.Tables.{Tables};
 ghost use Rattle.atomic_steps.specs.Sound.{SoundTable, SoundWorld};
 ghost use Rattle.atomic_steps.specs.Steps.{IsStep};

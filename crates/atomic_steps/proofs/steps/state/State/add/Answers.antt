@@ -1,7 +1,7 @@
 use Rattle.std.proofs.Common.{◌≡◌, ◌∙◌, ap, sym, subst, arith, ◌+◌}
 use Rattle.std.specs.Prelude.{slice_get, slice_set}
 use Rattle.atomic_steps.specs.Sound.{SoundTable}
-use Rattle.atomic_steps.specs.World.{Entry, World}
+use Rattle.atomic_steps.specs.World.{WorldEntry, World}
 use Rattle.atomic_steps.specs.Steps.{with_one}
 use Rattle.atomic_steps.proofs.lists.Places.{within}
 use Rattle.atomic_steps.proofs.lists.Facts.{at_one}
@@ -44,7 +44,7 @@ add_share-ticket-requires-clause-fits c = λ entry there.
     let e = c.in-Some-entry_place.ensures in
     let decided = c.in_ok-decide_on.ensures.ok p.pass p.there in
     let same : entry ≡ e.entry = at_one c.args.self.now.entries c.in-Some-entry_place.k entry e.entry (ap (λ (v : World). slice_get v.entries c.in-Some-entry_place.k) (sym decided) ∙ there) e.there in
-    let count : c.count_at-count.result ≡ entry.count = c.count_at-count.ensures e.entry e.there ∙ ap (λ (v : Entry). v.count) (sym same) in
+    let count : c.count_at-count.result ≡ entry.count = c.count_at-count.ensures e.entry e.there ∙ ap (λ (v : WorldEntry). v.count) (sym same) in
     let some = c.if-count-eq0.false in
     let room = c.if-count-holders.false in
     let most = c.holders.ensures.below in

@@ -1,6 +1,6 @@
 use Rattle.std.proofs.Common.{◌≡◌, ◌∙◌, ap, sym, arith, ℕ, ◌+◌}
 use Rattle.std.specs.Prelude.{is_some}
-use Rattle.atomic_steps.specs.World.{Pass}
+use Rattle.atomic_steps.specs.World.{PartyPass}
 use Rattle.atomic_steps.proofs.worlds.Apart.{all_within, placed_in}
 use Rattle.atomic_steps.proofs.lists.Places.{within}
 use Rattle.atomic_steps.proofs.lists.Facts.{at_one}
@@ -38,7 +38,7 @@ pub link_entry-requires-clause-wanted : goal.link_entry-requires-clause-wanted
 link_entry-requires-clause-wanted g c = λ pass there.
     let p = c.in-Some.ensures in
     let t = text_to_link empty_tables _ _ _ c.args.room p (sym (c.may_link.ensures p.pass p.there) ∙ c.if-not-may_link.false) in (
-      ap (λ (q : Pass). is_some q.wanted) (at_one c.args.self.now.passes c.in-Some.at pass p.pass there p.there) ∙ ap is_some t.1,
+      ap (λ (q : PartyPass). is_some q.wanted) (at_one c.args.self.now.passes c.in-Some.at pass p.pass there p.there) ∙ ap is_some t.1,
       ap (λ (n : ℕ). n + 1) (c.last_at-last.ensures pass there),
     )
 

@@ -5,9 +5,9 @@ ghost use Rattle.std.specs.List.{list_all, position, remove};
 ghost use Rattle.std.specs.Option.{option_map};
 ghost use Rattle.string_cache_core.specs.Faults.{RefusesUnchanged};
 ghost use Rattle.atomic_steps.specs.Steps.{dying_if_linked, entry_at, has, looked_at_if_linked, without_one};
-ghost use Rattle.atomic_steps.specs.Listed.{passes_at};
+ghost use Rattle.atomic_steps.specs.EntryNumbers.{passes_at};
 
-use super::entry::Entry;
+use super::world_entry::WorldEntry;
 use std::alloc::Global;
 use std::marker::Model;
 use string_cache_core::Fault;
@@ -32,14 +32,14 @@ fn spot_of(numbers: &[u64], number: u64) -> Option<usize>
 }
 
 // The entry of that number, counted from 1.
-fn entry_of(entries: &[Entry], number: u64) -> Option<&Entry>
+fn entry_of(entries: &[WorldEntry], number: u64) -> Option<&WorldEntry>
     ensures { option_map (λ entry. entry.now) result ≡ entry_at entries.now number }
 {
     entries.get(number.checked_sub(1)? as usize)
 }
 
 // Whether the entry was looked at, if it is linked in the bucket.
-fn looked_at_if_linked(entries: &[Entry], number: u64, bucket: u16, looked: &[u64]) -> bool
+fn looked_at_if_linked(entries: &[WorldEntry], number: u64, bucket: u16, looked: &[u64]) -> bool
     ensures { result ≡ passes_at (looked_at_if_linked bucket looked.now) entries.now number }
 {
     match entry_of(entries, number) {
@@ -49,7 +49,7 @@ fn looked_at_if_linked(entries: &[Entry], number: u64, bucket: u16, looked: &[u6
 }
 
 // Whether the entry was found dying, if it is linked with the text.
-fn dying_if_linked(entries: &[Entry], number: u64, text: &str, dying: &[u64]) -> bool
+fn dying_if_linked(entries: &[WorldEntry], number: u64, text: &str, dying: &[u64]) -> bool
     ensures { result ≡ passes_at (dying_if_linked dying.now text.now) entries.now number }
 {
     match entry_of(entries, number) {
@@ -59,11 +59,11 @@ fn dying_if_linked(entries: &[Entry], number: u64, text: &str, dying: &[u64]) ->
 }
 
 #[derive(Drop)]
-pub struct Listed {
+pub struct EntryNumbers {
     numbers: Vec<u64>,
 }
 
-impl Model for Listed {
+impl Model for EntryNumbers {
     ghost use Rattle.std.specs.Prelude.{List, ℕ};
 
     ghost Value = { List ℕ };
@@ -71,11 +71,11 @@ impl Model for Listed {
     ghost view = { λ a. a.numbers.items };
 }
 
-impl Listed {
-    pub fn new(alloc: Global) -> Listed
+impl EntryNumbers {
+    pub fn new(alloc: Global) -> EntryNumbers
         ensures { result ≡ [] }
     {
-        Listed {
+        EntryNumbers {
             numbers: Vec::new(alloc),
         }
     }
@@ -99,14 +99,14 @@ impl Listed {
     }
 
     // Whether each entry that is linked in the bucket was looked at.
-    pub fn all_seen(&self, entries: &[Entry], bucket: u16, looked: &[u64]) -> bool
+    pub fn all_seen(&self, entries: &[WorldEntry], bucket: u16, looked: &[u64]) -> bool
         ensures { result ≡ list_all (passes_at (looked_at_if_linked bucket looked.now) entries.now) self.now }
     {
         self.numbers.iter().all(|number| looked_at_if_linked(entries, *number, bucket, looked))
     }
 
     // Whether each entry that is linked with the text was found dying.
-    pub fn all_dying(&self, entries: &[Entry], text: &str, dying: &[u64]) -> bool
+    pub fn all_dying(&self, entries: &[WorldEntry], text: &str, dying: &[u64]) -> bool
         ensures { result ≡ list_all (passes_at (dying_if_linked dying.now text.now) entries.now) self.now }
     {
         self.numbers

@@ -4,12 +4,12 @@ ghost use Rattle.std.specs.Prelude.{◌≡◌, ◌==◌, ◌++◌, ◌∷◌, []
 ghost use Rattle.std.specs.String.{string_bytes};
 ghost use Rattle.string_cache_core.specs.Faults.{RefusesUnchanged};
 
-use super::listed::Listed;
+use super::entry_numbers::EntryNumbers;
 use std::marker::Model;
 use string_cache_core::Fault;
 
 #[derive(Drop)]
-pub struct Pass {
+pub struct PartyPass {
     pub party: u32,
     pub bucket: u16,
     pub wanted: Option<String>,
@@ -17,21 +17,21 @@ pub struct Pass {
     pub looked: Vec<u64>,
 }
 
-impl Model for Pass {
+impl Model for PartyPass {
     ghost use Rattle.std.specs.Prelude.{◌<◌};
     ghost use Rattle.std.specs.Option.{option_map};
     ghost use Rattle.std.specs.String.{string_bytes};
     ghost use Rattle.string_cache_core.specs.Layout.{most_buckets};
     ghost use Rattle.atomic_steps.specs.World as world;
 
-    ghost Value = { world.Pass };
+    ghost Value = { world.PartyPass };
 
     ghost view = { λ a. record { party = a.party; bucket = a.bucket; wanted = option_map (λ t. string_bytes t) a.wanted; dying = a.dying.items; looked = a.looked.items } };
 
     ghost invariant = { λ a. a.bucket < most_buckets };
 }
 
-impl Pass {
+impl PartyPass {
     ghost use Rattle.atomic_steps.specs.Steps.{wants, finds_dying, looks_at, decides};
 
     pub fn is_of(&self, party: u32) -> bool
@@ -81,7 +81,7 @@ impl Pass {
 
     // A new entry of that number is listed and looked at, and the pass decides: its text. All growth comes before the first
     // change.
-    pub fn link(&mut self, number: u64, listed: &mut Listed) -> Result<String, Fault>
+    pub fn link(&mut self, number: u64, listed: &mut EntryNumbers) -> Result<String, Fault>
         requires { IsSome self.old.wanted }
         ensures text { IfOk result (λ text. self.old.wanted ≡ Some (string_bytes text)) }
         ensures ok { OnOk result ((self.new ≡ decides (looks_at self.old number)) × (listed.new ≡ listed.old ++ number ∷ [])) }

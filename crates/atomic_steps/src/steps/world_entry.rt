@@ -16,7 +16,7 @@ pub enum Place {
 }
 
 #[derive(Drop)]
-pub struct Entry {
+pub struct WorldEntry {
     pub text: String,
     pub bucket: u16,
     pub ticket: u64,
@@ -24,16 +24,16 @@ pub struct Entry {
     pub place: Place,
 }
 
-impl Model for Entry {
+impl Model for WorldEntry {
     ghost use Rattle.std.specs.String.{string_bytes};
     ghost use Rattle.atomic_steps.specs.World as world;
 
-    ghost Value = { world.Entry };
+    ghost Value = { world.WorldEntry };
 
     ghost view = { λ a. record { text = string_bytes a.text; bucket = a.bucket; ticket = a.ticket; count = a.count; place = a.place } };
 }
 
-impl Entry {
+impl WorldEntry {
     ghost use Rattle.string_cache_core.specs.Layout.{holder_bound};
     ghost use Rattle.atomic_steps.specs.World.{is_linked, is_unlinked_by};
     ghost use Rattle.atomic_steps.specs.Steps.{is_linked_in};

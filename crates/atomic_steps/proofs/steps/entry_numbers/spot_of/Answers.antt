@@ -3,7 +3,7 @@ use Rattle.std.specs.Prelude.{MatchOption}
 use Rattle.std.specs.List.{remove}
 use Rattle.atomic_steps.specs.Steps.{without_one}
 use Rattle.atomic_steps.proofs.lists.Numbers.{spot}
-use Rattle.atomic_steps.proofs.steps.listed.spot_of.Goals as goal
+use Rattle.atomic_steps.proofs.steps.entry_numbers.spot_of.Goals as goal
 
 pub returns : goal.returns
 returns c =
