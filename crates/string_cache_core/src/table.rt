@@ -1,7 +1,6 @@
 //! The table of texts for one thread.
 
 ghost use Rattle.std.specs.Prelude.{IsTrue, ◌≡◌, ◌≢◌, ℕ, ◌∷◌, ◌++◌, ◌+◌, ◌-◌, ◌^◌, ◌%◌, ◌<◌, ◌≤◌, ◌⊎◌, OnOk, OnErr, IfOk, IfErr, IfSome, IsSome, MatchOption, Option, None, Some, slice_get, length, List, ◌↔◌};
-ghost use Rattle.string_cache_core.specs.Bounds.{Bounds};
 ghost use Rattle.string_cache_core.specs.Faults.{IsInternFault};
 ghost use Rattle.string_cache_core.specs.declared.faults.Fault.TheVariants.{FullCount, Memory};
 ghost use Rattle.string_cache_core.specs.Calls.{Answers, AnswersAll};
@@ -9,9 +8,9 @@ ghost use Rattle.std.specs.List.{IsDistinct, sum_by};
 ghost use Rattle.std.specs.Map.{keys_of};
 ghost use Rattle.std.specs.Str.{bytes_eq};
 ghost use Rattle.string_cache_core.specs.Layout.{holder_bound, serial_bound, usual_buckets};
-ghost use Rattle.string_cache_core.specs.Map.{Holding, InternMap, IsHeldTicket, Intern, MapReply, MayReply, empty_map, with_held, with_last};
+ghost use Rattle.string_cache_core.specs.Map.{Holding, IsHeldTicket, Intern, MapReply, MayReply, empty_map, with_held, with_last};
 ghost use Rattle.string_cache_core.specs.Table.{Adds, Interns, Clones, Gives, AreHeld, GivesOnce, HasOneTextEach, HasWord, IsFixedWord, IsHeld, IsTextOf, KeepsWord, as_word};
-ghost use Rattle.string_cache_core.specs.Tables.{bucket_of, form_of_text, fixed_word, entry_hash};
+ghost use Rattle.string_cache_core.specs.Tables.{bucket_of, form_of_text, fixed_word};
 ghost use Rattle.string_cache_core.specs.Word.{inline_word, ticket_of};
 ghost use Rattle.string_cache_core.specs.declared.static_sets.TextForm.TheVariants.{Dynamic};
 
@@ -112,9 +111,8 @@ impl<S: StaticAtomSet> Table<S> {
         ensures fault { IfErr result IsInternFault }
         ensures err { OnErr result (self.new ≡ self.old) }
     {
-        self.is_sound(); // before and after, as the last clauses say
         let outcome = self.intern_text(text);
-        self.is_sound();
+        self.is_sound(); // as the last clauses say
         outcome
     }
 
@@ -126,7 +124,6 @@ impl<S: StaticAtomSet> Table<S> {
         ensures same { IfSome result (λ lent. (text : List ℕ) → IsTextOf S.tables (map_of self.now) word text → lent.now ≡ text) }
         ensures word { IfSome result (λ text. HasWord S.tables (map_of self.now) text.now word) }
     {
-        self.is_sound();
         self.find_text(word)
     }
 
@@ -243,7 +240,8 @@ impl<S: StaticAtomSet> Table<S> {
 
     /// The text of a word.
     fn find_text(&self, word: u64) -> Option<&str>
-        ensures { MatchOption result ((text : List ℕ) → ¬ (IsTextOf S.tables (map_of self.now) word text)) (λ text. IsTextOf S.tables (map_of self.now) word text.now) }
+        ensures sound { IsSoundMap S.tables (map_of self.now) }
+        ensures text { MatchOption result ((text : List ℕ) → ¬ (IsTextOf S.tables (map_of self.now) word text)) (λ text. IsTextOf S.tables (map_of self.now) word text.now) }
     {
         self.is_sound();
         match form_of(word)? {
@@ -380,6 +378,7 @@ impl<S: StaticAtomSet> Table<S> {
 
     /// Interns a text.
     fn intern_text(&mut self, text: &str) -> Result<u64, Fault>
+        ensures sound { IsSoundMap S.tables (map_of self.old) }
         ensures limits { self.new.limits ≡ self.old.limits }
         ensures interns { Interns S.tables self.old.limits (map_of self.old) text.now result (map_of self.new) }
         ensures fault { IfErr result IsInternFault }

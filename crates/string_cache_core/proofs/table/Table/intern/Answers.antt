@@ -48,7 +48,7 @@ returns-clause-held g c = held g.S.StaticAtomSet.tables c.args.self.now.limits (
 pub returns-clause-listed : goal.returns-clause-listed
 returns-clause-listed g c =
     listed g.S.StaticAtomSet.tables c.args.self.now.limits (map_of c.args.self.now) (map_of c.intern_text-outcome.new.self) c.args.text.now c.utf8.text c.intern_text-outcome.result c.intern_text-outcome.ensures.interns
-    c.is_sound.ensures c.is_sound-2.ensures
+    c.intern_text-outcome.ensures.sound c.is_sound.ensures
 
 pub returns-clause-keeps : goal.returns-clause-keeps
 returns-clause-keeps g c = λ other.
@@ -56,11 +56,11 @@ returns-clause-keeps g c = λ other.
     (interns-grow g.S.StaticAtomSet.tables c.args.self.now.limits (map_of c.args.self.now) (map_of c.intern_text-outcome.new.self) c.args.text.now c.intern_text-outcome.result other c.intern_text-outcome.ensures.interns)
 
 pub returns-clause-apart : goal.returns-clause-apart
-returns-clause-apart g c = one-text-each g.S.StaticAtomSet.tables (map_of c.intern_text-outcome.new.self) c.is_sound-2.ensures
+returns-clause-apart g c = one-text-each g.S.StaticAtomSet.tables (map_of c.intern_text-outcome.new.self) c.is_sound.ensures
 
 pub returns-clause-once : goal.returns-clause-once
 returns-clause-once g c = record {
-  given = held-given g.S.StaticAtomSet.tables (map_of c.intern_text-outcome.new.self) c.is_sound-2.ensures;
+  given = held-given g.S.StaticAtomSet.tables (map_of c.intern_text-outcome.new.self) c.is_sound.ensures;
   fresh = λ ticket. interns-fresh g.S.StaticAtomSet.tables c.args.self.now.limits (map_of c.args.self.now) (map_of c.intern_text-outcome.new.self) c.args.text.now c.intern_text-outcome.result ticket
-      c.is_sound-2.ensures c.intern_text-outcome.ensures.interns;
+      c.is_sound.ensures c.intern_text-outcome.ensures.interns;
 }
