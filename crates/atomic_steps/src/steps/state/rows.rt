@@ -1,6 +1,6 @@
 //! The nine steps, each as its row of the table of steps.
 
-ghost use Rattle.std.specs.Prelude.{◌≡◌, ℕ, IfOk};
+ghost use Rattle.std.specs.Prelude.{ℕ, IfOk};
 ghost use Rattle.string_cache_core.specs.Faults.{RefusesUnchanged};
 ghost use Rattle.atomic_steps.specs.EntryNumbers.{AreWithin};
 ghost use Rattle.string_cache_core.specs.Tables.{Tables};
