@@ -219,7 +219,8 @@ impl<S: StaticAtomSet> Table<S> {
 
     // ---- places
 
-    /// Does nothing: its contract says what the invariant makes of every table's map, wherever a proof needs it.
+    /// Does nothing: its contract says what the invariant makes of every table's map, wherever a proof needs it. A body that opens no field
+    /// learns nothing of the invariant, and that each ticket stands once only a call of `tickets` says; hence its calls.
     fn is_sound(&self)
         ensures { IsSoundMap S.tables (map_of self.now) }
     {
