@@ -5,7 +5,7 @@ use Rattle.std.specs.Option.{unwrap_or}
 use Rattle.std.proofs.lemmas.List.{length-set}
 use Rattle.string_cache_core.specs.Bounds.{Bounds}
 use Rattle.string_cache_core.specs.Tables.{Tables}
-use Rattle.atomic_steps.specs.World.{Entry, Pass, World}
+use Rattle.atomic_steps.specs.World.{WorldEntry, PartyPass, World}
 use Rattle.atomic_steps.specs.declared.steps.Step.{Step}
 use Rattle.atomic_steps.specs.declared.steps.Step.TheVariants.{TakeIntern, TakeSweep, Add, Link, Clone, Give, Unlink, Free, Leave}
 use Rattle.atomic_steps.specs.declared.steps.StepReply.{StepReply}
@@ -33,30 +33,30 @@ module _ (t : Tables) (w : World) where
   same : (r : StepReply) (v : World) → v.entries ≡ w.entries → Grows (r, v)
   same r v e = omega (arith, ap length e)
 
-  set_entry : (r : StepReply) (e : ℕ) (x : Entry) → length (with_entry w e x).entries ≤ length w.entries + 1
+  set_entry : (r : StepReply) (e : ℕ) (x : WorldEntry) → length (with_entry w e x).entries ≤ length w.entries + 1
   set_entry r zero x = omega arith
   set_entry r (suc k) x = omega (arith, length-set w.entries k x)
 
-  add_grows : (pass : Pass) (e : ℕ) (x : Entry) → Grows (add w pass e x)
+  add_grows : (pass : PartyPass) (e : ℕ) (x : WorldEntry) → Grows (add w pass e x)
   unfolding add
   add_grows pass e x = if_case Grows (x.count == 0) _ _ (omega arith) (if_case Grows (nat_lt x.count w.limits.holders) _ _ (set_entry reply.No e (record x { count = x.count + 1 })) (omega arith))
 
-  link_grows : (pass : Pass) (room : Bool) (text : List ℕ) → Grows (link w pass room text)
+  link_grows : (pass : PartyPass) (room : Bool) (text : List ℕ) → Grows (link w pass room text)
   unfolding link
   link_grows pass room text =
       if_case Grows (nat_lt (last_of w pass.bucket) w.limits.serials) _ _
-      (if_case Grows room _ _ (omega (arith, length-append {A = Entry})) (omega arith))
+      (if_case Grows room _ _ (omega (arith, length-append {A = WorldEntry})) (omega arith))
       (omega arith)
 
-  clone_grows : (e : ℕ) (x : Entry) → Grows (clone w e x)
+  clone_grows : (e : ℕ) (x : WorldEntry) → Grows (clone w e x)
   unfolding clone
   clone_grows e x = if_case Grows (nat_lt x.count w.limits.holders) _ _ (set_entry reply.No e (record x { count = x.count + 1 })) (omega arith)
 
-  give_grows : (e : ℕ) (x : Entry) → Grows (give w e x)
+  give_grows : (e : ℕ) (x : WorldEntry) → Grows (give w e x)
   unfolding give
   give_grows e x = set_entry reply.No e (record x { count = x.count - 1 })
 
-  unlink_grows : (pass : Pass) (e : ℕ) (x : Entry) → Grows (unlink w pass e x)
+  unlink_grows : (pass : PartyPass) (e : ℕ) (x : WorldEntry) → Grows (unlink w pass e x)
   unfolding unlink
   unlink_grows pass e x = if_case Grows (x.count == 0) _ _ (set_entry reply.No e _) (omega arith)
 

@@ -125,11 +125,11 @@ record StopsBody (lines : List (List ℕ)) (passed n : ℕ) : Type 0 where
   no_step : (s : ℕ × Step) → Spells line s → ⊥
 
 -- how many lines an opening line is
-abbrev pub Counts : {X : Type 0} → Option X → ℕ → Type 0
-Counts given n = MatchOption given (n ≡ 0) (λ x. n ≡ 1)
+abbrev pub IsLineCount : {X : Type 0} → Option X → ℕ → Type 0
+IsLineCount given n = MatchOption given (n ≡ 0) (λ x. n ≡ 1)
 
 -- the first line that spells no step, behind that of the number of buckets
-body_stops : (text rest : List ℕ) (given : Option ℕ) (passed more n : ℕ) → Takes SpellsBuckets text given rest → Counts given more → StopsAfter (script_lines rest) (passed + more) n → StopsBody (script_lines text) passed n
+body_stops : (text rest : List ℕ) (given : Option ℕ) (passed more n : ℕ) → Takes SpellsBuckets text given rest → IsLineCount given more → StopsAfter (script_lines rest) (passed + more) n → StopsBody (script_lines text) passed n
 body_stops text rest None passed more n opens is stops = record {
   before = stops.before;
   line = stops.line;
@@ -160,7 +160,7 @@ body_stops text rest (Some b) passed more n opens is stops = record {
 }
 
 -- and behind that of the limits: it is the script's first bad line
-limits_stop : (text rest : List ℕ) (given : Option Bounds) (passed n : ℕ) → Takes SpellsLimits text given rest → Counts given passed → StopsBody (script_lines rest) passed n → IsFirstBadLine (script_lines text) n
+limits_stop : (text rest : List ℕ) (given : Option Bounds) (passed n : ℕ) → Takes SpellsLimits text given rest → IsLineCount given passed → StopsBody (script_lines rest) passed n → IsFirstBadLine (script_lines text) n
 limits_stop text rest None passed n opens is stops = record {
   before = stops.before;
   line = stops.line;
@@ -201,11 +201,11 @@ limits_stop text rest (Some l) passed n opens is stops = record {
     no_script m b s (inl h) = no_body opens.0.0 stops.before stops.line stops.no_step b s h.1
     no_script m b s (inr h) = stops.bad b s (subst (λ v. SpellBody v b s) (sym (ap (drop 1) h.2)) h.4)
 
-pub script_stops : (text body rest : List ℕ) (limits : Option Bounds) (bits : Option ℕ) (passed more n : ℕ) → Takes SpellsLimits text limits body → Takes SpellsBuckets body bits rest → Counts limits passed → Counts bits more
+pub script_stops : (text body rest : List ℕ) (limits : Option Bounds) (bits : Option ℕ) (passed more n : ℕ) → Takes SpellsLimits text limits body → Takes SpellsBuckets body bits rest → IsLineCount limits passed → IsLineCount bits more
     → StopsAfter (script_lines rest) (passed + more) n → IsFirstBadLine (script_lines text) n
 script_stops text body rest limits bits passed more n opens follows is too stops = limits_stop text body limits passed n opens is (body_stops body rest bits passed more n follows too stops)
 
-pub line_counted : {X : Type 0} (given : Option X) (some : Bool) (passed : ℕ) → some ≡ is_some given → passed ≡ bool_byte some → Counts given passed
+pub line_counted : {X : Type 0} (given : Option X) (some : Bool) (passed : ℕ) → some ≡ is_some given → passed ≡ bool_byte some → IsLineCount given passed
 line_counted None some passed is counted = counted ∙ ap bool_byte is
 line_counted (Some x) some passed is counted = counted ∙ ap bool_byte is
 

@@ -5,7 +5,7 @@ use Rattle.std.specs.Option.{option_map}
 use Rattle.std.proofs.lemmas.Bool.{eqb-true}
 use Rattle.string_cache_core.specs.Layout.{ticket_unit}
 use Rattle.string_cache_core.specs.Word.{IsTicketWord}
-use Rattle.atomic_steps.specs.World.{Entry, World}
+use Rattle.atomic_steps.specs.World.{WorldEntry, World}
 use Rattle.atomic_steps.specs.Steps.{entry_at}
 use Rattle.replay_script.specs.Replay.{held_line, held_lines_from, serial_in}
 
@@ -27,14 +27,14 @@ line_at e None = []
 line_at e (Some count) = held_line e count
 
 -- the lines from a place on are that place's and those behind it
-pub held_next : (e k : ℕ) (entries : List Entry) → held_lines_from e (drop k entries) ≡ line_at e (option_map (λ entry. entry.count) (slice_get entries k)) ++ held_lines_from (e + 1) (drop (suc k) entries)
+pub held_next : (e k : ℕ) (entries : List WorldEntry) → held_lines_from e (drop k entries) ≡ line_at e (option_map (λ entry. entry.count) (slice_get entries k)) ++ held_lines_from (e + 1) (drop (suc k) entries)
 held_next e zero [] = refl
 held_next e zero (x ∷ entries) = refl
 held_next e (suc k) [] = refl
 held_next e (suc k) (x ∷ entries) = held_next e k entries
 
 -- behind the last there is none
-pub held_none : (e k : ℕ) (entries : List Entry) → length entries ≤ k → held_lines_from e (drop k entries) ≡ []
+pub held_none : (e k : ℕ) (entries : List WorldEntry) → length entries ≤ k → held_lines_from e (drop k entries) ≡ []
 held_none e zero [] h = refl
 held_none e zero (x ∷ entries) h = absurd (omega (arith, h))
 held_none e (suc k) [] h = refl

@@ -6,7 +6,7 @@ use Rattle.atomic_steps.specs.declared.steps.StepReply.{StepReply}
 use Rattle.atomic_steps.specs.declared.steps.StepReply.TheVariants as reply
 use Rattle.string_cache_core.specs.Layout.{ticket_unit}
 use Rattle.string_cache_core.specs.Tables.{Tables}
-use Rattle.atomic_steps.specs.World.{Entry, World}
+use Rattle.atomic_steps.specs.World.{WorldEntry, World}
 use Rattle.atomic_steps.specs.Steps.{opening}
 use Rattle.atomic_steps.specs.Runs.{Script}
 use Rattle.atomic_steps.specs.Theorem.{HasRun}
@@ -38,7 +38,7 @@ abbrev pub held_line : ℕ → ℕ → List ℕ
 held_line e count = if nat_lt 0 count then codes "held e" ++ (decimal e ++ (codes " " ++ (decimal count ++ codes "\n"))) else []
 
 -- the lines of the entries, of which the first is entry e
-abbrev pub held_lines_from : ℕ → List Entry → List ℕ
+abbrev pub held_lines_from : ℕ → List WorldEntry → List ℕ
 held_lines_from e [] = []
 held_lines_from e (entry ∷ entries) = held_line e entry.count ++ held_lines_from (e + 1) entries
 

@@ -1,9 +1,9 @@
 //! One line of a script, and the step, the limits or the number of buckets that it spells.
 
-ghost use Rattle.std.specs.Prelude.{◌≡◌, ◌≢◌, ℕ, ◌^◌, ◌<◌, ◌≤◌, ◌++◌, List, length, codes, decimal, string_bytes, MatchOption, IfOk};
+ghost use Rattle.std.specs.Prelude.{◌≡◌, ◌≢◌, ℕ, ◌^◌, ◌<◌, ◌≤◌, ◌++◌, List, length, codes, decimal, MatchOption, IfOk};
 ghost use Rattle.string_cache_core.specs.Bounds.{Bounds};
 ghost use Rattle.atomic_steps.specs.declared.steps.Step.{Step};
-ghost use Rattle.replay_script.specs.Script.{HasWords, step_words, HasLine, IsEntryNumber, Spells, SpellsBuckets, SpellsLimits};
+ghost use Rattle.replay_script.specs.Script.{HasWords, step_words, IsEntryNumber, Spells, SpellsBuckets, SpellsLimits};
 
 use atomic_steps::steps::Step;
 use std::alloc::{AllocError, Global};

@@ -1,6 +1,6 @@
 //! The lines that a script's run prints: one for each reply, and one for each entry that is held at its end.
 
-ghost use Rattle.std.specs.Prelude.{◌≡◌, ◌++◌, ◌<◌, ◌≤◌, ◌^◌, length, string_bytes, OnOk};
+ghost use Rattle.std.specs.Prelude.{◌≡◌, ◌++◌, ◌<◌, ◌≤◌, length, string_bytes, OnOk};
 ghost use Rattle.std.specs.List.{flat_map};
 ghost use Rattle.replay_script.specs.Replay.{serial_in, reply_line, held_line, held_lines_from};
 

@@ -81,6 +81,7 @@ pub fn replay_text(alloc: Global, text: &str) -> Result<String, ScriptFault>
 }
 
 /// Does nothing. Its contract is that a script has one output.
+#[doc(hidden)]
 pub fn one_output()
     ensures { (bytes one other : List ℕ) → IsReplay empty_tables bytes one → IsReplay empty_tables bytes other
         → one ≡ other }
