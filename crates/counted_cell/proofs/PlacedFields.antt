@@ -1,4 +1,4 @@
--- The data field of a `Placed`. Assumes `Logic`.
+-- The data field of a `PlacedValue`. Assumes `Logic`.
 use Rattle.std.proofs.Common.{◌≡◌, List, [], ◌∷◌, ◌++◌, refl, ap, ◌∙◌}
 use seplogic.Ra.Ura.{Ura}
 use mir.Val.{Val, vstruct, vcons, vnil, of_list}
@@ -10,7 +10,7 @@ use denote.RawPtr.{Ptr, ptr_val}
 use denote.Shadow.{makes_shadow}
 use denote.Struct.Struct.{Struct}
 use denote.Struct.Owning.{shape}
-use Rattle.counted_cell.specs.contracts.placed.Placed as part
+use Rattle.counted_cell.specs.contracts.placed.PlacedValue as part
 
 abbrev pub word : Ptr → Val
 word p = vstruct (vcons (ptr_val p) vnil)

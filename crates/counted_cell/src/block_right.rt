@@ -6,7 +6,7 @@ ghost use Rattle.counted_cell.specs.BlockRight.{block_right_owns};
 
 use crate::cell_ref::CellRef;
 use crate::header::Header;
-use crate::placed::Placed;
+use crate::placed::PlacedValue;
 use std::marker::{Model, PhantomData};
 
 /// The right to have the block of a cell back, which lies at `ptr`, once nobody reads it any more. It takes no space. Its drop
@@ -25,12 +25,12 @@ impl<T> Model for BlockRight<T> {
 
 /// Makes a cell of a block whose count is 1: the right to have the block back, the owner's reference, and the first share's. From
 /// here on there are at most `limit` shares.
-pub fn begin<T>(whole: Placed<Header<T>>) -> (BlockRight<T>, CellRef<T>, CellRef<T>)
+pub fn begin<T>(whole: PlacedValue<Header<T>>) -> (BlockRight<T>, CellRef<T>, CellRef<T>)
     ghost limit: { ℕ }
     requires { (whole.value.count ≡ 1) × (1 ≤ limit) }
     ensures { (result.0.name.limit ≡ limit) × (result.0.ptr ≡ whole.ptr) × (result.1.ptr ≡ whole.ptr) × (result.0.value ≡ whole.value.value) × (result.1.value ≡ whole.value.value) × (result.2.value ≡ whole.value.value) × (result.1.name ≡ result.0.name) × (result.2.name ≡ result.0.name) × (result.1.right ≡ owner_right) × (result.2.right ≡ share_right) }
 {
-    let Placed { ptr } = whole;
+    let PlacedValue { ptr } = whole;
     (
         BlockRight { mark: PhantomData },
         CellRef { ptr },
@@ -39,13 +39,13 @@ pub fn begin<T>(whole: Placed<Header<T>>) -> (BlockRight<T>, CellRef<T>, CellRef
 }
 
 /// The block, at the owner's end, which has the cell to itself.
-pub fn reclaim<T>(block: BlockRight<T>, sole: CellRef<T>) -> Placed<Header<T>>
+pub fn reclaim<T>(block: BlockRight<T>, sole: CellRef<T>) -> PlacedValue<Header<T>>
     requires { (sole.right ≡ sole_right) × (sole.name ≡ block.name) × (sole.ptr ≡ block.ptr) }
     ensures { (result.ptr ≡ block.ptr) × (result.value.value ≡ block.value) }
 {
     let BlockRight { mark: _ } = block;
     let CellRef { ptr } = sole;
-    Placed {
+    PlacedValue {
         ptr: ptr as *mut Header<T>,
     }
 }

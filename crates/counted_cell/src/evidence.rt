@@ -1,6 +1,6 @@
 //! What was read off a cell's count, as values that only a step on the count makes.
 use crate::cell_ref::{Reading, exclude};
-use crate::share::Share;
+use crate::share::CellShare;
 use std::marker::Model;
 
 /// Shows that the count of a cell was read as 0: no share of the cell is left, and none will ever be.
@@ -25,7 +25,7 @@ impl NoShares {
     ghost use Rattle.std.specs.Prelude.{◌≡◌};
 
     /// A law: it is never together with a share of the same cell.
-    pub fn excludes(self, share: &Share)
+    pub fn excludes(self, share: &CellShare)
         requires { share.now.name ≡ self }
         ensures { ⊥ }
     {

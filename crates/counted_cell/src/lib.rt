@@ -30,5 +30,5 @@ pub use ending::Ending;
 pub use evidence::{AtLimit, NoShares, SharesLeft};
 pub use label::Label;
 pub use owner::Owner;
-pub use reply::Reply;
-pub use share::{Given, Share};
+pub use reply::ShareReply;
+pub use share::{CellShare, Given};

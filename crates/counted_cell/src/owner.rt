@@ -12,8 +12,8 @@ use crate::header::Header;
 use crate::label::Label;
 use crate::note::Note;
 use crate::placed::{fill, take};
-use crate::reply::Reply;
-use crate::share::Share;
+use crate::reply::ShareReply;
+use crate::share::CellShare;
 use crate::text::Text;
 use std::alloc::{AllocError, Allocator};
 use std::marker::Model;
@@ -76,7 +76,7 @@ impl<A: Allocator> Owner<A> {
         label: Label,
         note: u64,
         text: &str,
-    ) -> Result<(Owner<A>, Share), AllocError>
+    ) -> Result<(Owner<A>, CellShare), AllocError>
         requires { (1 ≤ label.limit) × (label.limit < 2 ^ 63) }
         ensures owner { IfOk result (λ made. (made.0.label ≡ label) × (made.0.note ≡ note) × (made.0.text ≡ text.now)) }
         ensures limit { IfOk result (λ made. made.0.name.limit ≡ label.limit) }
@@ -97,7 +97,7 @@ impl<A: Allocator> Owner<A> {
             free,
             alloc,
         };
-        Ok((owner, Share::of_ref(share)))
+        Ok((owner, CellShare::of_ref(share)))
     }
 
     /// The numbers of the cell.
@@ -116,10 +116,10 @@ impl<A: Allocator> Owner<A> {
 
     /// One share more of the cell.
     #[inline]
-    pub fn add<R: Wait>(&self, rt: &R) -> Reply
+    pub fn add<R: Wait>(&self, rt: &R) -> ShareReply
         ensures { IsReply self.now result }
     {
-        Reply::one_more(rt, &self.cell)
+        ShareReply::one_more(rt, &self.cell)
     }
 
     /// Where the count reads 0: that no share is left. Where it reads 1 or more: that one was.

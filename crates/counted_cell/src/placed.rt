@@ -7,12 +7,12 @@ use std::marker::Model;
 
 /// The owner of the value at the pointer. Its drop forgets the value.
 #[derive(Drop)]
-pub struct Placed<B> {
+pub struct PlacedValue<B> {
     pub(crate) ptr: *mut B,
     pub ghost value: { B },
 }
 
-impl<B> Model for Placed<B> {
+impl<B> Model for PlacedValue<B> {
     ghost also_owns = { λ l. placed_owns B.row l.ptr l.value };
 }
 
@@ -27,19 +27,19 @@ impl<B> Model for Room<B> {
 }
 
 /// Moves the value into the room.
-pub(crate) fn fill<B>(room: Room<B>, value: B) -> Placed<B>
+pub(crate) fn fill<B>(room: Room<B>, value: B) -> PlacedValue<B>
     ensures { (result.ptr ≡ room.ptr) × (result.value ≡ value) }
 {
     let Room { ptr } = room;
     unsafe { ptr.write(value) };
-    Placed { ptr }
+    PlacedValue { ptr }
 }
 
 /// Moves the value out of its place, which is room then.
-pub(crate) fn take<B>(placed: Placed<B>) -> (Room<B>, B)
+pub(crate) fn take<B>(placed: PlacedValue<B>) -> (Room<B>, B)
     ensures { (result.0.ptr ≡ placed.ptr) × (result.1 ≡ placed.value) }
 {
-    let Placed { ptr } = placed;
+    let PlacedValue { ptr } = placed;
     let value = unsafe { ptr.read() };
     (Room { ptr }, value)
 }

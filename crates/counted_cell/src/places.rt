@@ -1,5 +1,5 @@
 //! A row of places behind a pointer, each empty or holding a value.
-ghost use Rattle.std.specs.Prelude.{◌≡◌, ℕ, ◌<◌, List, Option, Some, None, map, length, take, drop, get_or, slice_set, ⊤};
+ghost use Rattle.std.specs.Prelude.{◌≡◌, ◌<◌, List, Option, Some, None, map, length, take, drop, get_or, slice_set, ⊤};
 ghost use denote.RawPtr.{Ptr};
 ghost use Rattle.counted_cell.specs.Places.{IsRun, places_own, places_lent};
 

@@ -1,30 +1,30 @@
 //! What an addition of a share answers.
-ghost use Rattle.std.specs.Prelude.{◌≡◌, ◌<◌, ◌^◌, ◌⊎◌};
+ghost use Rattle.std.specs.Prelude.{◌≡◌, ◌<◌, ◌^◌};
 ghost use Rattle.counted_cell.specs.Counting.{CanRead};
 ghost use Rattle.counted_cell.specs.Cell.{cell_of};
 
 use crate::cell_ref::CellRef;
 use crate::content::Content;
 use crate::evidence::{AtLimit, NoShares};
-use crate::share::Share;
+use crate::share::CellShare;
 use std::sync::Wait;
 
 /// What an addition answers. It has no drop, since it may hold a share.
-pub enum Reply {
+pub enum ShareReply {
     /// The count is one more, for this share.
-    Added(Share),
+    Added(CellShare),
     /// The count was read as 0, so there are no shares any more. Nothing has changed.
     Dying(NoShares),
     /// The count was read as the limit. Nothing has changed.
     Full(AtLimit),
 }
 
-impl Reply {
+impl ShareReply {
     ghost use Rattle.counted_cell.specs.Reply.{IsReply};
 
     /// One share more of the cell. Where another step came between, it tries again from the count that it found.
     #[inline]
-    pub(crate) fn one_more<R: Wait>(rt: &R, cell: &CellRef<Content>) -> Reply
+    pub(crate) fn one_more<R: Wait>(rt: &R, cell: &CellRef<Content>) -> ShareReply
         requires reads { CanRead cell.now.right }
         requires limit { (cell.now.value.label.limit ≡ cell.now.name.limit) × (cell.now.name.limit < 2 ^ 63) }
         ensures { IsReply (cell_of cell.now) result }
@@ -33,14 +33,14 @@ impl Reply {
         let (mut seen, mut reading) = cell.load();
         for _ in rt.forever() {
             if seen == 0 {
-                return Reply::Dying(NoShares { reading });
+                return ShareReply::Dying(NoShares { reading });
             }
             if seen >= limit {
-                return Reply::Full(AtLimit { reading });
+                return ShareReply::Full(AtLimit { reading });
             }
             let (found, next, more) = cell.increment(seen);
             if found == seen {
-                return Reply::Added(Share::of_ref(more));
+                return ShareReply::Added(CellShare::of_ref(more));
             }
             more.done();
             seen = found;

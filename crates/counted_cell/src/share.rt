@@ -5,18 +5,18 @@ use crate::cell_ref::{CellRef, Reading};
 use crate::content::Content;
 use crate::evidence::{AtLimit, NoShares};
 use crate::label::Label;
-use crate::reply::Reply;
+use crate::reply::ShareReply;
 use std::marker::Model;
 use std::sync::Wait;
 
 /// One of the shares that the count counts. It has no drop, so that it can be neither dropped nor forgotten by itself: `give`
 /// alone spends it. A struct of a caller's that holds one, with a drop of its own, can be forgotten, and the share with it: then the
 /// count never comes to 0 and the cell's block is never freed, which is a leak and no more. In a clause it is its cell.
-pub struct Share {
+pub struct CellShare {
     cell: CellRef<Content>,
 }
 
-impl Model for Share {
+impl Model for CellShare {
     ghost use Rattle.std.specs.Prelude.{◌≡◌, ◌^◌, ◌<◌};
     ghost use Rattle.counted_cell.specs.Cell.{Cell, cell_of};
     ghost use Rattle.counted_cell.specs.Counting.{share_right};
@@ -28,16 +28,16 @@ impl Model for Share {
     ghost invariant = { λ s. (s.cell.right ≡ share_right) × (s.cell.value.label.limit ≡ s.cell.name.limit) × (s.cell.name.limit < 2 ^ 63) };
 }
 
-impl Share {
+impl CellShare {
     ghost use Rattle.counted_cell.specs.Counting.{share_right};
     ghost use Rattle.counted_cell.specs.Cell.{cell_of};
 
     /// The share whose right it is.
-    pub(crate) fn of_ref(cell: CellRef<Content>) -> Share
+    pub(crate) fn of_ref(cell: CellRef<Content>) -> CellShare
         requires { (cell.right ≡ share_right) × (cell.value.label.limit ≡ cell.name.limit) × (cell.name.limit < 2 ^ 63) }
         ensures { result ≡ cell_of cell }
     {
-        Share { cell }
+        CellShare { cell }
     }
 
     /// The right of the share.
@@ -63,14 +63,14 @@ impl Share {
 
     /// One share more of the same cell. Where the cell has as many as it may have, nothing has changed.
     #[inline]
-    pub fn add<R: Wait>(&self, rt: &R) -> Result<Share, AtLimit>
+    pub fn add<R: Wait>(&self, rt: &R) -> Result<CellShare, AtLimit>
         ensures added { IfOk result (λ share. share ≡ self.now) }
         ensures full { IfErr result (λ full. full ≡ self.now.name) }
     {
-        match Reply::one_more(rt, &self.cell) {
-            Reply::Added(share) => Ok(share),
-            Reply::Full(full) => Err(full),
-            Reply::Dying(none) => {
+        match ShareReply::one_more(rt, &self.cell) {
+            ShareReply::Added(share) => Ok(share),
+            ShareReply::Full(full) => Err(full),
+            ShareReply::Dying(none) => {
                 none.excludes(self);
                 unreachable!()
             }

@@ -2,7 +2,7 @@
 //! is 0, that a block is really freed, and what threads do to one count.
 ghost use Rattle.std.specs.Prelude.{◌≤◌, ◌<◌, ◌^◌};
 
-use crate::{AtLimit, Ending, Label, Owner, Reply, Share};
+use crate::{AtLimit, CellShare, Ending, Label, Owner, ShareReply};
 use linked_list_allocator::LocalHeap;
 use std::alloc::{AllocError, Allocator, Global};
 use std::process::Abort;
@@ -10,17 +10,17 @@ use std::sync::Wait;
 use std::thread;
 
 /// A share that is given back at its drop.
-struct Held {
-    share: Share,
+struct ShareGuard {
+    share: CellShare,
 }
 
-impl Drop for Held {
+impl Drop for ShareGuard {
     fn drop(self) {
         let _ = self.gives_last();
     }
 }
 
-impl Held {
+impl ShareGuard {
     /// Gives the share back. Whether it was the last.
     fn gives_last(self) -> bool {
         let Self { share } = self;
@@ -31,29 +31,29 @@ impl Held {
 /// A reply whose share is given back at its drop.
 #[derive(Drop)]
 enum Answer {
-    Added(Held),
+    Added(ShareGuard),
     Dying,
     Full,
 }
 
-fn reply_answer(reply: Reply) -> Answer {
+fn reply_answer(reply: ShareReply) -> Answer {
     match reply {
-        Reply::Added(share) => Answer::Added(Held { share }),
-        Reply::Dying(_) => Answer::Dying,
-        Reply::Full(_) => Answer::Full,
+        ShareReply::Added(share) => Answer::Added(ShareGuard { share }),
+        ShareReply::Dying(_) => Answer::Dying,
+        ShareReply::Full(_) => Answer::Full,
     }
 }
 
-fn share_answer(reply: Result<Share, AtLimit>) -> Answer {
+fn share_answer(reply: Result<CellShare, AtLimit>) -> Answer {
     match reply {
-        Ok(share) => Answer::Added(Held { share }),
+        Ok(share) => Answer::Added(ShareGuard { share }),
         Err(_) => Answer::Full,
     }
 }
 
 impl Answer {
     /// The share that was added.
-    fn share(self, rt: &impl Abort) -> Held {
+    fn share(self, rt: &impl Abort) -> ShareGuard {
         match self {
             Answer::Added(share) => share,
             Answer::Dying | Answer::Full => panic!(rt; "nothing was added"),
@@ -62,7 +62,11 @@ impl Answer {
 }
 
 /// A cell, whose first share is given back at its drop.
-fn make<A: Allocator>(alloc: A, limit: u64, text: &str) -> Result<(Owner<A>, Held), AllocError>
+fn make<A: Allocator>(
+    alloc: A,
+    limit: u64,
+    text: &str,
+) -> Result<(Owner<A>, ShareGuard), AllocError>
     requires { (1 ≤ limit) × (limit < 2 ^ 63) }
 {
     let label = Label {
@@ -71,7 +75,7 @@ fn make<A: Allocator>(alloc: A, limit: u64, text: &str) -> Result<(Owner<A>, Hel
         limit,
     };
     let (owner, share) = Owner::new(alloc, label, 9, text)?;
-    Ok((owner, Held { share }))
+    Ok((owner, ShareGuard { share }))
 }
 
 /// Whether the end freed the cell.
@@ -123,7 +127,7 @@ fn replies(rt: HostRuntime) {
 }
 
 /// Adds a share and gives it back, again and again. How many were refused.
-fn clone_and_give<R: Wait>(rt: &R, share: &Share) -> u64 {
+fn clone_and_give<R: Wait>(rt: &R, share: &CellShare) -> u64 {
     let mut refused = 0u64;
     for _ in 0..30_000 {
         if let Answer::Full = share_answer(share.add(rt)) {

@@ -1,9 +1,10 @@
 //! A share with its set: what a dynamic atom holds.
 
-ghost use Rattle.std.specs.Prelude.{◌≡◌, ◌↔◌, IfErr, IfOk, IsTrue};
+ghost use Rattle.std.specs.Prelude.{◌≡◌, IfErr, IfOk};
 
 use super::set::Set;
 use super::share::Share;
+use counted_cell::CellShare;
 use std::marker::Model;
 use std::sync::Wait;
 use string_cache_core::Fault;
@@ -14,7 +15,7 @@ use string_cache_core::static_sets::StaticAtomSet;
 /// Its drop subtracts one and never waits. Where it was the entry's last share, the bucket's lock is tried once; if it was
 /// free, dying entries are taken out of the bucket, and otherwise the next pass over the bucket does that.
 pub struct Held<'s, Static: StaticAtomSet> {
-    share: counted_cell::Share,
+    share: CellShare,
     set: &'s Set<Static>,
 }
 

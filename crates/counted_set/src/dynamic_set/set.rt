@@ -9,7 +9,7 @@ ghost use Rattle.counted_set.specs.Chain.{IsRight};
 use super::bucket::Bucket;
 use super::counts::OwnCounts;
 use super::held::Held;
-use counted_cell::Share;
+use counted_cell::CellShare;
 use std::alloc::Global;
 use std::marker::Model;
 use std::sync::{Mutex, Wait};
@@ -133,7 +133,7 @@ impl<Static: StaticAtomSet> Set<Static> {
 
     /// Gives a share back. Where it was its entry's last, tries the lock of the entry's bucket, once, and prunes the bucket.
     #[inline]
-    pub(super) fn give_back(&self, share: Share) {
+    pub(super) fn give_back(&self, share: CellShare) {
         let hash = share.label().hash;
         if share.give().last().is_some() {
             self.try_prune(hash);

@@ -6,7 +6,7 @@ ghost use Rattle.counted_set.specs.Counted.{IfAdded};
 ghost use Rattle.counted_set.specs.Share.{IsTold};
 
 use super::counts::CountReply;
-use counted_cell::{Label, Owner, Reply};
+use counted_cell::{CellShare, Label, Owner, ShareReply};
 use std::alloc::{AllocError, Global};
 use std::marker::Model;
 use std::sync::Wait;
@@ -93,19 +93,19 @@ impl Entry {
 }
 
 // What the entry's cell answered.
-fn told(reply: Reply) -> CountReply<Share>
+fn told(reply: ShareReply) -> CountReply<Share>
     ensures { IsTold reply result }
 {
     match reply {
-        Reply::Added(share) => CountReply::Added(Share { share }),
-        Reply::Dying(_) => CountReply::Dying,
-        Reply::Full(_) => CountReply::Full,
+        ShareReply::Added(share) => CountReply::Added(Share { share }),
+        ShareReply::Dying(_) => CountReply::Dying,
+        ShareReply::Full(_) => CountReply::Full,
     }
 }
 
 /// One share of an entry. Its drop takes it off the entry's count, and tries no lock.
 pub struct Share {
-    share: counted_cell::Share,
+    share: CellShare,
 }
 
 impl Model for Share {
@@ -141,7 +141,7 @@ impl Share {
     }
 
     /// The share of the entry's cell, which has no drop: it is given back.
-    pub(super) fn into_counted(self) -> counted_cell::Share
+    pub(super) fn into_counted(self) -> CellShare
         ensures { linked_of result ≡ self }
     {
         let Self { share } = self;

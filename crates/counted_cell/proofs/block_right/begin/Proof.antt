@@ -3,7 +3,7 @@ use Rattle.counted_cell.proofs.Names.{◌≤◌, ◌≡◌, ℕ, ◌+◌, List, 
 use contract.BorrowLft.{◌⊑◌}
 use denote.RawPtr.{lies_at}
 use Rattle.counted_cell.specs.contracts.header.Header as block
-use Rattle.counted_cell.specs.contracts.placed.Placed as placed
+use Rattle.counted_cell.specs.contracts.placed.PlacedValue as placed
 use Rattle.counted_cell.specs.contracts.cell_ref.CellRef as cell_ref
 use Rattle.counted_cell.specs.contracts.block_right.BlockRight as block_right
 use Rattle.counted_cell.proofs.CellRefFields as ref_fields

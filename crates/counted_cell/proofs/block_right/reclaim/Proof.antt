@@ -1,7 +1,7 @@
 -- `reclaim` takes the value back, and puts the block together.
 use Rattle.counted_cell.proofs.Names.{◌≡◌, ℕ, ◌+◌, [], ◌∷◌, sym, refl, ap, ◌∙◌, subst, proved, leaves, a_type, Val, inst_fn, SProp, emp, apply∗, sep, fact, fact_i, Fml, ftrue, fsep, flft, sem, ‵, raw, ◌⊛◌, given, later, ◌$◌, ◌∵◌, !, qed, by, move, keep, drop, split, join, fsplit, fsplit3, fjoin, fpack, learn, use0, use1, use2, await, rewrite, stop, fld, of_opd, no_more, and_then, returns, enter, alloc_all, pass_all, free_all, look_at, get, get_in, sets, is, agg, sub, whole, tables, no, RattleType, plain, Ptr, InBlock, block_ptr, ptr_val, block_of, count_of, at_block, nothing, heard, param, layouts, param_laws, full_share, Stays, stay_dropped, walk_of, Goes-dropped}
 use Rattle.counted_cell.specs.contracts.header.Header as block
-use Rattle.counted_cell.specs.contracts.placed.Placed as placed
+use Rattle.counted_cell.specs.contracts.placed.PlacedValue as placed
 use Rattle.counted_cell.specs.contracts.cell_ref.CellRef as cell_ref
 use Rattle.counted_cell.specs.contracts.block_right.BlockRight as block_right
 use Rattle.counted_cell.proofs.CellRefFields as ref_fields

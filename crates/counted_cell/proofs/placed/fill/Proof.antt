@@ -29,7 +29,7 @@ use Rattle.std_alloc.proofs.RawLayout.{as_written}
 use Rattle.counted_cell.specs.Block.{room_owns}
 use Rattle.counted_cell.proofs.PlacesSteps.{word_had, word_made, value_in, tells}
 use Rattle.counted_cell.specs.contracts.placed.Room as room
-use Rattle.counted_cell.specs.contracts.placed.Placed as placed
+use Rattle.counted_cell.specs.contracts.placed.PlacedValue as placed
 use Rattle.counted_cell.specs.contracts.placed.fill.{ended, clauses}
 use Rattle.counted_cell.specs.contracts.placed.fill.Key.{name as #self}
 use Rattle.counted_cell.proofs.placed.fill.Statement.{statement}

@@ -29,7 +29,7 @@ use Rattle.std_alloc.proofs.RawLayout.{as_raw}
 use Rattle.std_alloc.proofs.Pairs.{pair_of, pair_val, pair_Typed}
 use Rattle.counted_cell.proofs.PlacesSteps.{word_had, word_made, value_out}
 use Rattle.counted_cell.specs.contracts.placed.Room as room
-use Rattle.counted_cell.specs.contracts.placed.Placed as placed
+use Rattle.counted_cell.specs.contracts.placed.PlacedValue as placed
 use Rattle.counted_cell.specs.contracts.placed.take.{ended, clauses}
 use Rattle.counted_cell.specs.contracts.placed.take.Key.{name as #self}
 use Rattle.counted_cell.proofs.placed.take.Statement.{statement}

@@ -1,5 +1,5 @@
 use Rattle.std.proofs.Common.{◌≡◌}
-use Rattle.counted_cell.proofs.reply.Reply.one_more.Given as goal
+use Rattle.counted_cell.proofs.reply.ShareReply.one_more.Given as goal
 
 abbrev pub invariant-loop : goal.invariant-loop
 invariant-loop g l =
