@@ -1,4 +1,6 @@
 //! The set of dynamic texts, shared by threads: buckets of counted entries, each bucket behind a lock of its own.
+//!
+//! What is hidden here is public for proofs and tests alone: no user needs it.
 
 mod bucket;
 mod counts;
@@ -7,10 +9,11 @@ mod held;
 mod set;
 mod share;
 
+#[doc(hidden)]
 pub use bucket::Bucket;
 #[doc(hidden)]
-pub use counts::OwnCounts;
-pub use counts::{CountReply, Counts, Pass};
+pub use counts::{CountReply, Counts, OwnCounts, Pass};
 pub use held::Held;
 pub use set::Set;
+#[doc(hidden)]
 pub use share::{Entry, Share};

@@ -4,7 +4,7 @@ ghost use Rattle.std.specs.Prelude.{◌≡◌, ◌<◌, [], length, IfOk, IfErr,
 ghost use Rattle.std.specs.List.{AllByRecursion};
 ghost use Rattle.string_cache_core.specs.Tables.{entry_hash};
 ghost use Rattle.string_cache_core.specs.Faults.{IsInternFault};
-ghost use Rattle.counted_set.specs.Chain.{IsRight, IsRightOf};
+ghost use Rattle.counted_set.specs.Chain.{IsRightOf};
 ghost use Rattle.counted_set.specs.Counted.{GivesShares, IsPass};
 ghost use Rattle.counted_set.specs.Link.{IsLink, IsIntern};
 ghost use Rattle.counted_set.specs.PassLeft.{IsPassLeft};
