@@ -5,17 +5,17 @@ use Rattle.string_cache_core.specs.declared.static_sets.TextForm.TheVariants as 
 use Rattle.string_cache_core.specs.Word.{inline_word, static_word, IsInlineText}
 use Rattle.string_cache.specs.AtomValue.{AtomValue}
 use Rattle.counted_set.specs.Chain.{IsRight}
-use Rattle.string_cache.specs.declared.atom.Form.{Form}
-use Rattle.string_cache.specs.declared.atom.Form.TheVariants.{Inline, Static, Dynamic}
+use Rattle.string_cache.specs.declared.atom.Repr.{Repr}
+use Rattle.string_cache.specs.declared.atom.Repr.TheVariants.{Inline, Static, Dynamic}
 
 -- the text, the word, and the bits of the bucket of a dynamic one
-abbrev pub value_of_form : {X : Type 0} → Tables → Form X → AtomValue
+abbrev pub value_of_form : {X : Type 0} → Tables → Repr X → AtomValue
 value_of_form t (Inline text) = record { text = text; word = inline_word text; bits = None }
 value_of_form t (Static index) = record { text = text_at t index; word = static_word index; bits = None }
 value_of_form t (Dynamic half held) = record { text = held.text; word = held.ticket; bits = Some held.bits }
 
 -- the text is one of this form
-abbrev pub IsOwnForm : {X : Type 0} → Tables → Form X → Type 0
+abbrev pub IsOwnForm : {X : Type 0} → Tables → Repr X → Type 0
 IsOwnForm t (Inline text) = IsInlineText text
 IsOwnForm t (Static index) = IsStaticIndex t index × (index < length t.atoms)
 IsOwnForm t (Dynamic half held) = (form_of_text t held.text ≡ form.Dynamic held.hash) × IsRight t held × (half ≡ held.hash % 2 ^ 32)

@@ -29,7 +29,7 @@ use string_cache_core::word::{InlineText, static_word, unpack_inline};
 
 /// How an atom holds its text.
 #[derive(Drop)]
-enum Form<'s, Static: StaticAtomSet> {
+enum Repr<'s, Static: StaticAtomSet> {
     Inline(InlineText),
     /// The text at this index of the static tables.
     Static(u32),
@@ -41,7 +41,7 @@ enum Form<'s, Static: StaticAtomSet> {
 /// gives one share back, and never waits.
 #[derive(Drop)]
 pub struct Atom<'s, Static: StaticAtomSet> {
-    form: Form<'s, Static>,
+    form: Repr<'s, Static>,
 }
 
 /// An atom that is inline or dynamic.
@@ -60,7 +60,7 @@ impl<'s, Static: StaticAtomSet> Model for Atom<'s, Static> {
 }
 
 impl<'s, Static: StaticAtomSet> Atom<'s, Static> {
-    fn of_form(form: Form<'s, Static>) -> Self
+    fn of_form(form: Repr<'s, Static>) -> Self
         requires { IsOwnForm Static.tables form }
         ensures { result ≡ value_of_form Static.tables form.entry }
     {
@@ -78,14 +78,14 @@ impl<'s, Static: StaticAtomSet> Atom<'s, Static> {
         ensures dynamic { OnErr result (IsTrue (is_dynamic Static.tables text.now)) }
     {
         if let Some(text) = InlineText::new(text) {
-            return Ok(Self::of_form(Form::Inline(text)));
+            return Ok(Self::of_form(Repr::Inline(text)));
         }
         match form_of_text::<Static>(text) {
             TextForm::Inline(_) => unreachable!(),
-            TextForm::Static(index) => Ok(Self::of_form(Form::Static(index))),
+            TextForm::Static(index) => Ok(Self::of_form(Repr::Static(index))),
             TextForm::Dynamic(hash) => {
                 let held = set.intern(rt, text, hash)?;
-                Ok(Self::of_form(Form::Dynamic((hash % (1 << 32)) as u32, held)))
+                Ok(Self::of_form(Repr::Dynamic((hash % (1 << 32)) as u32, held)))
             }
         }
     }
@@ -127,9 +127,9 @@ impl<'s, Static: StaticAtomSet> Atom<'s, Static> {
         ensures dynamic { OnErr result (IsTrue (is_dynamic Static.tables self.now.text)) }
     {
         let form = match &self.form {
-            Form::Inline(text) => Form::Inline(*text),
-            Form::Static(index) => Form::Static(*index),
-            Form::Dynamic(half, held) => Form::Dynamic(*half, held.clone_share(rt)?),
+            Repr::Inline(text) => Repr::Inline(*text),
+            Repr::Static(index) => Repr::Static(*index),
+            Repr::Dynamic(half, held) => Repr::Dynamic(*half, held.clone_share(rt)?),
         };
         Ok(Self::of_form(form))
     }
@@ -151,7 +151,7 @@ impl<'s, Static: StaticAtomSet> Atom<'s, Static> {
         ensures listed { IsPerfectTable Static.tables → Contains Static.tables.atoms text.now → 7 < length text.now → IsSome result }
     {
         match form_of_text::<Static>(text) {
-            TextForm::Static(index) => Some(Self::of_form(Form::Static(index))),
+            TextForm::Static(index) => Some(Self::of_form(Repr::Static(index))),
             TextForm::Inline(_) | TextForm::Dynamic(_) => None,
         }
     }
@@ -163,7 +163,7 @@ impl<'s, Static: StaticAtomSet> Atom<'s, Static> {
         ensures atom { IfSome result (λ atom. atom ≡ record { text = text_at Static.tables n; word = static_word n; bits = None }) }
     {
         static_text::<Static>(n)?;
-        Some(Self::of_form(Form::Static(n)))
+        Some(Self::of_form(Repr::Static(n)))
     }
 
     /// The atom of the inline word `n + 16 * len + 1`. `None` where the low byte of `n` isn't zero or that isn't the word of
@@ -177,7 +177,7 @@ impl<'s, Static: StaticAtomSet> Atom<'s, Static> {
             return None;
         }
         let text = unpack_inline(n + 16 * u64::from(len) + 1)?;
-        Some(Self::of_form(Form::Inline(text)))
+        Some(Self::of_form(Repr::Inline(text)))
     }
 
     /// The text.
@@ -185,9 +185,9 @@ impl<'s, Static: StaticAtomSet> Atom<'s, Static> {
         ensures { result.now ≡ self.now.text }
     {
         match &self.form {
-            Form::Inline(text) => text.as_str(),
-            Form::Static(index) => Static::get().atoms[*index as usize],
-            Form::Dynamic(_, held) => held.text(),
+            Repr::Inline(text) => text.as_str(),
+            Repr::Static(index) => Static::get().atoms[*index as usize],
+            Repr::Dynamic(_, held) => held.text(),
         }
     }
 
@@ -205,9 +205,9 @@ impl<'s, Static: StaticAtomSet> Atom<'s, Static> {
         ensures of_text { IsWordOf Static.tables self.now.text self.now.bits result }
     {
         match &self.form {
-            Form::Inline(text) => text.word(),
-            Form::Static(index) => static_word(*index),
-            Form::Dynamic(_, held) => held.ticket(),
+            Repr::Inline(text) => text.word(),
+            Repr::Static(index) => static_word(*index),
+            Repr::Dynamic(_, held) => held.ticket(),
         }
     }
 
@@ -217,9 +217,9 @@ impl<'s, Static: StaticAtomSet> Atom<'s, Static> {
         ensures { result ≡ hash_number Static.tables self.now.text }
     {
         match &self.form {
-            Form::Inline(text) => text.word(),
-            Form::Static(index) => Static::get().hashes[*index as usize],
-            Form::Dynamic(_, held) => held.hash(),
+            Repr::Inline(text) => text.word(),
+            Repr::Static(index) => Static::get().hashes[*index as usize],
+            Repr::Dynamic(_, held) => held.hash(),
         }
     }
 
@@ -227,21 +227,21 @@ impl<'s, Static: StaticAtomSet> Atom<'s, Static> {
     pub fn is_inline(&self) -> bool
         ensures { result ≡ is_inline_form (form_of_text Static.tables self.now.text) }
     {
-        matches!(&self.form, Form::Inline(_))
+        matches!(&self.form, Repr::Inline(_))
     }
 
     /// Whether the text is longer and stands at its place in the static tables.
     pub fn is_static(&self) -> bool
         ensures { result ≡ is_static_form (form_of_text Static.tables self.now.text) }
     {
-        matches!(&self.form, Form::Static(_))
+        matches!(&self.form, Repr::Static(_))
     }
 
     /// Whether the text is an entry of the set.
     pub fn is_dynamic(&self) -> bool
         ensures { result ≡ is_dynamic_form (form_of_text Static.tables self.now.text) }
     {
-        matches!(&self.form, Form::Dynamic(..))
+        matches!(&self.form, Repr::Dynamic(..))
     }
 }
 
@@ -250,7 +250,7 @@ impl<'s, Static: StaticAtomSet> Default for Atom<'s, Static> {
     ghost is_default = { λ atom. atom ≡ record { text = []; word = 1; bits = None } };
 
     fn default() -> Self {
-        Self::of_form(Form::Inline(InlineText::new("").unwrap()))
+        Self::of_form(Repr::Inline(InlineText::new("").unwrap()))
     }
 }
 
@@ -264,9 +264,9 @@ impl<'s, Static: StaticAtomSet> PartialEq for Atom<'s, Static> {
     #[tactic(auto, using(crate::proofs::Forms::words_tell))]
     fn eq(&self, other: &Self) -> bool {
         match (&self.form, &other.form) {
-            (Form::Inline(one), Form::Inline(two)) => one.word() == two.word(),
-            (Form::Static(one), Form::Static(two)) => one == two,
-            (Form::Dynamic(half, one), Form::Dynamic(other_half, two)) => {
+            (Repr::Inline(one), Repr::Inline(two)) => one.word() == two.word(),
+            (Repr::Static(one), Repr::Static(two)) => one == two,
+            (Repr::Dynamic(half, one), Repr::Dynamic(other_half, two)) => {
                 half == other_half && one.text() == two.text()
             }
             _ => false,
