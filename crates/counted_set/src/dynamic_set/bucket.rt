@@ -49,7 +49,6 @@ impl<Static: StaticAtomSet> Bucket<Static> {
     pub fn new(alloc: Global, buckets: Buckets) -> Self
         ensures { result ≡ record { bits = buckets; entries = []; last = 0 } }
     {
-        let _ = buckets.bits(); // whose contract says how many they are at most
         Bucket {
             buckets,
             entries: Entries::new(alloc),
