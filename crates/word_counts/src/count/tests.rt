@@ -26,7 +26,7 @@ fn counts_of_the_example(rt: HostRuntime) {
     assert!(rt; set.linked(&rt) == 0);
 }
 
-/// A text of several sections, so that workers begin at different marks.
+/// A text of several sections, so that workers begin at different ones.
 #[test]
 fn counts_of_a_long_text(rt: HostRuntime) {
     let mut text = String::new(rt.alloc());
