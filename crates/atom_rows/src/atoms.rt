@@ -32,17 +32,20 @@ fn has_inline_word<R: Wait + Abort>(
     atom.is_inline() && has_word(&atom, word) && atom.as_bytes() == text.as_bytes()
 }
 
+/// Texts, and their words.
+const INLINE: [(&str, u64); 6] = [
+    ("", 0x01),
+    ("a", 0x6111),
+    ("foo", 0x6f6f_6631),
+    ("abcdefg", 0x6766_6564_6362_6171),
+    ("\0", 0x11),
+    ("é", 0xa9_c321),
+];
+
 #[test]
 fn inline_atoms(rt: HostRuntime) {
     let set = empty_set(&rt, rt.alloc());
-    for (text, word) in [
-        ("", 0x01),
-        ("a", 0x6111),
-        ("foo", 0x6f6f_6631),
-        ("abcdefg", 0x6766_6564_6362_6171),
-        ("\0", 0x11),
-        ("é", 0xa9_c321),
-    ] {
+    for (text, word) in INLINE {
         assert!(rt; has_inline_word(&rt, &set, text, word), "of {text:?}");
     }
     assert!(rt; !are_equal(&rt, (&set, "\0"), (&set, "")));

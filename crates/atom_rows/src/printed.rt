@@ -76,22 +76,25 @@ fn both_styled<R: Wait>(rt: &R, set: &Set<One>, text: &str) -> Result<(String, S
     ))
 }
 
+/// Texts, and what they are under the options of `styled`.
+const STYLES: [(&str, &str); 5] = [
+    ("foo", "foo|   foo|foo   | foo  |***fo****|f|foo"),
+    ("été", "été|   été|été   | été  |***ét****|é|été"),
+    ("", "|      |      |      |*********||  "),
+    (
+        "sentence",
+        "sentence|sentence|sentence|sentence|***se****|s|sentence",
+    ),
+    (
+        "interned",
+        "interned|interned|interned|interned|***in****|i|interned",
+    ),
+];
+
 #[test]
 fn widths_and_precisions(rt: HostRuntime) {
     let set = empty_set(&rt, rt.alloc());
-    for (text, wanted) in [
-        ("foo", "foo|   foo|foo   | foo  |***fo****|f|foo"),
-        ("été", "été|   été|été   | été  |***ét****|é|été"),
-        ("", "|      |      |      |*********||  "),
-        (
-            "sentence",
-            "sentence|sentence|sentence|sentence|***se****|s|sentence",
-        ),
-        (
-            "interned",
-            "interned|interned|interned|interned|***in****|i|interned",
-        ),
-    ] {
+    for (text, wanted) in STYLES {
         let (of_atom, of_text) = both_styled(&rt, &set, text).expect(&rt, "an answer");
         check_text(&rt, &of_atom, wanted);
         check_text(&rt, &of_text, wanted);
@@ -132,16 +135,19 @@ fn check_json<R: Wait + Abort>(rt: &R, set: &Set<One>, text: &str, json: &str) {
     assert!(rt; are_one(&again, &atom));
 }
 
+/// Texts, and the JSON texts of their atoms.
+const JSON_TEXTS: [(&str, &str); 5] = [
+    ("foo", "\"foo\""),
+    ("", "\"\""),
+    ("a\"b\\", "\"a\\\"b\\\\\""),
+    ("sentence", "\"sentence\""),
+    ("tokenised", "\"tokenised\""),
+];
+
 #[test]
 fn json_texts(rt: HostRuntime) {
     let set = empty_set(&rt, rt.alloc());
-    for (text, json) in [
-        ("foo", "\"foo\""),
-        ("", "\"\""),
-        ("a\"b\\", "\"a\\\"b\\\\\""),
-        ("sentence", "\"sentence\""),
-        ("tokenised", "\"tokenised\""),
-    ] {
+    for (text, json) in JSON_TEXTS {
         check_json(&rt, &set, text, json);
     }
 }
@@ -183,10 +189,13 @@ fn check_refused<R: Wait + Abort>(rt: &R, set: &Set<EmptyStaticAtomSet>, json: &
     assert_eq!(rt; fault.number(), 4);
 }
 
+/// JSON values that are no texts.
+const NO_TEXTS: [&str; 6] = ["null", "true", "7", "[]", "{}", "[\"interned\"]"];
+
 #[test]
 fn json_without_text(rt: HostRuntime) {
     let set = empty_set(&rt, rt.alloc());
-    for json in ["null", "true", "7", "[]", "{}", "[\"interned\"]"] {
+    for json in NO_TEXTS {
         check_refused(&rt, &set, json);
     }
 }

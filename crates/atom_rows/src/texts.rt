@@ -22,16 +22,18 @@ fn hash_of_text<R: Wait + Abort>(rt: &R, set: &Set<One>, text: &str) -> u64 {
     intern(rt, set, text).get_hash()
 }
 
+/// Texts, and the numbers that their atoms hash as. The last is g and f1 of the text, as OpenSSL's SipHash tells them.
+const HASHES: [(&str, u64); 4] = [
+    ("", 1),
+    ("foo", 0x6f6f_6631),
+    ("sentence", 0x1122_3344_5566_7788),
+    ("interned", 0x556a_6dba_06a4_7210),
+];
+
 #[test]
 fn hash_numbers(rt: HostRuntime) {
     let set = empty_set(&rt, rt.alloc());
-    // The last is g and f1 of the text, as OpenSSL's SipHash tells them.
-    for (text, number) in [
-        ("", 1),
-        ("foo", 0x6f6f_6631),
-        ("sentence", 0x1122_3344_5566_7788),
-        ("interned", 0x556a_6dba_06a4_7210),
-    ] {
+    for (text, number) in HASHES {
         assert!(rt; hash_of_text(&rt, &set, text) == number, "of {text:?}");
     }
 }
@@ -52,65 +54,61 @@ fn check_order<R: Wait + Abort>(
     assert!(rt; found == wanted, "of {left:?} and {right:?}");
 }
 
+/// Two texts, and the order of their atoms. By their words "b" would stand before "aa", and "sentence" before "interned".
+const ORDERS: [(&str, &str, Ordering); 6] = [
+    ("é", "z", Ordering::Greater),
+    ("aa", "b", Ordering::Less),
+    ("", "\0", Ordering::Less),
+    ("interned", "sentence", Ordering::Less),
+    ("interned", "inter", Ordering::Greater),
+    ("interned", "interned", Ordering::Equal),
+];
+
 #[test]
 fn orders(rt: HostRuntime) {
     let set = empty_set(&rt, rt.alloc());
-    // By their words "b" would stand before "aa", and "sentence" before "interned".
-    for (left, right, wanted) in [
-        ("é", "z", Ordering::Greater),
-        ("aa", "b", Ordering::Less),
-        ("", "\0", Ordering::Less),
-        ("interned", "sentence", Ordering::Less),
-        ("interned", "inter", Ordering::Greater),
-        ("interned", "interned", Ordering::Equal),
-    ] {
+    for (left, right, wanted) in ORDERS {
         check_order(&rt, &set, (left, right), wanted);
     }
 }
 
-/// Whether atoms of two texts are equal: as they are, and without case.
-fn equalities<R: Wait + Abort>(
+/// Whether atoms of two texts are equal as they are, and without case, where these are true and not elsewhere.
+fn have_equalities<R: Wait + Abort>(
     rt: &R,
     set: &Set<EmptyStaticAtomSet>,
     left: &str,
     right: &str,
-) -> (bool, bool) {
+    (equal, without_case): (bool, bool),
+) -> bool {
     let (left, right) = (intern(rt, set, left), intern(rt, set, right));
-    (left == right, left.eq_ignore_ascii_case(&right))
+    (left == right) == equal && left.eq_ignore_ascii_case(&right) == without_case
 }
 
-fn check_equalities<R: Wait + Abort>(
-    rt: &R,
-    set: &Set<EmptyStaticAtomSet>,
-    (left, right): (&str, &str),
-    wanted: (bool, bool),
-) {
-    let found = equalities(rt, set, left, right);
-    assert!(rt; found == wanted, "of {left:?} and {right:?}");
+/// Whether the atom equals a text as it is, and without case, where these are true and not elsewhere.
+fn equals_text(atom: &DefaultAtom<'_>, text: &str, equal: bool, without_case: bool) -> bool {
+    atom.eq_str(text) == equal && atom.eq_str_ignore_ascii_case(text) == without_case
 }
 
-/// Whether the atom equals a text: as it is, and without case.
-fn equals_text(atom: &DefaultAtom<'_>, text: &str) -> (bool, bool) {
-    (atom.eq_str(text), atom.eq_str_ignore_ascii_case(text))
-}
+/// Two texts, and whether they are equal: as they are, and without case.
+const EQUALITIES: [(&str, &str, bool, bool); 5] = [
+    ("FOO", "foo", false, true),
+    ("É", "é", false, false),
+    ("Interned", "iNTERNED", false, true),
+    ("[", "{", false, false),
+    ("foo", "foo", true, true),
+];
 
 #[test]
 fn without_case(rt: HostRuntime) {
     let set = empty_set(&rt, rt.alloc());
-    for (left, right, equal, without_case) in [
-        ("FOO", "foo", false, true),
-        ("É", "é", false, false),
-        ("Interned", "iNTERNED", false, true),
-        ("[", "{", false, false),
-        ("foo", "foo", true, true),
-    ] {
-        check_equalities(&rt, &set, (left, right), (equal, without_case));
+    for (left, right, equal, without_case) in EQUALITIES {
+        assert!(rt; have_equalities(&rt, &set, left, right, (equal, without_case)));
     }
     let atom = intern(&rt, &set, "Foo");
-    assert!(rt; equals_text(&atom, "Foo") == (true, true));
-    assert!(rt; equals_text(&atom, "fOO") == (false, true));
-    assert!(rt; equals_text(&atom, "foo") == (false, true));
-    assert!(rt; equals_text(&atom, "fo") == (false, false));
+    assert!(rt; equals_text(&atom, "Foo", true, true));
+    assert!(rt; equals_text(&atom, "fOO", false, true));
+    assert!(rt; equals_text(&atom, "foo", false, true));
+    assert!(rt; equals_text(&atom, "fo", false, false));
 }
 
 /// Whether the clone has the atom's word, and this text.
@@ -198,23 +196,30 @@ fn repeated(rt: &impl Abort, alloc: Global, text: &str, times: usize) -> String 
     text.repeat(alloc, times).expect(rt, "a text")
 }
 
+/// Whether a text of this many letters has these cases.
+fn has_long_cases<R: Wait + Abort>(rt: &R, set: &Set<EmptyStaticAtomSet>, letters: usize) -> bool {
+    let lower = repeated(rt, set.allocator(), "a", letters);
+    let upper = repeated(rt, set.allocator(), "A", letters);
+    has_cases(rt, set, &lower, &upper, &lower)
+}
+
+/// Texts, in upper case and in lower case.
+const CASES: [(&str, &str, &str); 5] = [
+    ("é", "é", "é"),
+    ("École", "ÉCOLE", "École"),
+    ("Interned", "INTERNED", "interned"),
+    ("@[`{09", "@[`{09", "@[`{09"),
+    ("azAZ", "AZAZ", "azaz"),
+];
+
 #[test]
 fn cases(rt: HostRuntime) {
     let set = empty_set(&rt, rt.alloc());
-    for (text, upper, lower) in [
-        ("é", "é", "é"),
-        ("École", "ÉCOLE", "École"),
-        ("Interned", "INTERNED", "interned"),
-        ("@[`{09", "@[`{09", "@[`{09"),
-        ("azAZ", "AZAZ", "azaz"),
-    ] {
+    for (text, upper, lower) in CASES {
         assert!(rt; has_cases(&rt, &set, text, upper, lower));
     }
-    for letters in [64, 65] {
-        let text = repeated(&rt, rt.alloc(), "a", letters);
-        let upper = repeated(&rt, rt.alloc(), "A", letters);
-        assert!(rt; has_cases(&rt, &set, &text, &upper, &text));
-    }
+    assert!(rt; has_long_cases(&rt, &set, 64));
+    assert!(rt; has_long_cases(&rt, &set, 65));
 }
 
 #[test]
@@ -312,6 +317,14 @@ fn has_length(atom: &DefaultAtom<'_>, bytes: usize) -> bool {
     atom.as_bytes().len() == bytes
 }
 
+/// Checks the other case of an atom that has small letters and none beyond ASCII to change.
+fn check_upper<R: Wait + Abort>(rt: &R, set: &Set<EmptyStaticAtomSet>, atom: &DefaultAtom<'_>) {
+    let upper = atom.to_ascii_uppercase_in(rt, set).expect(rt, "an atom");
+    assert!(rt; has_length(&upper, 300_000));
+    assert!(rt; upper != *atom);
+    assert!(rt; upper.eq_ignore_ascii_case(atom));
+}
+
 /// A text of 300,000 bytes, not all of them ASCII, interned, put into another case, and there and back as JSON.
 #[test]
 fn long_text(rt: HostRuntime) {
@@ -321,8 +334,5 @@ fn long_text(rt: HostRuntime) {
     assert!(rt; has_length(&atom, 300_000));
     assert!(rt; is_same(&atom, &json_copy(&rt, &set, &atom)));
     assert!(rt; is_same(&atom, &intern_owned(&rt, &set, &text)));
-    let upper = upper_of(&rt, &set, &atom);
-    assert!(rt; has_length(&upper, 300_000));
-    assert!(rt; upper != atom);
-    assert!(rt; upper.eq_ignore_ascii_case(&atom));
+    check_upper(&rt, &set, &atom);
 }
