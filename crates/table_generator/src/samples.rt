@@ -1,6 +1,5 @@
-// Names of HTML elements, keywords of some languages, and names of CSS properties, one a line: for the tests of the crates above, and for
-// nothing else.
-#![tactic(auto)]
+//! Names of HTML elements, keywords of some languages, and names of CSS properties, one a line: for the tests of the crates above, and for
+//! nothing else.
 
 pub const NAMES: &str = "a
 abbr

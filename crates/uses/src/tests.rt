@@ -1,3 +1,5 @@
+//! What the small programs answer, with worked values.
+
 use super::*;
 use crate::prices::Prices;
 use std::test::Fail;

@@ -1,5 +1,4 @@
-// A static type over the tables that `generate 0 1024` prints of the names.
-#![tactic(auto)]
+//! A static type over the tables that `generate 0 1024` prints of the names.
 
 ghost use Rattle.std.specs.Prelude.{[], ◌∷◌, codes};
 
