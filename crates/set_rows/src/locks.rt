@@ -63,6 +63,8 @@ fn held_texts_stay_linked(rt: HostRuntime) {
     let set = default_set(&rt, rt.alloc());
     let forgotten = atom_of(&rt, &set, "forgotten");
     let magnitude = atom_of(&rt, &set, "magnitude");
+    check_atom(&rt, &forgotten, "forgotten", ticket_word(1, 0x72f));
+    check_atom(&rt, &magnitude, "magnitude", ticket_word(2, 0x72f));
     for _ in 0..2 {
         check_held(&rt, &set, ticket_word(1, 0x72f), ticket_word(2, 0x72f));
     }
