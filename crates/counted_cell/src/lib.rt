@@ -22,8 +22,6 @@ mod placed;
 mod places;
 mod reply;
 mod share;
-#[cfg(test)]
-mod tests;
 mod text;
 
 pub use ending::Ending;

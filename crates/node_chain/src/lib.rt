@@ -7,8 +7,6 @@
 mod chain;
 mod nodes;
 mod pack;
-#[cfg(test)]
-mod tests;
 
 pub use chain::NodeChain;
 pub use nodes::Node;

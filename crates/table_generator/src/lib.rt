@@ -14,7 +14,6 @@ mod items;
 pub mod numbers;
 #[doc(hidden)]
 pub mod samples;
-mod search;
+#[doc(hidden)]
+pub mod search;
 pub mod tables;
-#[cfg(test)]
-mod tests;

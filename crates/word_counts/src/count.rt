@@ -5,14 +5,11 @@ ghost use Rattle.word_counts.specs.Faults.{IsCountFault};
 ghost use Rattle.word_counts.specs.WordCounts.{AreWordCounts, counted_texts, word_counts};
 ghost use Rattle.word_counts.specs.Words.{words};
 
-#[cfg(test)]
-mod gates;
 mod lines;
 mod merge;
-mod parts;
+#[doc(hidden)]
+pub mod parts;
 mod tally;
-#[cfg(test)]
-mod tests;
 mod workers;
 
 pub use lines::count_command;

@@ -5,5 +5,3 @@ pub mod buckets;
 pub mod count;
 #[doc(hidden)]
 pub mod samples;
-#[cfg(test)]
-mod tests;

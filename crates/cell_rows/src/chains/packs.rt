@@ -1,7 +1,7 @@
 //! Packs: each call once, and what becomes of the items at the end.
 
 use super::{Mark, five, followed};
-use crate::Pack;
+use node_chain::Pack;
 use std::sync::atomic::{AtomicU64, Ordering};
 use std::test::Fail;
 

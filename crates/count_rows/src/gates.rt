@@ -1,11 +1,11 @@
 //! Gates that hold workers until others have come or gone, and note what is linked then.
 
-use crate::count::Gate;
 use std::sync::Wait;
 use std::sync::atomic::{AtomicU64, Ordering};
 use std::thread::yield_now;
 use string_cache::EmptyStaticAtomSet;
 use string_cache::dynamic_set::Set;
+use word_counts::count::Gate;
 
 /// So often a worker that waits for the other looks again, and yields each time.
 const TURNS: u64 = 1_000_000;

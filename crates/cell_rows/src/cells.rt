@@ -2,7 +2,7 @@
 //! is 0, that a block is really freed, and what threads do to one count.
 ghost use Rattle.std.specs.Prelude.{◌≤◌, ◌<◌, ◌^◌};
 
-use crate::{AtLimit, CellShare, Ending, Label, Owner, ShareReply};
+use counted_cell::{AtLimit, CellShare, Ending, Label, Owner, ShareReply};
 use linked_list_allocator::LocalHeap;
 use std::alloc::{AllocError, Allocator, Global};
 use std::process::Abort;

@@ -1,6 +1,6 @@
 //! How many buckets a text gets.
 
-use crate::buckets::buckets_for;
+use word_counts::buckets::buckets_for;
 
 /// At each step of the choice, and on both sides of it.
 #[test]

@@ -3,7 +3,7 @@
 
 mod packs;
 
-use crate::NodeChain;
+use node_chain::NodeChain;
 use std::alloc::Global;
 use std::process::Abort;
 use std::sync::atomic::{AtomicU64, Ordering};

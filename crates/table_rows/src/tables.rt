@@ -1,15 +1,15 @@
 //! What no contract says: lists that are placed, and texts that come from outside.
 
-use crate::check::check_tables;
-use crate::generate::generate;
-use crate::numbers::{number_after, number_of, short_number_of};
-use crate::search::{Tried, find_pair};
-use crate::tables::{GenFault, Tables};
 use std::alloc::Global;
 use std::test::Fail;
 use string_cache_core::Fault;
 use string_cache_core::phf::{Hashes, hash};
 use string_cache_core::static_sets::check_parts;
+use table_generator::check::check_tables;
+use table_generator::generate::generate;
+use table_generator::numbers::{number_after, number_of, short_number_of};
+use table_generator::search::{Tried, find_pair};
+use table_generator::tables::{GenFault, Tables};
 
 /// As `generate`. Where memory was refused, the call is made once more.
 fn tables_of(alloc: Global, list: &[&str], key: u64, bound: u32) -> Result<Tables, GenFault> {

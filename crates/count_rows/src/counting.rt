@@ -2,10 +2,7 @@
 
 ghost use Rattle.std.specs.Prelude.{◌≤◌};
 
-use crate::count::gates::{BothLeave, InTurn, Together, Watch};
-use crate::count::parts::sections;
-use crate::count::{Gate, Open, count};
-use crate::samples::{EXAMPLE, EXAMPLE_COUNTS, are};
+use crate::gates::{BothLeave, InTurn, Together, Watch};
 use std::alloc::{AllocError, Global};
 use std::sync::Wait;
 use std::thread::Threads;
@@ -14,6 +11,9 @@ use string_cache::dynamic_set::Set;
 use string_cache::word::Limits;
 use string_cache::{Atom, EmptyStaticAtomSet, Fault};
 use text_streams::faults::AppFault;
+use word_counts::count::parts::sections;
+use word_counts::count::{Gate, Open, count};
+use word_counts::samples::{EXAMPLE, EXAMPLE_COUNTS, are};
 
 #[test]
 fn counts_of_the_example(rt: HostRuntime) {

@@ -1,0 +1,9 @@
+//! Tests of counting by workers, and nothing else.
+#![tactic(auto)]
+
+#[cfg(test)]
+mod buckets;
+#[cfg(test)]
+mod counting;
+#[cfg(test)]
+mod gates;
