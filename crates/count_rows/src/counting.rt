@@ -11,8 +11,7 @@ use string_cache::dynamic_set::Set;
 use string_cache::word::Limits;
 use string_cache::{Atom, EmptyStaticAtomSet, Fault};
 use text_streams::faults::AppFault;
-use word_counts::count::parts::sections;
-use word_counts::count::{Gate, Open, count};
+use word_counts::count::{Gate, Open, count, sections};
 use word_counts::samples::{EXAMPLE, EXAMPLE_COUNTS, are};
 
 #[test]

@@ -14,6 +14,9 @@ mod items;
 pub mod numbers;
 #[doc(hidden)]
 pub mod samples;
-#[doc(hidden)]
-pub mod search;
+mod search;
 pub mod tables;
+
+// For the tests above.
+#[doc(hidden)]
+pub use search::{Tried, find_pair};

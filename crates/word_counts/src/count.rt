@@ -7,12 +7,14 @@ ghost use Rattle.word_counts.specs.Words.{words};
 
 mod lines;
 mod merge;
-#[doc(hidden)]
-pub mod parts;
+mod parts;
 mod tally;
 mod workers;
 
 pub use lines::count_command;
+// For the tests above.
+#[doc(hidden)]
+pub use parts::sections;
 use std::sync::Wait;
 use std::thread::Threads;
 use string_cache::dynamic_set::Set;
