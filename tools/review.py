@@ -14,8 +14,8 @@ The function is named by the end of its name as `rt check` prints it. TEXT is on
 pairs, and lines 'file:', may follow. Bodies of different functions of a crate share a check, since the checker goes on behind a function
 that it can't prove, and says which goal was left: a body is refused where its own function is not proved. One that a function beside it
 hides, or that only its callers may refuse, is checked once more alone. Those that nothing refused are built beside the bodies that they
-replace (tools/shared_builds.py), and the tests of their crate are run with each, or of all that stand on it where it has none. What is
-proved and passes them all is printed last: nothing holds it.
+replace (tools/shared_builds.py), and the tests of their crate are run with each; where it has none, those of the crates that name it in
+crates.txt, or else of all that stand on it. What is proved and passes them all is printed last: nothing holds it.
 
 usage: tools/review.py FILE
 """
@@ -155,8 +155,13 @@ def failures(crate, bodies, root):
 
 
 def seeing(listed, crate):
-    """The crates whose tests are to see a body of this crate: itself, and where it has none, those that stand on it."""
-    return [crate] if has_tests(crate) else [name for name in listed if has_tests(name) and crate in stands_on(listed, name)]
+    """The crates whose tests are to see a body of this crate: itself, where it has none those that name it, and else those that stand on
+    it."""
+    tested = [name for name in listed if has_tests(name)]
+    if crate in tested:
+        return [crate]
+    naming = [name for name in tested if crate in listed[name]]
+    return naming or [name for name in tested if crate in stands_on(listed, name)]
 
 
 def held_by_nothing(bodies, root):
