@@ -5,6 +5,8 @@
 #[cfg(test)]
 mod atoms;
 #[cfg(test)]
+mod found;
+#[cfg(test)]
 mod holders;
 #[cfg(test)]
 mod printed;

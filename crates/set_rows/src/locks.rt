@@ -37,6 +37,19 @@ fn last_drop_under_a_held_lock(rt: HostRuntime) {
     check_linked(&rt, &set, 0);
 }
 
+/// What is looked up takes the dying entry out, and finds nothing.
+#[test]
+fn text_of_a_dying_entry_is_not_found(rt: HostRuntime) {
+    let set = default_set(&rt, rt.alloc());
+    let atom = atom_of(&rt, &set, "interned");
+    let held = lock_of(&rt, &set, 0x210);
+    drop(atom);
+    drop(held);
+    check_linked(&rt, &set, 1);
+    assert!(rt; matches!(DefaultAtom::get_in(&rt, &set, "interned"), Ok(None)));
+    check_linked(&rt, &set, 0);
+}
+
 #[test]
 fn text_of_a_dying_entry_gets_a_new_one(rt: HostRuntime) {
     let set = default_set(&rt, rt.alloc());
@@ -161,12 +174,13 @@ fn beside<R: Threads + Clock, L: Drop, T: Send, F: FnOnce() -> T + Send>(
     )
 }
 
-/// Interns, clones and drops a text that isn't dynamic. Whether it was as it should be.
+/// Interns, clones, looks up and drops a text that isn't dynamic. Whether it was as it should be.
 fn keeps_fixed_text<R: Wait>(rt: &R, set: &Set<One>, text: &str) -> Result<bool, Fault> {
     let atom = Atom::from_str_in(rt, set, text)?;
     let clone = atom.clone_atom(rt)?;
     let lower = clone.to_ascii_lowercase_in(rt, set)?;
-    Ok(lower.eq_str(text) && !lower.is_dynamic())
+    let found = Atom::get_in(rt, set, text)?;
+    Ok(lower.eq_str(text) && !lower.is_dynamic() && found == Some(atom))
 }
 
 /// Works with an inline and a static text, and reads JSON values. Whether each was as it should be.
@@ -196,12 +210,14 @@ fn calls_that_take_no_lock(rt: HostRuntime) {
     assert!(rt; is_right.expect(&rt, "an answer"));
 }
 
-/// Interns a text twice, and drops both atoms. Whether their words were the first ticket's.
+/// Interns a text twice, looks it up, and drops the atoms. Whether their words were the first ticket's.
 fn intern_twice<R: Wait>(rt: &R, set: &DefaultSet) -> Result<bool, Fault> {
     let first = DefaultAtom::from_str_in(rt, set, "interned")?;
     let second = DefaultAtom::from_str_in(rt, set, "interned")?;
+    let found = DefaultAtom::get_in(rt, set, "interned")?;
     let word = ticket_word(1, 0x210);
-    Ok(first.unsafe_data() == word && second.unsafe_data() == word)
+    let are_first = first.unsafe_data() == word && second.unsafe_data() == word;
+    Ok(are_first && found == Some(second))
 }
 
 #[test]

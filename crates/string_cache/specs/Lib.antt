@@ -3,6 +3,7 @@ pub use Rattle.string_cache_core.specs.Calls
 pub use Rattle.counted_set.specs.Chain
 pub use Rattle.counted_set.specs.Counted
 pub use Rattle.string_cache_core.specs.Faults
+pub use Rattle.counted_set.specs.Find
 pub use Rattle.string_cache_core.specs.Form
 pub use Rattle.string_cache_core.specs.InlineText
 pub use Rattle.string_cache_core.specs.Kept

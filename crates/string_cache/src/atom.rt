@@ -1,6 +1,6 @@
 //! An atom: a text that is inline, static, or an entry of a set.
 
-ghost use Rattle.std.specs.Prelude.{◌≡◌, ◌↔◌, ◌+◌, ◌*◌, ◌<◌, [], length, string_bytes, IsTrue, IsSome, IfSome, IfOk, IfErr, OnErr, None, nat_eq};
+ghost use Rattle.std.specs.Prelude.{◌≡◌, ◌↔◌, ◌+◌, ◌*◌, ◌<◌, [], length, string_bytes, IsTrue, IsSome, IfSome, IfOk, IfErr, OnErr, Ok, None, nat_eq};
 ghost use Rattle.std.specs.List.{Contains};
 ghost use Rattle.std.specs.Cmp;
 ghost use Rattle.std.specs.Cmp.{on_equiv};
@@ -87,6 +87,34 @@ impl<'s, Static: StaticAtomSet> Atom<'s, Static> {
                 let held = set.intern(rt, text, hash)?;
                 Ok(Self::of_form(Repr::Dynamic((hash % (1 << 32)) as u32, held)))
             }
+        }
+    }
+
+    /// The atom of a text, if the text is inline, static, or an entry of the set that somebody holds. Nothing is linked, and no memory is
+    /// taken. Inline and static texts are always found, and take no lock.
+    ///
+    /// `None` comes for a dynamic text that its bucket, under its lock, has no entry of with a holder; another thread may link one at once.
+    /// `FullCount` comes where the text's entry has as many holders as the set's limits allow. Either way the set is as it was, but that
+    /// entries of the bucket may have gone that nobody held.
+    pub fn get_in<R: Wait>(rt: &R, set: &'s Set<Static>, text: &str) -> Result<Option<Self>, Fault>
+        ensures text { IfOk result (λ found. IfSome found (λ atom. atom.text ≡ text.now)) }
+        ensures absent { (result ≡ Ok None) → IsTrue (is_dynamic Static.tables text.now) }
+        ensures refused { IfErr result (λ fault. fault ≡ Fault.FullCount) }
+        ensures dynamic { OnErr result (IsTrue (is_dynamic Static.tables text.now)) }
+    {
+        if let Some(text) = InlineText::new(text) {
+            return Ok(Some(Self::of_form(Repr::Inline(text))));
+        }
+        match form_of_text::<Static>(text) {
+            TextForm::Inline(_) => unreachable!(),
+            TextForm::Static(index) => Ok(Some(Self::of_form(Repr::Static(index)))),
+            TextForm::Dynamic(hash) => match set.find(rt, text, hash)? {
+                Some(held) => {
+                    let half = (hash % (1 << 32)) as u32;
+                    Ok(Some(Self::of_form(Repr::Dynamic(half, held))))
+                }
+                None => Ok(None),
+            },
         }
     }
 

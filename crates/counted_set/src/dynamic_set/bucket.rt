@@ -1,11 +1,12 @@
 //! A bucket: what one lock holds.
 
-ghost use Rattle.std.specs.Prelude.{◌≡◌, ◌<◌, [], length, IfOk, IfErr, Some, None};
+ghost use Rattle.std.specs.Prelude.{◌≡◌, ◌<◌, [], length, IfOk, IfErr, IfSome, Some, None};
 ghost use Rattle.std.specs.List.{AllByRecursion};
 ghost use Rattle.string_cache_core.specs.Tables.{entry_hash};
 ghost use Rattle.string_cache_core.specs.Faults.{IsInternFault};
 ghost use Rattle.counted_set.specs.Chain.{IsRightOf};
 ghost use Rattle.counted_set.specs.Counted.{GivesShares, IsPass};
+ghost use Rattle.counted_set.specs.Find.{IsFind};
 ghost use Rattle.counted_set.specs.Link.{IsLink, IsIntern};
 ghost use Rattle.counted_set.specs.PassLeft.{IsPassLeft};
 ghost use Rattle.node_chain.specs.Walked.{passed_by};
@@ -156,6 +157,45 @@ impl<Static: StaticAtomSet> Bucket<Static> {
             Pass::Full => Err(Fault::FullCount),
             Pass::Absent => self.link(text, hash, limits),
         }
+    }
+
+    /// A pass for the text, and no more: nothing is linked. `hash` is that of the text, as for `pass`.
+    ///
+    /// It gives the share that the pass found, `None` exactly where the pass finds the text absent, and `FullCount` exactly where it
+    /// finds the entry full. Where the counts give shares of the entries that they are asked about, the share is of the text.
+    #[tactic(auto, using(crate::proofs::Shares::share_found))]
+    pub fn find<R: Wait, C: Counts<Share = Share>>(
+        &mut self,
+        rt: &R,
+        text: &str,
+        hash: u64,
+        counts: &mut C,
+    ) -> Result<Option<Share>, Fault>
+        requires { hash ≡ entry_hash Static.tables text.now }
+        ensures find { IsFind C.adds C.dies text.now counts.old self.old result counts.new self.new }
+        ensures share { GivesShares C.adds → IfOk result (λ found. IfSome found (λ s. (s.text ≡ text.now) × IsRightOf Static.tables self.old.bits s)) }
+    {
+        let _ = &self.entries; // so that the proof sees what the bucket keeps
+        match self.pass(rt, text, hash, counts) {
+            Pass::Found(share) => Ok(Some(share)),
+            Pass::Full => Err(Fault::FullCount),
+            Pass::Absent => Ok(None),
+        }
+    }
+
+    /// A share of the text's entry, if one is linked that isn't dying, by the counts that the entries have themselves.
+    pub(super) fn share_if_linked<R: Wait>(
+        &mut self,
+        rt: &R,
+        text: &str,
+        hash: u64,
+    ) -> Result<Option<Share>, Fault>
+        requires { hash ≡ entry_hash Static.tables text.now }
+        ensures text { IfOk result (λ found. IfSome found (λ s. s.text ≡ text.now)) }
+        ensures right { IfOk result (λ found. IfSome found (λ s. IsRightOf Static.tables self.old.bits s)) }
+        ensures refused { IfErr result (λ fault. fault ≡ Fault.FullCount) }
+    {
+        self.find(rt, text, hash, &mut OwnCounts)
     }
 
     /// A share of the text's entry, by the counts that the entries have themselves.

@@ -1,6 +1,6 @@
 //! The set: buckets behind locks.
 
-ghost use Rattle.std.specs.Prelude.{◌≡◌, ◌-◌, ◌^◌, length, IfOk, IfErr};
+ghost use Rattle.std.specs.Prelude.{◌≡◌, ◌-◌, ◌^◌, length, IfOk, IfErr, IfSome};
 ghost use Rattle.string_cache_core.specs.Faults.{IsInternFault};
 ghost use Rattle.string_cache_core.specs.Layout.{holder_bound, serial_bound, usual_bits};
 ghost use Rattle.string_cache_core.specs.Tables.{entry_hash};
@@ -129,6 +129,27 @@ impl<Static: StaticAtomSet> Set<Static> {
         let mut bucket = self.buckets[usize::from(self.count.bucket_of(hash))].lock(rt);
         let share = bucket.share_of(rt, text, hash, &self.limits)?;
         Ok(Held::new(share, self))
+    }
+
+    /// A share of the entry of a text with this hash, in the bucket of the hash, if one is linked there that isn't dying. Atoms ask
+    /// for it.
+    #[doc(hidden)]
+    pub fn find<'s, R: Wait>(
+        &'s self,
+        rt: &R,
+        text: &str,
+        hash: u64,
+    ) -> Result<Option<Held<'s, Static>>, Fault>
+        requires { hash ≡ entry_hash Static.tables text.now }
+        ensures text { IfOk result (λ found. IfSome found (λ held. held.text ≡ text.now)) }
+        ensures right { IfOk result (λ found. IfSome found (λ held. IsRight Static.tables held)) }
+        ensures refused { IfErr result (λ fault. fault ≡ Fault.FullCount) }
+    {
+        let bucket = &self.buckets[usize::from(self.count.bucket_of(hash))];
+        match bucket.lock(rt).share_if_linked(rt, text, hash)? {
+            Some(share) => Ok(Some(Held::new(share, self))),
+            None => Ok(None),
+        }
     }
 
     /// Gives a share back. Where it was its entry's last, tries the lock of the entry's bucket, once, and prunes the bucket.

@@ -113,6 +113,34 @@ fn sets_are_swept(rt: HostRuntime) {
     assert!(rt; (held, left) == (1, 0));
 }
 
+/// Whether the atom's text is found, and an inline and a static text are, and no other.
+fn are_found<R: Wait>(rt: &R, set: &Set<One>, held: &Atom<'_, One>) -> Result<bool, Fault> {
+    let found = Atom::get_in(rt, set, held.as_str())?;
+    let absent = Atom::get_in(rt, set, "tokenised")?;
+    let is_short = Atom::get_in(rt, set, "abcdefg")?.is_some();
+    let is_static = Atom::get_in(rt, set, "sentence")?.is_some();
+    let is_held = match found {
+        Some(atom) => atom == *held,
+        None => false,
+    };
+    Ok(is_held && is_short && is_static && absent.is_none())
+}
+
+/// What is full once it is found, too.
+#[test]
+fn texts_are_looked_up(rt: HostRuntime) {
+    let limits = Limits::new(2, 9).expect(&rt, "limits");
+    let set: Set<One> = Set::with_limits(rt.alloc(), limits).expect(&rt, "a set");
+    let first = Atom::from_str_in(&rt, &set, "interned").expect(&rt, "an atom");
+    begin(&rt);
+    let are_right = are_found(&rt, &set, &first) == Ok(true);
+    let second = first.clone_atom(&rt);
+    let refused = Atom::get_in(&rt, &set, "interned").err();
+    finish(&rt, End::Given);
+    assert!(rt; are_right && second.is_ok());
+    assert!(rt; refused == Some(Fault::FullCount));
+}
+
 /// A table whose one serial of the bucket of "interned" is spent.
 fn spent_table(alloc: Global, limits: Limits) -> Result<Table<EmptyStaticAtomSet>, Fault> {
     let mut table = Table::with_limits(alloc, limits)?;

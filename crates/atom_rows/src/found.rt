@@ -1,0 +1,148 @@
+//! Texts that are looked up, and not interned. By OpenSSL's SipHash the bucket of "interned" is 0x210, and of "forgotten" and "magnitude"
+//! 0x72f.
+
+use crate::samples::{One, are_one, empty_set, has_text, has_word, intern, links};
+use std::alloc::Global;
+use std::process::Abort;
+use std::sync::Wait;
+use string_cache::dynamic_set::Set;
+use string_cache::static_sets::{EmptyStaticAtomSet, StaticAtomSet};
+use string_cache::word::{Buckets, Limits, ticket_word};
+use string_cache::{Atom, DefaultAtom, Fault};
+
+/// What is found of a text.
+fn look_up<'s, R: Wait + Abort, Static: StaticAtomSet>(
+    rt: &R,
+    set: &'s Set<Static>,
+    text: &str,
+) -> Option<Atom<'s, Static>> {
+    Atom::get_in(rt, set, text).expect(rt, "an answer")
+}
+
+/// The atom that is found of a text.
+fn find<'s, R: Wait + Abort>(
+    rt: &R,
+    set: &'s Set<EmptyStaticAtomSet>,
+    text: &str,
+) -> DefaultAtom<'s> {
+    look_up(rt, set, text).expect(rt, "an atom")
+}
+
+fn is_absent<R: Wait + Abort>(rt: &R, set: &Set<EmptyStaticAtomSet>, text: &str) -> bool {
+    look_up(rt, set, text).is_none()
+}
+
+/// Whether the text is found, with this word.
+fn is_found<R: Wait + Abort>(rt: &R, set: &Set<One>, text: &str, word: u64) -> bool {
+    match look_up(rt, set, text) {
+        Some(atom) => has_text(&atom, text) && has_word(&atom, word),
+        None => false,
+    }
+}
+
+/// Texts that are inline or static, and their words.
+const FIXED: [(&str, u64); 4] = [("", 1), ("\0", 0x11), ("foo", 0x6f6f_6631), ("sentence", 2)];
+
+#[test]
+fn fixed_texts_are_found(rt: HostRuntime) {
+    let set = empty_set::<One>(&rt, rt.alloc());
+    for (text, word) in &FIXED {
+        assert!(rt; is_found(&rt, &set, text, *word), "of {text:?}");
+    }
+    assert!(rt; links(&rt, &set, 0));
+}
+
+/// Of two texts of one bucket, and of one of another bucket.
+#[test]
+fn held_texts_alone_are_found(rt: HostRuntime) {
+    let set = empty_set(&rt, rt.alloc());
+    let forgotten = intern(&rt, &set, "forgotten");
+    assert!(rt; is_absent(&rt, &set, "magnitude"));
+    assert!(rt; is_absent(&rt, &set, "interned"));
+    let found = find(&rt, &set, "forgotten");
+    assert!(rt; found == forgotten && are_one(&found, &forgotten));
+    drop(forgotten);
+    assert!(rt; links(&rt, &set, 1) && has_text(&found, "forgotten"));
+    drop(found);
+    assert!(rt; links(&rt, &set, 0));
+    assert!(rt; is_absent(&rt, &set, "forgotten"));
+}
+
+fn five_atoms<'s, R: Wait>(
+    rt: &R,
+    set: &'s Set<EmptyStaticAtomSet>,
+) -> Result<Vec<DefaultAtom<'s>>, Fault> {
+    let mut atoms = Vec::new(set.allocator());
+    for text in ["interned", "tokenised", "sentence", "repeated", "forgotten"] {
+        atoms.push(DefaultAtom::from_str_in(rt, set, text)?)?;
+    }
+    Ok(atoms)
+}
+
+/// Whether the atom's text is found with its word.
+fn is_found_again<R: Wait + Abort>(
+    rt: &R,
+    set: &Set<EmptyStaticAtomSet>,
+    atom: &DefaultAtom<'_>,
+) -> bool {
+    are_one(&find(rt, set, atom.as_str()), atom)
+}
+
+/// Each of five texts of one bucket, which lie in two nodes.
+#[test]
+fn each_text_of_a_bucket_is_found(rt: HostRuntime) {
+    let buckets = Buckets::new(0).expect(&rt, "bits");
+    let set: Set<EmptyStaticAtomSet> = Set::with_buckets(
+        rt.alloc(),
+        Limits::greatest(),
+        buckets,
+    ).expect(&rt, "a set");
+    let atoms = five_atoms(&rt, &set).expect(&rt, "atoms");
+    for atom in &atoms {
+        assert!(rt; is_found_again(&rt, &set, atom));
+    }
+    assert!(rt; is_absent(&rt, &set, "magnitude"));
+    assert!(rt; links(&rt, &set, 5));
+}
+
+fn limited_set(
+    rt: &impl Abort,
+    alloc: Global,
+    holders: u64,
+    serials: u64,
+) -> Set<EmptyStaticAtomSet> {
+    let limits = Limits::new(holders, serials).expect(rt, "limits");
+    Set::with_limits(alloc, limits).expect(rt, "a set")
+}
+
+#[test]
+fn look_up_spends_no_ticket(rt: HostRuntime) {
+    let set = limited_set(&rt, rt.alloc(), 9, 1);
+    for _ in 0..3 {
+        assert!(rt; is_absent(&rt, &set, "interned") && links(&rt, &set, 0));
+    }
+    assert!(rt; has_word(&intern(&rt, &set, "interned"), ticket_word(1, 0x210)));
+    assert!(rt; is_absent(&rt, &set, "interned"));
+}
+
+/// Whether the look-up of "interned" says that its entry is full.
+fn is_full<R: Wait>(rt: &R, set: &Set<EmptyStaticAtomSet>) -> bool {
+    matches!(
+        DefaultAtom::get_in(rt, set, "interned"),
+        Err(Fault::FullCount)
+    )
+}
+
+/// What is found is a holder, and gives its share back.
+#[test]
+fn found_atom_is_a_holder(rt: HostRuntime) {
+    let set = limited_set(&rt, rt.alloc(), 2, 9);
+    let one = intern(&rt, &set, "interned");
+    for _ in 0..3 {
+        let two = find(&rt, &set, "interned");
+        assert!(rt; are_one(&one, &two));
+        assert!(rt; is_full(&rt, &set) && is_full(&rt, &set));
+    }
+    drop(one);
+    assert!(rt; links(&rt, &set, 0));
+}
