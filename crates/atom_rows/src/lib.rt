@@ -9,6 +9,8 @@ mod found;
 #[cfg(test)]
 mod holders;
 #[cfg(test)]
+mod lent;
+#[cfg(test)]
 mod printed;
 #[cfg(test)]
 mod samples;

@@ -1,7 +1,9 @@
-//! How atoms print, their hashes of 32 bits, and the JSON texts that they are turned into and read from.
+//! How atoms lend their texts, print and are written by a serializer, their hashes of 32 bits, and the JSON texts that they are turned into
+//! and read from.
 
 ghost use Rattle.std.specs.Prelude.{◌≡◌, ◌↔◌, ℕ, Some, Err, IfErr, IfOk, IfSome, IsNone, IsTrue, OnErr};
 ghost use Rattle.std.specs.Fmt.{styled_text};
+ghost use Rattle.serde.specs.Event.{Sends, text as text_event};
 ghost use Rattle.serde_json.specs.Data.{string};
 ghost use Rattle.serde_json.specs.Find.{as_str};
 ghost use Rattle.serde_json.specs.View.{view};
@@ -11,8 +13,10 @@ ghost use Rattle.string_cache.specs.Printed.{debug_text, form_name};
 
 use crate::atom::Atom;
 use counted_set::dynamic_set::Set;
+use serde::{Described, Serialize, Serializer};
 use serde_json::Value;
 use std::alloc::Global;
+use std::convert::{AsSlice, AsStr};
 use std::fmt::{self, Debug, Display, Formatter, Write};
 use std::sync::Wait;
 use string_cache_core::Fault;
@@ -26,6 +30,24 @@ pub trait PrecomputedHash {
     /// The hash.
     fn precomputed_hash(&self) -> u32
         ensures { result ≡ precomputed self.now };
+}
+
+/// An atom lends its text.
+impl<'s, Static: StaticAtomSet> AsStr for Atom<'s, Static> {
+    ghost text = { λ atom. atom.text };
+
+    fn as_str(&self) -> &str {
+        Atom::as_str(self)
+    }
+}
+
+/// An atom lends the bytes of its text.
+impl<'s, Static: StaticAtomSet> AsSlice<u8> for Atom<'s, Static> {
+    ghost items = { λ atom. atom.text };
+
+    fn as_slice(&self) -> &[u8] {
+        self.as_bytes()
+    }
 }
 
 /// The high 32 bits of `get_hash`, xored with the low ones.
@@ -55,6 +77,17 @@ impl<'s, Static: StaticAtomSet> Debug for Atom<'s, Static> {
 
     fn fmt<W: Write>(&self, f: &mut Formatter<W>) -> fmt::Result {
         write!(f, "Atom('{}' type={})", self.as_str(), self.form_name())
+    }
+}
+
+impl<'s, Static: StaticAtomSet> Described for Atom<'s, Static> {
+    ghost writes = { λ atom. Sends (text_event atom.text) };
+}
+
+/// An atom is written as its text. None is read by `Deserialize`, which is handed no set.
+impl<'s, Static: StaticAtomSet> Serialize for Atom<'s, Static> {
+    fn serialize<S: Serializer>(&self, out: &mut S) -> Result<(), S::Error> {
+        out.str(self.as_str())
     }
 }
 
