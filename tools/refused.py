@@ -40,10 +40,13 @@ SPARED = {
     "refusals::programs::counts_by_sixty_four": 80,
 }
 
-# The most requests that a call may make, by its test's name: a new text has a cell, and a node where its bucket's first one has no room.
+# The most requests that a call may make, by its test's name: a new text has a cell, and a node where its bucket's first one has no room; in a
+# table that has room it has its bytes.
 FEW = {
     "refusals::sets::text_is_interned": 2,
     "refusals::sets::text_finds_room_in_a_node": 1,
+    "refusals::tables::text_finds_room_in_a_table": 1,
+    "refusals::tables::text_finds_room_in_a_cleared_table": 1,
 }
 
 

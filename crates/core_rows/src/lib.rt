@@ -6,3 +6,5 @@
 mod forms;
 #[cfg(test)]
 mod table;
+#[cfg(test)]
+mod words;

@@ -1,4 +1,5 @@
 pub mod HeldWords
+pub mod IfHeld
 pub mod Keep
 pub mod Replies
 pub mod Runs

@@ -16,7 +16,7 @@ Pair = List ℕ × Holding
 pub record Kept : Type 0 where
   pub limits : Bounds
   pub lasts : List ℕ  -- each bucket's last serial
-  pub pairs : List Pair  -- of each dynamic text that is held, in no order
+  pub pairs : List Pair  -- of each dynamic text that is held, in the table's order
 
 abbrev pub map_of : Kept → InternMap
 map_of kept = record { buckets = length kept.lasts; held = λ text. lookup (bytes_eq text) kept.pairs; last = λ bucket. slice_index kept.lasts bucket }

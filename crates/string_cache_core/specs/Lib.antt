@@ -2,10 +2,13 @@ pub mod Bounds
 pub mod Calls
 pub mod Faults
 pub mod Form
+pub mod HeldText
 pub mod InlineText
 pub mod Kept
 pub mod Layout
 pub mod Map
+pub mod Name
+pub mod Order
 pub mod Parts
 pub mod Pass
 pub mod Phf
@@ -15,3 +18,4 @@ pub mod Table
 pub mod Tables
 pub mod Times
 pub mod Word
+pub mod WordText

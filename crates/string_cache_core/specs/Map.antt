@@ -37,6 +37,10 @@ pub record IsHeldTicket (m : InternMap) (ticket : ℕ) : Type 0 where
   pub holders : ℕ
   pub held : m.held text ≡ Some (record { ticket = ticket; holders = holders })
 
+-- so many hold the ticket
+abbrev pub HasHolders : InternMap → ℕ → ℕ → Type 0
+HasHolders m ticket holders = (text : List ℕ) × (m.held text ≡ Some (record { ticket = ticket; holders = holders }))
+
 pub data MapCall : Type 0 where
   Intern : (text : List ℕ) → MapCall  -- of a dynamic text
   Clone : (ticket : ℕ) → MapCall  -- of a ticket that is held

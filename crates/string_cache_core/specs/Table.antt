@@ -1,5 +1,5 @@
 -- What the calls of a table do, as calls of the map that it is.
-use Rattle.std.specs.Prelude.{◌≡◌, ℕ, ◌<◌, ◌≤◌, ◌⊎◌, ◌↔◌, List, Option, None, Some, Result, Ok, Err}
+use Rattle.std.specs.Prelude.{◌≡◌, ℕ, ◌<◌, ◌≤◌, ◌⊎◌, ◌↔◌, Bool, true, false, List, Option, None, Some, Result, Ok, Err}
 use Rattle.std.specs.Str.{IsUtf8}
 use Rattle.string_cache_core.specs.Bounds.{Bounds}
 use Rattle.string_cache_core.specs.declared.faults.Fault.{Fault}
@@ -63,6 +63,22 @@ abbrev pub Gives : Tables → Bounds → InternMap → ℕ → InternMap → Typ
 Gives t limits m word new =
     (IsFixedWord t word × (new ≡ m))
     ⊎ ((reply : MapReply) × MayReply t limits m (Give word) reply new)
+
+-- the same word or refusal, where there might have been none
+abbrev pub in_some : Result ℕ Fault → Result (Option ℕ) Fault
+in_some (Ok word) = Ok (Some word)
+in_some (Err fault) = Err fault
+
+-- cloning any number: where it is held as `Clones` says, and else None, and nothing changes
+abbrev pub ClonesIfHeld : Tables → Bounds → InternMap → ℕ → Result (Option ℕ) Fault → InternMap → Type 0
+ClonesIfHeld t limits m word result new =
+    ((outcome : Result ℕ Fault) × Clones t limits m word outcome new × (result ≡ in_some outcome))
+    ⊎ (¬ (IsHeld t m word) × (result ≡ Ok None) × (new ≡ m))
+
+-- giving any number: where it is held as `Gives` says, and else false, and nothing changes
+abbrev pub GivesIfHeld : Tables → Bounds → InternMap → ℕ → Bool → InternMap → Type 0
+GivesIfHeld t limits m word given new =
+    (Gives t limits m word new × (given ≡ true)) ⊎ (¬ (IsHeld t m word) × (given ≡ false) × (new ≡ m))
 
 -- ---- whose word it is
 

@@ -1,21 +1,27 @@
 //! The table of texts for one thread.
 
-ghost use Rattle.std.specs.Prelude.{IsTrue, ◌≡◌, ◌≢◌, ℕ, ◌∷◌, ◌++◌, ◌+◌, ◌-◌, ◌^◌, ◌%◌, ◌<◌, ◌≤◌, ◌⊎◌, OnOk, OnErr, IfOk, IfErr, IfSome, IsSome, MatchOption, Option, None, Some, slice_get, length, List, ◌↔◌};
+ghost use Rattle.std.specs.Prelude.{IsTrue, ◌≡◌, ℕ, [], ◌∷◌, ◌++◌, ◌+◌, ◌-◌, ◌^◌, ◌%◌, ◌<◌, ◌≤◌, ◌⊎◌, OnOk, OnErr, IfOk, IfErr, IfSome, IsSome, MatchOption, Option, None, Some, slice_get, length, List, ◌↔◌};
 ghost use Rattle.string_cache_core.specs.Faults.{IsInternFault};
 ghost use Rattle.string_cache_core.specs.declared.faults.Fault.TheVariants.{FullCount, Memory};
 ghost use Rattle.string_cache_core.specs.Calls.{Answers, AnswersAll};
-ghost use Rattle.std.specs.List.{IsDistinct, sum_by};
-ghost use Rattle.std.specs.Map.{keys_of};
-ghost use Rattle.std.specs.Str.{bytes_eq};
+ghost use Rattle.std.specs.List.{swap_remove};
 ghost use Rattle.string_cache_core.specs.Layout.{holder_bound, serial_bound, usual_buckets};
 ghost use Rattle.string_cache_core.specs.Map.{Holding, IsHeldTicket, Intern, MapReply, MayReply, empty_map, with_held, with_last};
-ghost use Rattle.string_cache_core.specs.Table.{Adds, Interns, Clones, Gives, AreHeld, GivesOnce, HasOneTextEach, HasWord, IsFixedWord, IsHeld, IsTextOf, KeepsWord, as_word};
+ghost use Rattle.string_cache_core.specs.Order.{ComesLast, GoesFrom};
+ghost use Rattle.string_cache_core.specs.Table.{Adds, Interns, Gives, AreHeld, GivesOnce, HasOneTextEach, HasWord, IsFixedWord, IsHeld, IsTextOf, KeepsWord, as_word};
 ghost use Rattle.string_cache_core.specs.Tables.{bucket_of, form_of_text, fixed_word};
 ghost use Rattle.string_cache_core.specs.Word.{inline_word, ticket_of};
 ghost use Rattle.string_cache_core.specs.declared.static_sets.TextForm.TheVariants.{Dynamic};
 
 mod call;
 mod holding;
+mod iter;
+mod look_up;
+mod name;
+mod names;
+mod release;
+mod room;
+mod word_text;
 
 use crate::Fault;
 use crate::static_sets::{StaticAtomSet, TextForm, form_of_text, static_text};
@@ -23,8 +29,12 @@ use crate::word::{Buckets, Form, Limits, form_of, static_word, ticket_word};
 pub use call::{Call, TableReply};
 use holding::{Holding, write_holders};
 use indexmap::{IndexMap, IndexSet};
+pub use iter::{HeldText, Iter};
+pub use name::Name;
+pub use names::Names;
 use std::alloc::Global;
 use std::marker::{Model, PhantomData};
+pub use word_text::WordText;
 
 /// The interned texts of one thread. Each dynamic text that is held has one ticket, and a number of holders.
 #[derive(Drop)]
@@ -50,7 +60,7 @@ impl<S: StaticAtomSet> Model for Table<S> {
 }
 
 impl<S: StaticAtomSet> Table<S> {
-    ghost use Rattle.string_cache_core.specs.Kept.{Kept, Pair, map_of, IsSoundMap};
+    ghost use Rattle.string_cache_core.specs.Kept.{Kept, Pair, map_of, tickets_of, IsSoundMap};
     ghost use Rattle.string_cache_core.specs.Places.{IsPlace, IsFound};
 
     /// A table in which nothing is held, with the greatest limits and the usual number of buckets. `Memory` where its buckets
@@ -108,92 +118,13 @@ impl<S: StaticAtomSet> Table<S> {
         ensures keeps { (other : ℕ) → KeepsWord S.tables (map_of self.old) (map_of self.new) other }
         ensures apart { HasOneTextEach S.tables (map_of self.new) }
         ensures once { GivesOnce (map_of self.old) (map_of self.new) }
+        ensures order { IfOk result (λ word. ComesLast self.old word self.new) }
         ensures fault { IfErr result IsInternFault }
         ensures err { OnErr result (self.new ≡ self.old) }
     {
         let outcome = self.intern_text(text);
         self.is_sound(); // as the last clauses say
         outcome
-    }
-
-    /// The text of a static word or of a ticket that is held. `None` for any other word; an inline word holds its text
-    /// itself.
-    pub fn text(&self, word: u64) -> Option<&str>
-        ensures text { MatchOption result ((text : List ℕ) → ¬ (IsTextOf S.tables (map_of self.now) word text)) (λ text. IsTextOf S.tables (map_of self.now) word text.now) }
-        ensures found { (text : List ℕ) → IsTextOf S.tables (map_of self.now) word text → IsSome result }
-        ensures same { IfSome result (λ lent. (text : List ℕ) → IsTextOf S.tables (map_of self.now) word text → lent.now ≡ text) }
-        ensures word { IfSome result (λ text. HasWord S.tables (map_of self.now) text.now word) }
-    {
-        self.find_text(word)
-    }
-
-    /// Whether a word is held: an inline word always is, a static word where the static type has its text, and a ticket where
-    /// someone holds it.
-    pub fn holds(&self, word: u64) -> bool
-        ensures { IsTrue result ↔ IsHeld S.tables (map_of self.now) word }
-    {
-        if is_fixed::<S>(word) {
-            return true;
-        }
-        self.place_of(word).is_some()
-    }
-
-    /// One holder more of a word that is held. An inline word and a static word have no number of holders: nothing changes.
-    ///
-    /// `FullCount` where the ticket's text has as many holders as the limits allow. A refusal changes nothing.
-    pub fn clone_word(&mut self, word: u64) -> Result<u64, Fault>
-        requires { IsHeld S.tables (map_of self.old) word }
-        ensures limits { self.new.limits ≡ self.old.limits }
-        ensures clones { Clones S.tables self.old.limits (map_of self.old) word result (map_of self.new) }
-        ensures word { IfOk result (λ clone. clone ≡ word) }
-        ensures held { IfOk result (λ clone. IsHeld S.tables (map_of self.new) clone) }
-        ensures listed { (words : List ℕ) → AreHeld S.tables (map_of self.old) words → IfOk result (λ clone. AreHeld S.tables (map_of self.new) (clone ∷ words)) }
-        ensures keeps { (other : ℕ) → KeepsWord S.tables (map_of self.old) (map_of self.new) other }
-        ensures apart { HasOneTextEach S.tables (map_of self.new) }
-        ensures fault { IfErr result (λ fault. fault ≡ FullCount) }
-        ensures err { OnErr result (self.new ≡ self.old) }
-    {
-        self.is_sound(); // before and after, as `listed` and `apart` say
-        match self.place_of(word) {
-            Some(at) => {
-                let outcome = self.add_holder(at);
-                self.is_sound();
-                outcome
-            }
-            None => Ok(word),
-        }
-    }
-
-    /// One holder less of a word that is held. The last holder of a ticket takes the text with it; the bucket keeps its last
-    /// serial, so that the ticket never comes again.
-    pub fn give(&mut self, word: u64)
-        requires { IsHeld S.tables (map_of self.old) word }
-        ensures limits { self.new.limits ≡ self.old.limits }
-        ensures gives { Gives S.tables self.old.limits (map_of self.old) word (map_of self.new) }
-        ensures listed { (before after : List ℕ) → AreHeld S.tables (map_of self.old) (before ++ word ∷ after) → AreHeld S.tables (map_of self.new) (before ++ after) }
-        ensures keeps { (other : ℕ) → (other ≢ word) ⊎ IsHeld S.tables (map_of self.new) other → KeepsWord S.tables (map_of self.old) (map_of self.new) other }
-        ensures apart { HasOneTextEach S.tables (map_of self.new) }
-    {
-        self.is_sound(); // before and after, as `keeps` and `apart` say
-        if let Some(at) = self.place_of(word) {
-            self.give_at(at);
-            self.is_sound();
-        }
-    }
-
-    /// How many dynamic texts are held.
-    pub fn entries(&self) -> usize
-        ensures count { result ≡ length self.now.pairs }
-        ensures distinct { IsDistinct bytes_eq (keys_of self.now.pairs) }
-    {
-        self.entries.len() // each text once
-    }
-
-    /// How many bytes the dynamic texts that are held have.
-    pub fn text_bytes(&self) -> u128
-        ensures { result ≡ sum_by (λ pair. length pair.0) self.now.pairs }
-    {
-        self.bytes // counted as texts come and go
     }
 
     /// Makes the calls in order, with a reply for each. `Memory` where there is no place for the replies; then no call was
@@ -239,19 +170,6 @@ impl<S: StaticAtomSet> Table<S> {
         Some(at)
     }
 
-    /// The text of a word.
-    fn find_text(&self, word: u64) -> Option<&str>
-        ensures sound { IsSoundMap S.tables (map_of self.now) }
-        ensures text { MatchOption result ((text : List ℕ) → ¬ (IsTextOf S.tables (map_of self.now) word text)) (λ text. IsTextOf S.tables (map_of self.now) word text.now) }
-    {
-        self.is_sound();
-        match form_of(word)? {
-            Form::Inline(_) => None,
-            Form::Static(index) => static_text::<S>(index),
-            Form::Dynamic { .. } => self.ticket_text(word),
-        }
-    }
-
     /// Where the ticket stands.
     fn place_of(&self, ticket: u64) -> Option<usize>
         ensures { MatchOption result (¬ (IsHeldTicket (map_of self.now) ticket)) (λ at. IsPlace self.now ticket at) }
@@ -269,15 +187,6 @@ impl<S: StaticAtomSet> Table<S> {
     {
         let held = &self.entries[at];
         (held.ticket(), held.holders())
-    }
-
-    /// The text of a ticket.
-    fn ticket_text(&self, ticket: u64) -> Option<&str>
-        ensures { MatchOption result (¬ (IsHeldTicket (map_of self.now) ticket)) (λ text. (holders : ℕ) × ((map_of self.now).held text.now ≡ Some (record { ticket = ticket; holders = holders }))) }
-    {
-        let at = self.place_of(ticket)?;
-        let (text, _) = self.entries.get_index(at)?;
-        Some(text.as_str())
     }
 
     /// The bucket of a dynamic text with this hash, and the bucket's last serial.
@@ -298,6 +207,7 @@ impl<S: StaticAtomSet> Table<S> {
         ensures limits { self.new.limits ≡ self.old.limits }
         ensures map { (text : List ℕ) (had : Holding) → slice_get self.old.pairs at ≡ Some (text, had)
             → map_of self.new ≡ with_held (map_of self.old) text (Some (record { ticket = had.ticket; holders = holders })) }
+        ensures order { tickets_of self.new.pairs ≡ tickets_of self.old.pairs }
     {
         write_holders(&mut self.entries, at, holders);
     }
@@ -308,6 +218,7 @@ impl<S: StaticAtomSet> Table<S> {
         ensures limits { self.new.limits ≡ self.old.limits }
         ensures adds { (text : List ℕ) (had : Holding) → slice_get self.old.pairs at ≡ Some (text, had)
             → Adds self.old.limits (map_of self.old) text had result (map_of self.new) }
+        ensures order { tickets_of self.new.pairs ≡ tickets_of self.old.pairs }
         ensures fault { IfErr result (λ fault. fault ≡ FullCount) }
         ensures err { OnErr result (self.new ≡ self.old) }
     {
@@ -324,6 +235,7 @@ impl<S: StaticAtomSet> Table<S> {
         requires { at < length self.old.pairs }
         ensures limits { self.new.limits ≡ self.old.limits }
         ensures gives { (ticket : ℕ) → IsPlace self.old ticket at → Gives S.tables self.old.limits (map_of self.old) ticket (map_of self.new) }
+        ensures order { (ticket : ℕ) → IsPlace self.old ticket at → GoesFrom self.old ticket self.new }
     {
         let (_, holders) = self.held_at(at);
         if holders == 1 {
@@ -343,6 +255,7 @@ impl<S: StaticAtomSet> Table<S> {
         ensures limits { self.new.limits ≡ self.old.limits }
         ensures word { IfOk result (λ word. word ≡ ticket_of serial bucket) }
         ensures ok { OnOk result (map_of self.new ≡ with_last (with_held (map_of self.old) text.now (Some (record { ticket = ticket_of serial bucket; holders = 1 }))) bucket serial) }
+        ensures order { IfOk result (λ word. tickets_of self.new.pairs ≡ tickets_of self.old.pairs ++ word ∷ []) }
         ensures err { OnErr result (self.new ≡ self.old) }
         ensures fault { IfErr result (λ fault. fault ≡ Memory) }
     {
@@ -367,6 +280,7 @@ impl<S: StaticAtomSet> Table<S> {
         requires { at < length self.old.pairs }
         ensures limits { self.new.limits ≡ self.old.limits }
         ensures map { (text : List ℕ) (had : Holding) → slice_get self.old.pairs at ≡ Some (text, had) → map_of self.new ≡ with_held (map_of self.old) text None }
+        ensures order { (ticket : ℕ) → tickets_of self.new.pairs ≡ swap_remove (tickets_of self.old.pairs) at ticket }
     {
         let Some((text, _)) = self.entries.swap_remove_index(at) else {
             unreachable!()
@@ -382,6 +296,7 @@ impl<S: StaticAtomSet> Table<S> {
         ensures sound { IsSoundMap S.tables (map_of self.old) }
         ensures limits { self.new.limits ≡ self.old.limits }
         ensures interns { Interns S.tables self.old.limits (map_of self.old) text.now result (map_of self.new) }
+        ensures order { IfOk result (λ word. ComesLast self.old word self.new) }
         ensures fault { IfErr result IsInternFault }
         ensures err { OnErr result (self.new ≡ self.old) }
     {
@@ -402,6 +317,7 @@ impl<S: StaticAtomSet> Table<S> {
         requires absent { (map_of self.old).held text.now ≡ None }
         ensures limits { self.new.limits ≡ self.old.limits }
         ensures replies { (reply : MapReply) × MayReply S.tables self.old.limits (map_of self.old) (Intern text.now) reply (map_of self.new) × (result ≡ as_word reply) }
+        ensures order { IfOk result (λ word. ComesLast self.old word self.new) }
         ensures fault { IfErr result IsInternFault }
         ensures err { OnErr result (self.new ≡ self.old) }
     {
@@ -412,31 +328,24 @@ impl<S: StaticAtomSet> Table<S> {
         self.add(text, bucket, last + 1)
     }
 
-    /// Makes a call. A ticket is looked up once.
+    /// Makes a call.
     fn call(&mut self, call: &Call) -> TableReply
         ensures limits { self.new.limits ≡ self.old.limits }
         ensures answers { Answers S.tables self.old.limits (map_of self.old) call.now result (map_of self.new) }
     {
         match call {
             Call::Intern(text) => TableReply::of(self.intern(text.as_str())),
-            Call::Clone(word) => {
-                if let Some(at) = self.place_of(*word) {
-                    return TableReply::of(self.add_holder(at));
-                }
-                if !is_fixed::<S>(*word) {
-                    return TableReply::NotHeld;
-                }
-                TableReply::Word(*word)
-            }
+            Call::Clone(word) => match self.clone_held(*word) {
+                Ok(Some(clone)) => TableReply::Word(clone),
+                Ok(None) => TableReply::NotHeld,
+                Err(fault) => TableReply::Refused(fault),
+            },
             Call::Give(word) => {
-                if let Some(at) = self.place_of(*word) {
-                    self.give_at(at);
-                    return TableReply::Given;
+                if self.release(*word) {
+                    TableReply::Given
+                } else {
+                    TableReply::NotHeld
                 }
-                if !is_fixed::<S>(*word) {
-                    return TableReply::NotHeld;
-                }
-                TableReply::Given
             }
         }
     }

@@ -63,6 +63,73 @@ fn text_is_interned_in_a_table(rt: HostRuntime) {
     assert!(rt; table.text(word) == Some("interned"));
 }
 
+#[test]
+fn table_with_room_is_made(rt: HostRuntime) {
+    let alloc = rt.alloc();
+    let made: Result<Table<EmptyStaticAtomSet>, Fault> = at_last(
+        &rt,
+        || Table::with_capacity(alloc, 1000),
+    );
+    assert!(rt; is_empty(&made.expect(&rt, "an answer")));
+}
+
+/// What is held stays, whether the room is refused or not.
+#[test]
+fn room_is_made_in_a_table(rt: HostRuntime) {
+    let mut table: Table<EmptyStaticAtomSet> = new_table(&rt, rt.alloc());
+    let word = table.intern("interned").expect(&rt, "a word");
+    begin(&rt);
+    let made = table.reserve(1000);
+    finish(&rt, midway(made.is_err()));
+    assert!(rt; made.is_ok() || made == Err(Fault::Memory));
+    assert!(rt; table.text(word) == Some("interned") && table.entries() == 1);
+    if made.is_err() {
+        table.reserve(1000).expect(&rt, "an answer");
+    }
+}
+
+/// Interns this number of texts.
+fn fill<R: Abort>(
+    rt: &R,
+    alloc: Global,
+    table: &mut Table<EmptyStaticAtomSet>,
+    number: u32,
+) -> Result<(), Fault> {
+    for n in 0..number {
+        table.intern(format!(in alloc; "the text {n}")?.as_str())?;
+    }
+    assert!(rt; table.entries() == number as usize);
+    Ok(())
+}
+
+/// The word of "interned", which asks for no more than the text's own bytes.
+fn has_room<R: Print + Abort>(rt: &R, table: &mut Table<EmptyStaticAtomSet>) -> bool {
+    begin(rt);
+    let answer = table.intern("interned");
+    let is_refused = answer == Err(Fault::Memory);
+    finish(rt, midway(is_refused));
+    is_refused || answer == Ok(FIRST)
+}
+
+/// The last one of as many texts as room was made for.
+#[test]
+fn text_finds_room_in_a_table(rt: HostRuntime) {
+    let alloc = rt.alloc();
+    let mut table = Table::<EmptyStaticAtomSet>::with_capacity(alloc, 1000).expect(&rt, "a table");
+    fill(&rt, alloc, &mut table, 999).expect(&rt, "words");
+    assert!(rt; has_room(&rt, &mut table));
+}
+
+/// As many texts find room where others were.
+#[test]
+fn text_finds_room_in_a_cleared_table(rt: HostRuntime) {
+    let alloc = rt.alloc();
+    let mut table: Table<EmptyStaticAtomSet> = new_table(&rt, alloc);
+    fill(&rt, alloc, &mut table, 1).expect(&rt, "words");
+    table.clear();
+    assert!(rt; has_room(&rt, &mut table));
+}
+
 /// Interning a text twice, giving it twice, interning it again, and another one.
 fn calls(alloc: Global) -> Result<Vec<Call>, Fault> {
     let mut calls = Vec::new(alloc);

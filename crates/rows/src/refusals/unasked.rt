@@ -178,3 +178,30 @@ fn tickets_are_spent(rt: HostRuntime) {
     assert!(rt; in_set == [Some(Fault::TicketsSpent); 3]);
     assert!(rt; in_table == Some(Fault::TicketsSpent));
 }
+
+/// What a table tells of "interned", and of a text and a number that it doesn't hold; a holder comes and goes, and then all do.
+fn is_told(table: &mut Table<One>, word: u64) -> bool {
+    let is_found = table.get("interned") == Some(word) && table.get("tokenised").is_none();
+    let is_lent = match table.text_of(word) {
+        Some(text) => text.as_str() == "interned",
+        None => false,
+    };
+    let is_listed = match table.iter().next() {
+        Some(held) => held.word == word && table.holders(word) == Some(held.holders),
+        None => false,
+    };
+    let comes_and_goes = table.clone_held(word) == Ok(Some(word)) && table.release(word);
+    let is_overlooked = table.clone_held(4) == Ok(None) && !table.release(4);
+    table.clear();
+    is_found && is_lent && is_listed && comes_and_goes && is_overlooked
+}
+
+#[test]
+fn table_is_looked_into(rt: HostRuntime) {
+    let mut table: Table<One> = new_table(&rt, rt.alloc());
+    let word = table.intern("interned").expect(&rt, "a word");
+    begin(&rt);
+    let is_told = is_told(&mut table, word);
+    finish(&rt, End::Given);
+    assert!(rt; is_told && table.entries() == 0);
+}

@@ -172,3 +172,14 @@ held-if-placed t kept word fixed None none test e = (λ yes. absurd (false≢tru
 pub fixed-unless-ticket : (t : Tables) (m : InternMap) (word : ℕ) → IsHeld t m word → ¬ (IsHeldTicket m word) → IsFixedWord t word
 fixed-unless-ticket t m word (inl fixed) none = fixed
 fixed-unless-ticket t m word (inr h) none = absurd (none h)
+
+-- a word that lends a text is held
+pub text-held : (t : Tables) (m : InternMap) (word : ℕ) (text : List ℕ) → IsTextOf t m word text → IsHeld t m word
+text-held t m word text (inl s) = inl (inr (s.0, ap (form_of_text t) (static-text t text s.0 s.1) ∙ s.1, sym s.2))
+text-held t m word text (inr h) = inr (record { text = text; holders = h.0; held = h.1 })
+
+-- a word that is held is inline, or lends a text
+pub not-held-without-text : (t : Tables) (m : InternMap) (word : ℕ) → ¬ (IsInlineWord word) → ((text : List ℕ) → ¬ (IsTextOf t m word text)) → IsHeld t m word → ⊥
+not-held-without-text t m word inline none (inl (inl i)) = inline i
+not-held-without-text t m word inline none (inl (inr s)) = none (text_at t s.0) (inl (s.0, s.1, sym s.2))
+not-held-without-text t m word inline none (inr k) = none k.text (inr (k.holders, k.held))

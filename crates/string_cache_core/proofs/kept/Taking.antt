@@ -116,6 +116,10 @@ module _ {Y S : Type 0} (t : Tables) (lasts : List ℕ) (m n : HashMap (String Y
       ∙ swap_remove-default (tickets_of (pairs_of m.entries)) at ticket gone.1.ticket some-tickets
       ∙ sym (map-swap_remove (λ (pair : Pair). pair.1.ticket) (pairs_of m.entries) at gone some-pairs) ∙ ap tickets_of (sym pairs-left)
 
+  -- the last ticket came in its place, or it was the last
+  pub order-left : (own : ℕ) → tickets_of (pairs_of n.entries) ≡ swap_remove (tickets_of (pairs_of m.entries)) at own
+  order-left own = sym tickets-left ∙ removed ∙ ap (λ ts. swap_remove ts at ticket) kept.index ∙ swap_remove-default (tickets_of (pairs_of m.entries)) at ticket own some-tickets
+
   there : slice_get (pairs_of m.entries) at ≡ Some gone
   there = at-pairs m.entries at taken.0 taken.1 entry
 

@@ -1,14 +1,14 @@
-use Rattle.std.proofs.Common.{◌≡◌, ◌∙◌, ap, sym, subst, arith, ℕ, Some, length, ◌%◌, ◌+◌}
+use Rattle.std.proofs.Common.{◌≡◌, ◌∙◌, ap, sym, subst, arith, ℕ, Some, [], ◌∷◌, ◌++◌, length, ◌%◌, ◌+◌}
 use Rattle.std.specs.Prelude.{slice_set, string_bytes}
 use Rattle.std.specs.Bool.{nat_eq}
 use Rattle.std.specs.Map.{lookup}
 use Rattle.std.specs.Str.{bytes_eq}
-use Rattle.std.proofs.lemmas.List.{length-map}
+use Rattle.std.proofs.lemmas.List.{length-map, map-append}
 use Rattle.indexmap.specs.IndexSet.{insert_key}
 use Rattle.string_cache_core.specs.Map.{Holding, with_held, with_last}
 use Rattle.string_cache_core.specs.Tables.{entry_hash}
 use Rattle.string_cache_core.specs.Word.{ticket_of}
-use Rattle.string_cache_core.specs.Kept.{Kept, Pair, pairs_of, map_of, IsKeptTable}
+use Rattle.string_cache_core.specs.Kept.{Kept, Pair, pairs_of, tickets_of, map_of, IsKeptTable}
 use Rattle.string_cache_core.proofs.BucketCounts.{bucket-below, bucket-within}
 use Rattle.string_cache_core.proofs.kept.Bytes.{bytes-fit, text-fits}
 use Rattle.string_cache_core.proofs.kept.Pairs.{map-with-last, kept-moved}
@@ -77,3 +77,14 @@ returns-clause-ok g c =
     map-with-last c.self.inside.lasts.items (pairs_of c.self.inside.entries.entries) (pairs_of c.insert.new.self.entries) c.args.text.now (Some first) c.args.bucket c.args.serial (omega (arith, within, bucket))
     (added-map c.self.inside.entries c.reserve.new.self c.insert.new.self c.in_ok-key.key c.args.text.now c.new.result first c.in_ok-reserve.ensures.entries c.in_ok-key.ensures.ok is c.in-Ok.ensures.updates)
     ∙ ap (λ (kept : Kept). with_last (with_held (map_of kept) c.args.text.now (Some first)) c.args.bucket c.args.serial) c.self.view_is
+
+pub returns-clause-order : goal.returns-clause-order
+returns-clause-order g c =
+    let first : Holding = record { ticket = ticket_of c.args.serial c.args.bucket; holders = 1 } in
+    let is : c.new.result ≡ first = c.new.ensures ∙ ap (λ (t : ℕ). let h : Holding = record { ticket = t; holders = 1 } in h) c.ticket_word-ticket.ensures in
+    let absent = ap (λ (kept : Kept). lookup (bytes_eq c.args.text.now) kept.pairs) c.self.view_is ∙ c.requires.absent in
+    let pushed = pairs-pushed c.self.inside.entries c.reserve.new.self c.insert.new.self c.in_ok-key.key c.args.text.now c.new.result first is
+    c.in_ok-reserve.ensures.entries c.in_ok-key.ensures.ok absent c.in-Ok.ensures.entries in
+    ap tickets_of pushed ∙ map-append (λ (pair : Pair). pair.1.ticket) (pairs_of c.self.inside.entries.entries) ((c.args.text.now, first) ∷ [])
+    ∙ ap (λ (word : ℕ). tickets_of (pairs_of c.self.inside.entries.entries) ++ word ∷ []) (sym c.ticket_word-ticket.ensures)
+    ∙ ap (λ (kept : Kept). tickets_of kept.pairs ++ c.ticket_word-ticket.result ∷ []) c.self.view_is

@@ -1,6 +1,7 @@
-use Rattle.std.proofs.Common.{◌∙◌, ap, sym, ℕ, ◌-◌, Some}
+use Rattle.std.proofs.Common.{◌∙◌, ap, sym, inr, ℕ, ◌-◌, Some}
 use Rattle.string_cache_core.specs.Map.{Holding, with_held}
 use Rattle.string_cache_core.specs.Kept.{map_of}
+use Rattle.string_cache_core.proofs.kept.Pairs.{ticket-there}
 use Rattle.string_cache_core.proofs.calls.Replies.{as_held, given-ticket, none_left, some_left}
 use Rattle.string_cache_core.proofs.table.Table.give_at.Goals as goal
 
@@ -22,3 +23,7 @@ returns-else-holders-eq1-clause-gives g c = λ ticket p.
     given-ticket g.S.StaticAtomSet.tables c.args.self.now.limits m (map_of c.set_holders.new.self) ticket (as_held m ticket p.text p.holders p.found.held)
     (c.set_holders.ensures.map p.text had p.found.there
     ∙ ap (with_held m p.text) (ap (λ (k : ℕ). let left : Holding = record { ticket = ticket; holders = k - 1 } in Some left) (sym n) ∙ sym (some_left had p.some (λ e. test (sym n ∙ e)))))
+
+pub returns-then-holders-eq1-clause-order : goal.returns-then-holders-eq1-clause-order
+returns-then-holders-eq1-clause-order g c = λ ticket p.
+    inr (c.args.at, ticket-there c.args.self.now.pairs c.args.at (p.text, record { ticket = ticket; holders = p.holders }) p.found.there, c.take_out.ensures.order ticket)

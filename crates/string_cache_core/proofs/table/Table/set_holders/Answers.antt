@@ -1,7 +1,7 @@
 use Rattle.std.proofs.Common.{◌∙◌, ap, sym, subst, Some, length, ◌<◌}
 use Rattle.std.specs.Prelude.{slice_get}
 use Rattle.string_cache_core.specs.Map.{with_held}
-use Rattle.string_cache_core.specs.Kept.{Kept, pairs_of, map_of}
+use Rattle.string_cache_core.specs.Kept.{Kept, pairs_of, tickets_of, map_of}
 use Rattle.string_cache_core.proofs.kept.Pairs.{written-kept, written-map, some-pair, map-is, holds_now}
 use Rattle.string_cache_core.proofs.table.Table.set_holders.Goals as goal
 
@@ -19,3 +19,6 @@ returns-clause-map g c = λ text had h.
     (written-map g.S.StaticAtomSet.tables c.self.inside.lasts.items c.self.inside.entries c.write_holders.new.entries c.self.inside.tickets.keys c.self.inside.bytes c.args.at c.args.holders _ there
     c.write_holders.ensures.written c.write_holders.ensures.unique)
     ∙ ap (λ (kept : Kept). with_held (map_of kept) text (Some (holds_now had c.args.holders))) c.self.view_is
+
+pub returns-clause-order : goal.returns-clause-order
+returns-clause-order g c = let now = invariant_of-self g c in sym now.index ∙ c.self.invariant.index ∙ ap (λ (kept : Kept). tickets_of kept.pairs) c.self.view_is

@@ -1,9 +1,10 @@
 use Rattle.std.proofs.Common.{◌∙◌, ap, sym, subst, arith, ◌-◌, ℕ, None}
 use Rattle.std.specs.Prelude.{slice_get}
+use Rattle.std.specs.List.{swap_remove}
 use Rattle.string_cache_core.specs.Map.{with_held}
-use Rattle.string_cache_core.specs.Kept.{Kept, pairs_of, map_of, IsKeptTable}
+use Rattle.string_cache_core.specs.Kept.{Kept, pairs_of, tickets_of, map_of, IsKeptTable}
 use Rattle.string_cache_core.proofs.kept.Pairs.{map-is}
-use Rattle.string_cache_core.proofs.kept.Taking.{bytes-there, kept-taken, taken-map}
+use Rattle.string_cache_core.proofs.kept.Taking.{bytes-there, kept-taken, order-left, taken-map}
 use Rattle.string_cache_core.proofs.table.Table.take_out.Goals as goal
 
 pub overflow_sub-self : goal.overflow_sub-self
@@ -27,3 +28,9 @@ returns-clause-map g c = λ text had h.
     map-is c.self.inside.lasts.items (pairs_of c.self.inside.entries.entries) (pairs_of c.swap_remove_index.new.self.entries) text None
     (taken-map c.self.inside.entries c.swap_remove_index.new.self c.args.at (c.in-Some.text, c.in-Some.field-0-1) (text, had) (sym c.in-Some.ensures.entry) there c.in-Some.ensures.updates)
     ∙ ap (λ (kept : Kept). with_held (map_of kept) text None) c.self.view_is
+
+pub returns-clause-order : goal.returns-clause-order
+returns-clause-order g c = λ ticket.
+    order-left g.S.StaticAtomSet.tables c.self.inside.lasts.items c.self.inside.entries c.swap_remove_index.new.self c.self.inside.tickets.keys c.swap_remove_index-2.new.self.keys c.self.inside.bytes c.args.at
+    c.in-Some-swap_remove_index.field-0 (c.in-Some.text, c.in-Some.field-0-1) (sym c.in-Some.ensures.entry) c.in-Some.ensures.entries c.in-Some.ensures.len c.in-Some-swap_remove_index.ensures.keys c.self.invariant ticket
+    ∙ ap (λ (kept : Kept). swap_remove (tickets_of kept.pairs) c.args.at ticket) c.self.view_is

@@ -1,0 +1,14 @@
+use Rattle.std.proofs.Common.{◌∙◌, ap, sym, refl, subst, ℕ, Some}
+use Rattle.string_cache_core.specs.Kept.{map_of}
+use Rattle.string_cache_core.specs.Map.{Holding}
+use Rattle.string_cache_core.specs.Table.{HasWord}
+use Rattle.string_cache_core.proofs.calls.IfHeld.{held-word, formed-word, no-word}
+use Rattle.string_cache_core.proofs.calls.Keep.{owned-held}
+use Rattle.string_cache_core.proofs.table.Table.get.Goals as goal
+
+pub returns-in-Some-clause-word : goal.returns-in-Some-clause-word
+returns-in-Some-clause-word g c =
+    let found = c.in-Some.ensures.1 in
+    let same = c.held_at-ticket.ensures.pair (c.args.text.now, c.in-Some.ensures.0) found.there in
+    subst (HasWord g.S.StaticAtomSet.tables (map_of c.args.self.now) c.args.text.now) (ap (λ (h : Holding). h.ticket) same)
+    (held-word g.S.StaticAtomSet.tables (map_of c.args.self.now) c.is_sound.ensures c.args.text.now c.in-Some.ensures.0 found.held)

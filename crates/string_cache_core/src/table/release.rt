@@ -1,0 +1,110 @@
+//! Holders that come and go by their words.
+
+ghost use Rattle.std.specs.Prelude.{IsTrue, ◌≡◌, ◌≢◌, ℕ, [], ◌∷◌, ◌++◌, ◌⊎◌, ◌↔◌, IfErr, IfOk, IfSome, IsSome, OnErr, List};
+ghost use Rattle.string_cache_core.specs.declared.faults.Fault.TheVariants.{FullCount};
+ghost use Rattle.string_cache_core.specs.Order.{GoesFrom};
+ghost use Rattle.string_cache_core.specs.Table.{AreHeld, Clones, ClonesIfHeld, Gives, GivesIfHeld, HasOneTextEach, IsHeld, KeepsWord};
+
+use super::{Table, is_fixed};
+use crate::Fault;
+use crate::static_sets::StaticAtomSet;
+
+impl<S: StaticAtomSet> Table<S> {
+    ghost use Rattle.string_cache_core.specs.Kept.{map_of, tickets_of};
+
+    /// One holder more of a word that is held. An inline word and a static word have no number of holders: nothing changes.
+    ///
+    /// `FullCount` where the ticket's text has as many holders as the limits allow. A refusal changes nothing.
+    pub fn clone_word(&mut self, word: u64) -> Result<u64, Fault>
+        requires { IsHeld S.tables (map_of self.old) word }
+        ensures limits { self.new.limits ≡ self.old.limits }
+        ensures clones { Clones S.tables self.old.limits (map_of self.old) word result (map_of self.new) }
+        ensures word { IfOk result (λ clone. clone ≡ word) }
+        ensures held { IfOk result (λ clone. IsHeld S.tables (map_of self.new) clone) }
+        ensures listed { (words : List ℕ) → AreHeld S.tables (map_of self.old) words → IfOk result (λ clone. AreHeld S.tables (map_of self.new) (clone ∷ words)) }
+        ensures keeps { (other : ℕ) → KeepsWord S.tables (map_of self.old) (map_of self.new) other }
+        ensures apart { HasOneTextEach S.tables (map_of self.new) }
+        ensures order { tickets_of self.new.pairs ≡ tickets_of self.old.pairs }
+        ensures fault { IfErr result (λ fault. fault ≡ FullCount) }
+        ensures err { OnErr result (self.new ≡ self.old) }
+    {
+        match self.clone_held(word)? {
+            Some(clone) => Ok(clone),
+            None => unreachable!(),
+        }
+    }
+
+    /// One holder more of a word, as `clone_word` says, where it is held. `None`, and nothing changes, for any other number.
+    ///
+    /// `FullCount` where the ticket's text has as many holders as the limits allow. A refusal changes nothing.
+    pub fn clone_held(&mut self, word: u64) -> Result<Option<u64>, Fault>
+        ensures limits { self.new.limits ≡ self.old.limits }
+        ensures held { IfOk result (λ clone. IsSome clone ↔ IsHeld S.tables (map_of self.old) word) }
+        ensures clones { ClonesIfHeld S.tables self.old.limits (map_of self.old) word result (map_of self.new) }
+        ensures word { IfOk result (λ clone. IfSome clone (λ clone. clone ≡ word)) }
+        ensures listed { (words : List ℕ) → AreHeld S.tables (map_of self.old) words → IfOk result (λ clone. IfSome clone (λ clone. AreHeld S.tables (map_of self.new) (clone ∷ words))) }
+        ensures keeps { (other : ℕ) → KeepsWord S.tables (map_of self.old) (map_of self.new) other }
+        ensures apart { HasOneTextEach S.tables (map_of self.new) }
+        ensures order { tickets_of self.new.pairs ≡ tickets_of self.old.pairs }
+        ensures fault { IfErr result (λ fault. fault ≡ FullCount) }
+        ensures err { OnErr result (self.new ≡ self.old) }
+    {
+        self.is_sound(); // before and after, as `listed` and `apart` say
+        let Some(at) = self.place_of(word) else {
+            return Ok(if is_fixed::<S>(word) {
+                Some(word)
+            } else {
+                None
+            });
+        };
+        let outcome = self.add_holder(at);
+        self.is_sound();
+        match outcome {
+            Ok(clone) => Ok(Some(clone)),
+            Err(fault) => Err(fault),
+        }
+    }
+
+    /// One holder less of a word that is held. The last holder of a ticket takes the text with it; the bucket keeps its last
+    /// serial, so that the ticket never comes again.
+    pub fn give(&mut self, word: u64)
+        requires { IsHeld S.tables (map_of self.old) word }
+        ensures limits { self.new.limits ≡ self.old.limits }
+        ensures gives { Gives S.tables self.old.limits (map_of self.old) word (map_of self.new) }
+        ensures listed { (before after : List ℕ) → AreHeld S.tables (map_of self.old) (before ++ word ∷ after) → AreHeld S.tables (map_of self.new) (before ++ after) }
+        ensures keeps { (other : ℕ) → (other ≢ word) ⊎ IsHeld S.tables (map_of self.new) other → KeepsWord S.tables (map_of self.old) (map_of self.new) other }
+        ensures apart { HasOneTextEach S.tables (map_of self.new) }
+        ensures order { GoesFrom self.old word self.new }
+    {
+        let _ = self.release(word);
+    }
+
+    /// One holder less of a word, as `give` says, where it is held: `true`. For any other number `false`, and nothing changes.
+    pub fn release(&mut self, word: u64) -> bool
+        ensures limits { self.new.limits ≡ self.old.limits }
+        ensures held { IsTrue result ↔ IsHeld S.tables (map_of self.old) word }
+        ensures gives { GivesIfHeld S.tables self.old.limits (map_of self.old) word result (map_of self.new) }
+        ensures listed { (before after : List ℕ) → AreHeld S.tables (map_of self.old) (before ++ word ∷ after) → AreHeld S.tables (map_of self.new) (before ++ after) }
+        ensures keeps { (other : ℕ) → (other ≢ word) ⊎ IsHeld S.tables (map_of self.new) other → KeepsWord S.tables (map_of self.old) (map_of self.new) other }
+        ensures apart { HasOneTextEach S.tables (map_of self.new) }
+        ensures order { GoesFrom self.old word self.new }
+    {
+        self.is_sound(); // before and after, as `keeps` and `apart` say
+        let Some(at) = self.place_of(word) else {
+            return is_fixed::<S>(word);
+        };
+        self.give_at(at);
+        self.is_sound();
+        true
+    }
+
+    /// Ends every entry, whoever holds it, and keeps the memory. Each bucket keeps its last serial, so that no ticket comes
+    /// again: the words that were handed out are held no more, but for inline and static ones.
+    pub fn clear(&mut self)
+        ensures { self.new ≡ record { limits = self.old.limits; lasts = self.old.lasts; pairs = [] } }
+    {
+        self.entries.clear();
+        self.tickets.clear();
+        self.bytes = 0;
+    }
+}

@@ -1,0 +1,37 @@
+//! Room for texts that are to come.
+
+ghost use Rattle.std.specs.Prelude.{◌≡◌, ◌-◌, IfErr, IfOk};
+ghost use Rattle.string_cache_core.specs.declared.faults.Fault.TheVariants.{Memory};
+ghost use Rattle.string_cache_core.specs.Layout.{holder_bound, serial_bound, usual_buckets};
+ghost use Rattle.string_cache_core.specs.Map.{empty_map};
+
+use super::Table;
+use crate::Fault;
+use crate::static_sets::StaticAtomSet;
+use std::alloc::Global;
+
+impl<S: StaticAtomSet> Table<S> {
+    ghost use Rattle.string_cache_core.specs.Kept.{map_of};
+
+    /// A table as `new` makes it, with room for this number of dynamic texts. `Memory` where it finds none.
+    pub fn with_capacity(alloc: Global, texts: usize) -> Result<Self, Fault>
+        ensures empty { IfOk result (λ table. map_of table ≡ empty_map usual_buckets) }
+        ensures limits { IfOk result (λ table. table.limits ≡ record { holders = holder_bound - 1; serials = serial_bound - 1 }) }
+        ensures fault { IfErr result (λ fault. fault ≡ Memory) }
+    {
+        let mut table = Table::new(alloc)?;
+        table.reserve(texts)?;
+        Ok(table)
+    }
+
+    /// Makes room for this number of dynamic texts more: each of them then asks for no memory but that of its bytes. `Memory`
+    /// where it finds none. What is held stays in both outcomes.
+    pub fn reserve(&mut self, more: usize) -> Result<(), Fault>
+        ensures same { self.new ≡ self.old }
+        ensures fault { IfErr result (λ fault. fault ≡ Memory) }
+    {
+        self.entries.reserve(more)?;
+        self.tickets.reserve(more)?;
+        Ok(())
+    }
+}
