@@ -1,4 +1,4 @@
 -- The definitions that contracts cite.
+pub mod Lengths
 pub mod Prices
-pub mod Symbols
 pub mod Tags

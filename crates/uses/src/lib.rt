@@ -13,6 +13,7 @@ mod json;
 mod prices;
 mod sharing;
 mod symbols;
+mod tables;
 mod tags;
 #[cfg(test)]
 mod tests;
@@ -28,7 +29,8 @@ use std::collections::HashMap;
 use std::sync::Wait;
 use string_cache::dynamic_set::Set;
 use string_cache::{DefaultAtom, Fault};
-pub use symbols::{WordText, is_keyword, reads_back, same_word, text_of};
+pub use symbols::{is_keyword, reads_back, same_word};
+pub use tables::{File, Function, Program, first_text, is_known, lengths_of_both};
 pub use tags::{TAGS, Tag, Tags, finds_all, is_field};
 
 /// How one name stands to another.

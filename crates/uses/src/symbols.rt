@@ -1,13 +1,11 @@
 //! The names of a program, for one thread.
 
-ghost use Rattle.std.specs.Prelude.{◌≡◌, ◌↔◌, ℕ, List, IfOk, IfSome, IsSome, IsTrue, string_bytes};
+ghost use Rattle.std.specs.Prelude.{◌≡◌, ◌↔◌, ℕ, List, IfOk, IsTrue, string_bytes};
 ghost use Rattle.string_cache_core.specs.Kept.{map_of};
-ghost use Rattle.string_cache_core.specs.Table.{AreHeld, HasWord, IsHeld};
-ghost use Rattle.uses.specs.Symbols.{text_in};
+ghost use Rattle.string_cache_core.specs.Table.{AreHeld};
 
 use std::alloc::Global;
 use string_cache::table::Table;
-use string_cache::word::{InlineText, unpack_inline};
 use string_cache::{EmptyStaticAtomSet, Fault, StaticAtomSet};
 
 /// Whether two identifiers have one word: exactly if they are one text.
@@ -36,36 +34,6 @@ pub fn is_keyword(
     Ok(same)
 }
 
-/// The text of a word: its own, or one that a table lends.
-#[derive(Clone, Copy)]
-pub enum WordText<'t> {
-    Inline(InlineText),
-    Lent(&'t str),
-}
-
-impl<'t> WordText<'t> {
-    /// The text.
-    pub fn as_str(&self) -> &str
-        ensures { result.now ≡ text_in self.now }
-    {
-        match self {
-            WordText::Inline(text) => text.as_str(),
-            WordText::Lent(text) => text,
-        }
-    }
-}
-
-/// The text of any word that a table holds.
-pub fn text_of<Static: StaticAtomSet>(table: &Table<Static>, word: u64) -> Option<WordText<'_>>
-    ensures found { IsHeld Static.tables (map_of table.now) word → IsSome result }
-    ensures text { IfSome result (λ text. HasWord Static.tables (map_of table.now) (text_in text) word) }
-{
-    match unpack_inline(word) {
-        Some(text) => Some(WordText::Inline(text)),
-        None => Some(WordText::Lent(table.text(word)?)),
-    }
-}
-
 /// Interns a name, reads its text back, and gives the word up again. What was held before still is.
 pub fn reads_back<Static: StaticAtomSet>(
     alloc: Global,
@@ -76,10 +44,10 @@ pub fn reads_back<Static: StaticAtomSet>(
     ensures held { (words : List ℕ) → AreHeld Static.tables (map_of table.old) words → AreHeld Static.tables (map_of table.new) words }
 {
     let word = table.intern(name)?;
-    let copy = match text_of(table, word) {
+    let copy = match table.text_of(word) {
         Some(text) => String::from_str(alloc, text.as_str()),
         None => unreachable!(), // the word is held
     };
-    table.give(word);
+    table.release(word);
     Ok(copy?)
 }

@@ -169,7 +169,50 @@ fn words_of_all_forms_have_texts(rt: HostRuntime) -> Result<(), Fail> {
         assert_eq!(rt; text.as_str(), name);
     }
     assert_eq!(rt; table.entries(), 0);
-    assert!(rt; text_of(&table, 3).is_none());
+    assert!(rt; table.text_of(3).is_none());
+    Ok(())
+}
+
+/// A table that holds these names.
+fn table_of(alloc: Global, names: &[&str]) -> Result<Table<EmptyStaticAtomSet>, Fault> {
+    let mut table = Table::new(alloc)?;
+    for name in names {
+        table.intern(name)?;
+    }
+    Ok(table)
+}
+
+#[test]
+fn names_are_looked_up(rt: HostRuntime) -> Result<(), Fail> {
+    let table = table_of(rt.alloc(), &["pear tree", "m\u{f6}glich"])?;
+    for (name, wanted) in [("pear tree", true), ("plum tree", false), ("plum", true)] {
+        assert_eq!(rt; is_known(&table, name), wanted, "of {name:?}");
+    }
+    assert_eq!(rt; first_text(&table), Some("pear tree"));
+    Ok(())
+}
+
+#[test]
+fn a_table_is_read_by_two_threads(rt: HostRuntime) -> Result<(), Fail> {
+    let table = table_of(rt.alloc(), &["pear tree", "m\u{f6}glich"])?;
+    let (Some(pear), Some(plum)) = (table.get("pear tree"), table.get("plum")) else {
+        panic!(rt; "both are known")
+    };
+    assert_eq!(rt;
+        lengths_of_both(&rt, &table, pear, plum),
+        (Some(9), Some(4))
+    );
+    assert_eq!(rt; lengths_of_both(&rt, &table, 0, plum), (None, Some(4)));
+    Ok(())
+}
+
+#[test]
+fn names_of_two_kinds_stand_apart(rt: HostRuntime) -> Result<(), Fail> {
+    let mut program = Program::new(rt.alloc())?;
+    let (file, function) = program.declare("source/main.rt", "main_function")?;
+    let (again, other) = program.declare("source/main.rt", "other_function")?;
+    assert!(rt; file == again && function != other);
+    assert!(rt; program.forget(function) && !program.forget(function));
     Ok(())
 }
 

@@ -1,0 +1,117 @@
+//! Names in blocks, one in the other.
+
+use crate::letters::is_keyword;
+use indexmap::IndexMap;
+use std::alloc::Global;
+use std::fmt::Write;
+use string_cache_core::static_sets::EmptyStaticAtomSet;
+use string_cache_core::table::Table;
+
+/// What is known of a name.
+#[derive(Clone, Copy)]
+struct Usage {
+    /// Where it came first.
+    line: u64,
+    /// How often it came.
+    times: u64,
+}
+
+/// An open block, with the names that came first in it.
+#[derive(Drop)]
+struct Scope {
+    /// Where it begins.
+    line: u64,
+    /// By their words, each of which the table holds once.
+    names: IndexMap<u64, Usage>,
+}
+
+/// The blocks that are open, and what is told of those that ended.
+#[derive(Drop)]
+pub struct Scopes {
+    alloc: Global,
+    table: Table<EmptyStaticAtomSet>,
+    open: Vec<Scope>,
+    lines: String,
+}
+
+impl Scopes {
+    /// The whole text, as a block that is open.
+    pub fn new(alloc: Global) -> Result<Self, anyhow::Error> {
+        let mut scopes = Scopes {
+            alloc,
+            table: Table::new(alloc)?,
+            open: Vec::new(alloc),
+            lines: String::new(alloc),
+        };
+        scopes.open(1)?;
+        Ok(scopes)
+    }
+
+    /// A block begins in this line.
+    pub fn open(&mut self, line: u64) -> Result<(), anyhow::Error> {
+        let names = IndexMap::new(self.alloc);
+        self.open.push(Scope { line, names })?;
+        Ok(())
+    }
+
+    /// A name comes in this line: once more in the block that has it, or first in the innermost one.
+    pub fn see(&mut self, name: &str, line: u64) -> Result<(), anyhow::Error> {
+        if is_keyword(name) {
+            return Ok(());
+        }
+        if let Some(word) = self.table.get(name) {
+            if self.count(word) {
+                return Ok(());
+            }
+        }
+        let word = self.table.intern(name)?;
+        if let Some(scope) = self.open.last_mut() {
+            scope.names.insert(word, Usage { line, times: 1 })?;
+        }
+        Ok(())
+    }
+
+    /// Counts a name once more, in the innermost block that has it. `false` where none has.
+    fn count(&mut self, word: u64) -> bool {
+        for scope in self.open.iter_mut().rev() {
+            if let Some(usage) = scope.names.get_mut(&word) {
+                usage.times = usage.times.saturating_add(1);
+                return true;
+            }
+        }
+        false
+    }
+
+    /// The innermost block ends in this line. An end that no block has is overlooked.
+    pub fn close(&mut self, line: u64) -> Result<(), anyhow::Error> {
+        if self.open.len() > 1 {
+            self.end_last(line)?;
+        }
+        Ok(())
+    }
+
+    /// The text ends in this line, and so does each block that is still open. What is told of all.
+    pub fn end(mut self, line: u64) -> Result<String, anyhow::Error> {
+        for _ in 0..self.open.len() {
+            self.end_last(line)?;
+        }
+        Ok(self.lines)
+    }
+
+    /// Tells of the names of the innermost block, and gives them up.
+    fn end_last(&mut self, line: u64) -> Result<(), anyhow::Error> {
+        let Some(scope) = self.open.pop() else {
+            return Ok(());
+        };
+        if !scope.names.is_empty() {
+            writeln!(self.lines, "lines {} to {line}", scope.line)?;
+        }
+        for (word, usage) in scope.names.iter() {
+            if let Some(name) = self.table.text_of(*word) {
+                writeln!(self.lines, "  {name} {} {}", usage.line, usage.times)?;
+            }
+            self.table.release(*word);
+        }
+        Ok(())
+    }
+}
