@@ -1,5 +1,5 @@
 -- The order of the texts that a table holds, told by their tickets.
-use Rattle.std.specs.Prelude.{◌≡◌, ℕ, ◌⊎◌, List, [], ◌∷◌, ◌++◌, slice_get, Some}
+use Rattle.std.specs.Prelude.{◌≡◌, ℕ, ◌⊎◌, [], ◌∷◌, ◌++◌, slice_get, Some}
 use Rattle.std.specs.List.{swap_remove}
 use Rattle.string_cache_core.specs.Kept.{Kept, tickets_of}
 

@@ -1,9 +1,9 @@
 -- Calls by a word that may or may not be held.
 use Rattle.std.proofs.Common.{◌≡◌, ◌∙◌, sym, subst, refl, ℕ, inl, inr, Bool, true, false, List, Option, None, Some, Result, Ok, Err}
 use Rattle.std.proofs.Common.{IsTrue}
-use Rattle.std.specs.Prelude.{◌↔◌, MatchOption}
+use Rattle.std.specs.Prelude.{◌↔◌}
 use Rattle.std.proofs.lemmas.Bool.{false≢true}
-use Rattle.std.proofs.lemmas.Option.{none-some, same_Some}
+use Rattle.std.proofs.lemmas.Option.{none-some}
 use Rattle.string_cache_core.specs.Bounds.{Bounds}
 use Rattle.string_cache_core.specs.declared.faults.Fault.{Fault}
 use Rattle.string_cache_core.specs.declared.static_sets.TextForm.{TextForm}

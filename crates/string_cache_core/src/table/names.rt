@@ -12,7 +12,7 @@ use super::{Name, Table, WordText};
 use crate::Fault;
 use crate::static_sets::{EmptyStaticAtomSet, StaticAtomSet};
 use std::alloc::Global;
-use std::marker::{Model, PhantomData};
+use std::marker::PhantomData;
 
 /// The names of one kind, as a table keeps them: their words are `Name<K>`. Where two tables are at hand, as one of files and one of
 /// functions, the name of one can't be handed to the other.
@@ -22,14 +22,6 @@ pub struct Names<K, S: StaticAtomSet = EmptyStaticAtomSet> {
     kind: PhantomData<K>,
 }
 
-impl<K, S: StaticAtomSet> Model for Names<K, S> {
-    ghost use Rattle.string_cache_core.specs.Kept.{Kept};
-
-    ghost Value = { Kept };
-
-    ghost view = { λ names. names.table };
-}
-
 impl<K, S: StaticAtomSet> Names<K, S> {
     ghost use Rattle.string_cache_core.specs.Kept.{map_of};
     ghost use Rattle.string_cache_core.specs.Name.{word_in, word_in_some};
@@ -37,8 +29,8 @@ impl<K, S: StaticAtomSet> Names<K, S> {
 
     /// No names yet. `Memory` where the table's buckets find none.
     pub fn new(alloc: Global) -> Result<Self, Fault>
-        ensures empty { IfOk result (λ names. map_of names ≡ empty_map usual_buckets) }
-        ensures limits { IfOk result (λ names. names.limits ≡ record { holders = holder_bound - 1; serials = serial_bound - 1 }) }
+        ensures empty { IfOk result (λ names. map_of names.table ≡ empty_map usual_buckets) }
+        ensures limits { IfOk result (λ names. names.table.limits ≡ record { holders = holder_bound - 1; serials = serial_bound - 1 }) }
         ensures fault { IfErr result (λ fault. fault ≡ Memory) }
     {
         Ok(Names::of_table(Table::new(alloc)?))
@@ -46,7 +38,7 @@ impl<K, S: StaticAtomSet> Names<K, S> {
 
     /// The names that a table holds, with its limits. What words it gave out, `name_of` takes.
     pub fn of_table(table: Table<S>) -> Self
-        ensures { result ≡ table }
+        ensures { result.table ≡ table }
     {
         Names {
             table,
@@ -56,7 +48,7 @@ impl<K, S: StaticAtomSet> Names<K, S> {
 
     /// The table, to read in: its numbers, and each text by `iter`.
     pub fn table(&self) -> &Table<S>
-        ensures { result.now ≡ self.now }
+        ensures { result.now ≡ self.now.table }
     {
         &self.table
     }
@@ -65,14 +57,14 @@ impl<K, S: StaticAtomSet> Names<K, S> {
     ///
     /// `FullCount`, `TicketsSpent` and `Memory` come as there. A refusal changes nothing.
     pub fn intern(&mut self, text: &str) -> Result<Name<K>, Fault>
-        ensures interns { Interns S.tables self.old.limits (map_of self.old) text.now (word_in result) (map_of self.new) }
-        ensures word { IfOk result (λ name. HasWord S.tables (map_of self.new) text.now name.word) }
-        ensures held { IfOk result (λ name. IsHeld S.tables (map_of self.new) name.word) }
-        ensures listed { (words : List ℕ) → AreHeld S.tables (map_of self.old) words → IfOk result (λ name. AreHeld S.tables (map_of self.new) (name.word ∷ words)) }
-        ensures keeps { (other : ℕ) → KeepsWord S.tables (map_of self.old) (map_of self.new) other }
-        ensures apart { HasOneTextEach S.tables (map_of self.new) }
+        ensures interns { Interns S.tables self.old.table.limits (map_of self.old.table) text.now (word_in result) (map_of self.new.table) }
+        ensures word { IfOk result (λ name. HasWord S.tables (map_of self.new.table) text.now name.word) }
+        ensures held { IfOk result (λ name. IsHeld S.tables (map_of self.new.table) name.word) }
+        ensures listed { (words : List ℕ) → AreHeld S.tables (map_of self.old.table) words → IfOk result (λ name. AreHeld S.tables (map_of self.new.table) (name.word ∷ words)) }
+        ensures keeps { (other : ℕ) → KeepsWord S.tables (map_of self.old.table) (map_of self.new.table) other }
+        ensures apart { HasOneTextEach S.tables (map_of self.new.table) }
         ensures fault { IfErr result IsInternFault }
-        ensures err { OnErr result (self.new ≡ self.old) }
+        ensures err { OnErr result (self.new.table ≡ self.old.table) }
     {
         let word = self.table.intern(text)?;
         Ok(Name {
@@ -83,7 +75,7 @@ impl<K, S: StaticAtomSet> Names<K, S> {
 
     /// The name of a text that has one, as `Table::get` finds its word. No holder is added.
     pub fn get(&self, text: &str) -> Option<Name<K>>
-        ensures { MatchOption result ((word : ℕ) → ¬ (HasWord S.tables (map_of self.now) text.now word)) (λ name. HasWord S.tables (map_of self.now) text.now name.word) }
+        ensures { MatchOption result ((word : ℕ) → ¬ (HasWord S.tables (map_of self.now.table) text.now word)) (λ name. HasWord S.tables (map_of self.now.table) text.now name.word) }
     {
         let word = self.table.get(text)?;
         Some(Name {
@@ -94,7 +86,7 @@ impl<K, S: StaticAtomSet> Names<K, S> {
 
     /// The name with a word that is held. `None` for any other number.
     pub fn name_of(&self, word: u64) -> Option<Name<K>>
-        ensures held { IsSome result ↔ IsHeld S.tables (map_of self.now) word }
+        ensures held { IsSome result ↔ IsHeld S.tables (map_of self.now.table) word }
         ensures word { IfSome result (λ name. name.word ≡ word) }
     {
         if !self.table.holds(word) {
@@ -108,9 +100,9 @@ impl<K, S: StaticAtomSet> Names<K, S> {
 
     /// The text of a name that is held. `None` for one that was given up, or is another table's.
     pub fn text_of(&self, name: Name<K>) -> Option<WordText<'_>>
-        ensures held { IsSome result ↔ IsHeld S.tables (map_of self.now) name.word }
-        ensures word { IfSome result (λ lent. HasWord S.tables (map_of self.now) (text_in lent) name.word) }
-        ensures same { IfSome result (λ lent. (text : List ℕ) → IsUtf8 text → HasWord S.tables (map_of self.now) text name.word → text_in lent ≡ text) }
+        ensures held { IsSome result ↔ IsHeld S.tables (map_of self.now.table) name.word }
+        ensures word { IfSome result (λ lent. HasWord S.tables (map_of self.now.table) (text_in lent) name.word) }
+        ensures same { IfSome result (λ lent. (text : List ℕ) → IsUtf8 text → HasWord S.tables (map_of self.now.table) text name.word → text_in lent ≡ text) }
     {
         self.table.text_of(name.word)
     }
@@ -119,12 +111,12 @@ impl<K, S: StaticAtomSet> Names<K, S> {
     ///
     /// `FullCount` as from `Table::clone_held`. A refusal changes nothing.
     pub fn clone_held(&mut self, name: Name<K>) -> Result<Option<Name<K>>, Fault>
-        ensures clones { ClonesIfHeld S.tables self.old.limits (map_of self.old) name.word (word_in_some result) (map_of self.new) }
-        ensures listed { (words : List ℕ) → AreHeld S.tables (map_of self.old) words → IfOk result (λ clone. IfSome clone (λ clone. AreHeld S.tables (map_of self.new) (clone.word ∷ words))) }
-        ensures keeps { (other : ℕ) → KeepsWord S.tables (map_of self.old) (map_of self.new) other }
-        ensures apart { HasOneTextEach S.tables (map_of self.new) }
+        ensures clones { ClonesIfHeld S.tables self.old.table.limits (map_of self.old.table) name.word (word_in_some result) (map_of self.new.table) }
+        ensures listed { (words : List ℕ) → AreHeld S.tables (map_of self.old.table) words → IfOk result (λ clone. IfSome clone (λ clone. AreHeld S.tables (map_of self.new.table) (clone.word ∷ words))) }
+        ensures keeps { (other : ℕ) → KeepsWord S.tables (map_of self.old.table) (map_of self.new.table) other }
+        ensures apart { HasOneTextEach S.tables (map_of self.new.table) }
         ensures fault { IfErr result (λ fault. fault ≡ FullCount) }
-        ensures err { OnErr result (self.new ≡ self.old) }
+        ensures err { OnErr result (self.new.table ≡ self.old.table) }
     {
         match self.table.clone_held(name.word) {
             Ok(Some(_)) => Ok(Some(name)),
@@ -135,18 +127,18 @@ impl<K, S: StaticAtomSet> Names<K, S> {
 
     /// One holder less of a name that is held: `true`. For any other `false`, and nothing changes.
     pub fn release(&mut self, name: Name<K>) -> bool
-        ensures held { IsTrue result ↔ IsHeld S.tables (map_of self.old) name.word }
-        ensures gives { GivesIfHeld S.tables self.old.limits (map_of self.old) name.word result (map_of self.new) }
-        ensures listed { (before after : List ℕ) → AreHeld S.tables (map_of self.old) (before ++ name.word ∷ after) → AreHeld S.tables (map_of self.new) (before ++ after) }
-        ensures keeps { (other : ℕ) → (other ≢ name.word) ⊎ IsHeld S.tables (map_of self.new) other → KeepsWord S.tables (map_of self.old) (map_of self.new) other }
-        ensures apart { HasOneTextEach S.tables (map_of self.new) }
+        ensures held { IsTrue result ↔ IsHeld S.tables (map_of self.old.table) name.word }
+        ensures gives { GivesIfHeld S.tables self.old.table.limits (map_of self.old.table) name.word result (map_of self.new.table) }
+        ensures listed { (before after : List ℕ) → AreHeld S.tables (map_of self.old.table) (before ++ name.word ∷ after) → AreHeld S.tables (map_of self.new.table) (before ++ after) }
+        ensures keeps { (other : ℕ) → (other ≢ name.word) ⊎ IsHeld S.tables (map_of self.new.table) other → KeepsWord S.tables (map_of self.old.table) (map_of self.new.table) other }
+        ensures apart { HasOneTextEach S.tables (map_of self.new.table) }
     {
         self.table.release(name.word)
     }
 
     /// Ends every entry, as `Table::clear`.
     pub fn clear(&mut self)
-        ensures { self.new ≡ record { limits = self.old.limits; lasts = self.old.lasts; pairs = [] } }
+        ensures { self.new.table ≡ record { limits = self.old.table.limits; lasts = self.old.table.lasts; pairs = [] } }
     {
         self.table.clear();
     }

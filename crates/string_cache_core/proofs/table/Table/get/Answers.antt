@@ -1,9 +1,8 @@
-use Rattle.std.proofs.Common.{◌∙◌, ap, sym, refl, subst, ℕ, Some}
+use Rattle.std.proofs.Common.{ap, subst}
 use Rattle.string_cache_core.specs.Kept.{map_of}
 use Rattle.string_cache_core.specs.Map.{Holding}
 use Rattle.string_cache_core.specs.Table.{HasWord}
-use Rattle.string_cache_core.proofs.calls.IfHeld.{held-word, formed-word, no-word}
-use Rattle.string_cache_core.proofs.calls.Keep.{owned-held}
+use Rattle.string_cache_core.proofs.calls.IfHeld.{held-word}
 use Rattle.string_cache_core.proofs.table.Table.get.Goals as goal
 
 pub returns-in-Some-clause-word : goal.returns-in-Some-clause-word

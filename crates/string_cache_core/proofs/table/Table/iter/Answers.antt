@@ -1,4 +1,4 @@
-use Rattle.std.proofs.Common.{◌∙◌, ap, sym, subst, Some, ◌≡◌, ℕ}
+use Rattle.std.proofs.Common.{◌∙◌, ap, subst, Some, ◌≡◌, ℕ}
 use Rattle.std.specs.Prelude.{slice_get}
 use Rattle.std.specs.List.{IsDistinct}
 use Rattle.std.specs.Map.{keys_of}
