@@ -1,9 +1,9 @@
 /*
  * Preloaded by tools/refused.py over a built test: counts the requests between the two lines "== .." that the test writes on its
  * standard output, those for memory or, where REFUSE_WHAT is `starts`, the starts of threads, and refuses those from number
- * REFUSE_FIRST to REFUSE_LAST. At the end it writes four numbers to the file descriptor REFUSE_REPORT: the requests, how many were
- * refused, how many blocks more the program had after the call than before it, and how many it still had when it ended. Blocks that
- * the C library asks for itself, as for a thread, count as requests for memory alone.
+ * REFUSE_FIRST to REFUSE_LAST. At the end it writes five numbers to the file descriptor REFUSE_REPORT: the requests, how many were
+ * refused, how many blocks more the program had after the call than before it, how many it still had when it ended, and how many bytes
+ * the call asked for. Blocks that the C library asks for itself, as for a thread, count as requests for memory alone.
  *
  * It includes nothing, so that the kit's compiler is enough. For x86-64 Linux with glibc.
  */
@@ -49,7 +49,7 @@ enum kind { MEMORY, START };
 typedef int starter(unsigned long *, const void *, void *(*)(void *), void *);
 
 static _Atomic int calling;
-static _Atomic long requests, refused, blocks;
+static _Atomic long requests, refused, blocks, bytes;
 static long blocks_before, blocks_after;
 static long refuse_first, refuse_last;
 static enum kind refuse_what;
@@ -92,10 +92,10 @@ __attribute__((constructor)) static void begin(void) {
     refuse_last = number("REFUSE_LAST");
 }
 
-/* Writes the four numbers. */
+/* Writes the five numbers. */
 static void report(void) {
-    dprintf((int)number("REFUSE_REPORT"), "%ld %ld %ld %ld\n", (long)requests, (long)refused, blocks_after - blocks_before,
-            (long)blocks);
+    dprintf((int)number("REFUSE_REPORT"), "%ld %ld %ld %ld %ld\n", (long)requests, (long)refused, blocks_after - blocks_before,
+            (long)blocks, (long)bytes);
 }
 
 /* How a built program ends that can start threads. */
@@ -128,44 +128,59 @@ static int refuses_memory(void) {
     return 1;
 }
 
+/* Whether the code at this address is the program's. */
+static int is_program(void *caller) {
+    unsigned long at = (unsigned long)caller;
+    return at >= program_start && at < program_end;
+}
+
 /* Notes a block that the code at this address got (1) or gave back (-1). */
 static void note(void *caller, long change) {
-    unsigned long at = (unsigned long)caller;
-    if (at >= program_start && at < program_end)
+    if (is_program(caller))
         blocks += change;
 }
 
-static void *noted(void *caller, void *block) {
-    if (block)
+/* Notes the bytes that the code at this address asked for and got. */
+static void note_bytes(void *caller, size_t size) {
+    if (calling && is_program(caller))
+        bytes += (long)size;
+}
+
+static void *noted(void *caller, void *block, size_t size) {
+    if (block) {
         note(caller, 1);
+        note_bytes(caller, size);
+    }
     return block;
 }
 
 void *malloc(size_t size) {
-    return refuses_memory() ? NULL : noted(__builtin_return_address(0), __libc_malloc(size));
+    return refuses_memory() ? NULL : noted(__builtin_return_address(0), __libc_malloc(size), size);
 }
 
 void *calloc(size_t count, size_t size) {
-    return refuses_memory() ? NULL : noted(__builtin_return_address(0), __libc_calloc(count, size));
+    return refuses_memory() ? NULL : noted(__builtin_return_address(0), __libc_calloc(count, size), count * size);
 }
 
 void *realloc(void *old, size_t size) {
     if (refuses_memory())
         return NULL;
     void *block = __libc_realloc(old, size);
-    return old ? block : noted(__builtin_return_address(0), block);
+    if (old && block)
+        note_bytes(__builtin_return_address(0), size);
+    return old ? block : noted(__builtin_return_address(0), block, size);
 }
 
 void *aligned_alloc(size_t align, size_t size) {
-    return refuses_memory() ? NULL : noted(__builtin_return_address(0), __libc_memalign(align, size));
+    return refuses_memory() ? NULL : noted(__builtin_return_address(0), __libc_memalign(align, size), size);
 }
 
 void *memalign(size_t align, size_t size) {
-    return refuses_memory() ? NULL : noted(__builtin_return_address(0), __libc_memalign(align, size));
+    return refuses_memory() ? NULL : noted(__builtin_return_address(0), __libc_memalign(align, size), size);
 }
 
 int posix_memalign(void **block, size_t align, size_t size) {
-    void *got = refuses_memory() ? NULL : noted(__builtin_return_address(0), __libc_memalign(align, size));
+    void *got = refuses_memory() ? NULL : noted(__builtin_return_address(0), __libc_memalign(align, size), size);
     if (!got)
         return ENOMEM;
     *block = got;

@@ -5,7 +5,8 @@ Each such test makes one call between two lines of its output. It is run once fo
 refused, until a run meets none left (tools/refuse.c, preloaded, counts and refuses): the call has to say that memory was refused, has
 to keep none where it says no more, and the test then sees that the call made again gives what it gives the first time. A test of
 `starts` is run once for each thread that the call starts, with that start refused, in the same way. A test of `unasked` is run once with
-every request for memory refused, and may meet none. However a test ends, the program has given back all that it got.
+every request for memory refused, and may meet none. A test of `told` is run once with none refused, and prints as a line `-- N bytes` how
+many bytes the call asked for, as the library tells. However a test ends, the program has given back all that it got.
 
 The tests are those that `rt ci`, or `rt test` in such a crate, proved and built last. (tools/caught.py judges wrong bodies by the same
 tests, built without proofs.)
@@ -60,6 +61,7 @@ class Run:
     refused: int
     kept: int  # blocks that the program had more after the call than before it
     left: int  # blocks that it still had when it ended
+    asked: int  # bytes that the call asked for
     said: str
 
     def passed(self):
@@ -107,8 +109,8 @@ class Refuser:
             numbers = [int(word) for word in it.read().split()]
         lines = [line[3:] for line in said.splitlines() if line.startswith("== ")]
         ended = lines[1] if len(lines) == 2 and lines[0] == "call" else f"no call, but {lines}"
-        if len(numbers) != 4:
-            numbers, ended = [0, 0, 0, 0], "no report, so that nothing was counted"
+        if len(numbers) != 5:
+            numbers, ended = [0, 0, 0, 0, 0], "no report, so that nothing was counted"
         return Run(status, ended, *numbers, said)
 
     def passes(self, test):
@@ -141,9 +143,20 @@ class Refuser:
             wrong = f"{ran.requests} requests for memory, where none was to come"
         return not wrong, wrong or "no request for memory"
 
+    def bytes_told(self, test):
+        """Refuses nothing. Whether the bytes that the test tells are those that were asked for and all is well, and what to say."""
+        ran = self.run(test, "memory", 0, 0)
+        told = [line for line in ran.said.splitlines() if line.startswith("-- ")]
+        wrong = ran.wrong()
+        if told != [f"-- {ran.asked} bytes"]:
+            wrong = wrong or f"it tells {told}, where {ran.asked} bytes were asked for"
+        return not wrong, wrong or f"{ran.asked} bytes were asked for, as it tells"
+
     def judge(self, test):
         """Whether all is well with the test, and what to say."""
         try:
+            if "::told::" in test:
+                return self.bytes_told(test)
             if "::unasked::" in test:
                 return self.all_at_once(test)
             return self.one_after_another(test, "starts" if "::starts::" in test else "memory")

@@ -200,6 +200,51 @@ fn the_end_frees_what_is_not_held(rt: HostRuntime) {
     assert!(rt; heap.used() == block);
 }
 
+/// Texts, the bytes of a cell's block, and those that a heap which gives out sixteens says are in use.
+const BLOCKS: [(&str, usize, usize); 6] = [
+    ("", 48, 48),
+    ("a", 56, 64),
+    ("abcdefgh", 56, 64),
+    ("abcdefghi", 64, 64),
+    ("not all of it is ascii: é", 80, 80),
+    ("a longer text, which takes more than one word", 96, 96),
+];
+
+/// Whether a cell of the text tells this as its block's size, where the heap has this in use then.
+fn tells_its_size(
+    heap: &LocalHeap,
+    text: &str,
+    size: usize,
+    used: usize,
+) -> Result<bool, AllocError> {
+    let (owner, share) = make(heap, 1, text)?;
+    let is_told = owner.block_size() == size && heap.used() == used;
+    drop(share);
+    drop(owner);
+    Ok(is_told)
+}
+
+#[test]
+fn a_cell_tells_the_bytes_of_its_block(rt: HostRuntime) {
+    let heap = LocalHeap::new(rt.alloc(), 4_096).expect(&rt, "an answer");
+    for (text, size, used) in &BLOCKS {
+        let is_told = tells_its_size(&heap, text, *size, *used).expect(&rt, "an answer");
+        assert!(rt; is_told, "of {text:?}");
+    }
+}
+
+/// What a look at the count tells.
+#[test]
+fn the_count_is_read(rt: HostRuntime) {
+    let (owner, first) = make(rt.alloc(), 2, "interned").expect(&rt, "an answer");
+    assert!(rt; owner.count().shares() == 1);
+    let second = reply_answer(owner.add(&rt)).share(&rt);
+    assert!(rt; owner.count().shares() == 2);
+    assert!(rt; !first.gives_last() && owner.count().shares() == 1);
+    assert!(rt; second.gives_last() && owner.count().shares() == 0);
+    assert!(rt; frees(owner));
+}
+
 /// A heap without room refuses a cell and loses nothing.
 #[test]
 fn without_memory_nothing_is_made(rt: HostRuntime) {

@@ -51,6 +51,35 @@ impl Model for AtLimit {
     ghost invariant = { λ a. a.reading.name.limit ≤ a.reading.count };
 }
 
+/// What was read off the count of a cell. Nothing else makes one. In a clause it is the cell's name and the count.
+#[derive(Drop)]
+pub struct CountSeen {
+    pub(crate) seen: u64,
+    pub(crate) reading: Reading,
+}
+
+impl Model for CountSeen {
+    ghost use Rattle.std.specs.Prelude.{◌≡◌};
+    ghost use Rattle.counted_cell.specs.Counting.{Count};
+
+    ghost Value = { Count };
+
+    ghost view = { λ c. record { name = c.reading.name; count = c.reading.count } };
+
+    ghost invariant = { λ c. c.reading.count ≡ c.seen };
+}
+
+impl CountSeen {
+    ghost use Rattle.std.specs.Prelude.{◌≡◌};
+
+    /// How many shares the cell had.
+    pub fn shares(&self) -> u64
+        ensures { result ≡ self.now.count }
+    {
+        self.seen
+    }
+}
+
 /// Shows that the count of a cell was read as 1 or more. In a clause it is the cell's name.
 #[derive(Drop)]
 pub struct SharesLeft {

@@ -25,7 +25,7 @@ mod share;
 mod text;
 
 pub use ending::Ending;
-pub use evidence::{AtLimit, NoShares, SharesLeft};
+pub use evidence::{AtLimit, CountSeen, NoShares, SharesLeft};
 pub use label::Label;
 pub use owner::Owner;
 pub use reply::ShareReply;

@@ -1,5 +1,5 @@
 //! The owner of a cell.
-ghost use Rattle.std.specs.Prelude.{◌≡◌, ◌^◌, ◌<◌, ◌≤◌, IfErr, IfOk};
+ghost use Rattle.std.specs.Prelude.{◌≡◌, ◌^◌, ◌<◌, ◌≤◌, length, IfErr, IfOk};
 ghost use Rattle.counted_cell.specs.Cell.{block_size, most_bytes};
 
 use crate::block::{FreeRight, allocate, deallocate};
@@ -7,7 +7,7 @@ use crate::block_right::{BlockRight, begin, reclaim};
 use crate::cell_ref::CellRef;
 use crate::content::Content;
 use crate::ending::Ending;
-use crate::evidence::{NoShares, SharesLeft};
+use crate::evidence::{CountSeen, NoShares, SharesLeft};
 use crate::header::Header;
 use crate::label::Label;
 use crate::note::Note;
@@ -58,7 +58,8 @@ const ALIGN: usize = align_of::<Header<Content>>();
 /// How many bytes a block has whose text has `len`: the header, the text, and what fills up to the alignment.
 fn size_for(len: usize) -> usize
     requires { len ≤ most_bytes }
-    ensures { result ≡ block_size len }
+    ensures exact { result ≡ block_size len }
+    ensures few { result < 2 ^ 63 }
 {
     let end = size_of::<Header<Content>>() + len;
     end + (ALIGN - end % ALIGN) % ALIGN
@@ -112,6 +113,22 @@ impl<A: Allocator> Owner<A> {
         ensures { result.now ≡ self.now.text }
     {
         self.cell.get().text.as_str()
+    }
+
+    /// How many bytes its block has: those before the text, the text, and what fills up to the alignment.
+    pub fn block_size(&self) -> usize
+        ensures exact { result ≡ block_size (length self.now.text) }
+        ensures few { result < 2 ^ 63 }
+    {
+        size_for(self.cell.get().text.len())
+    }
+
+    /// What the count reads.
+    pub fn count(&self) -> CountSeen
+        ensures { result.name ≡ self.now.name }
+    {
+        let (seen, reading) = self.cell.load();
+        CountSeen { seen, reading }
     }
 
     /// One share more of the cell.

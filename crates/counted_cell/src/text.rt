@@ -43,6 +43,14 @@ impl Text {
         unsafe { std::str::from_utf8_unchecked(self.places.slice(self.start, 0, self.len)) }
     }
 
+    /// How many bytes it has.
+    pub(crate) fn len(&self) -> usize
+        ensures places { result ≡ length self.now.places.slots }
+        ensures text { result ≡ length (somes self.now.places.slots) }
+    {
+        self.len
+    }
+
     /// The bytes, and how many they are.
     pub(crate) fn into_bytes(self) -> (usize, Places<u8>)
         ensures { (result.1 ≡ self.places) × (result.0 ≡ length self.places.slots) }

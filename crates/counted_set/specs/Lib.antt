@@ -2,6 +2,8 @@ pub mod Chain
 pub mod Counted
 pub mod Find
 pub mod Link
+pub mod Memory
 pub mod PassLeft
 pub mod SetValue
 pub mod Share
+pub mod Visits

@@ -8,6 +8,7 @@ mod entries;
 mod held;
 mod set;
 mod share;
+mod visits;
 
 #[doc(hidden)]
 pub use bucket::Bucket;

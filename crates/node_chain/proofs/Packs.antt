@@ -1,6 +1,6 @@
 -- A place among packs moves on, and packs lose items.
 use Rattle.std.proofs.Common.{◌≡◌, ℕ, ◌+◌, ◌-◌, ◌<◌, ◌≤◌, List, [], ◌∷◌, ◌++◌, Option, Some, None, sym, refl, ap, ◌∙◌, subst, length, take, drop, get_or, arith, append_assoc}
-use Rattle.std.proofs.lemmas.List.{drop_more, take_more, take_all, drop_all, take_at, drop_at, length-append, length-take-le, length_push, take-append-drop, append-nil}
+use Rattle.std.proofs.lemmas.List.{drop_more, take_more, take_all, drop_all, take_at, drop_at, length-append, length-drop, length-take-le, length_push, take-append-drop, append-nil}
 use Rattle.std.specs.Borrow.{Bor}
 use Rattle.node_chain.specs.Packs.{joined, before, from_on, items_at, IsAt, IsWithin, HaveItems, ArePacked}
 use Rattle.node_chain.specs.Walked.{Walked, IsNext, at_start, linked, passed_by, taken_out}
@@ -235,3 +235,17 @@ module _ {X : Type 0} where
   -- no pack was passed where no item was
   pub none_passed : (at len : ℕ) (w : Walked (List X)) → ArePacked at len w → (items_at at w).passed ≡ [] → (w.passed ≡ []) × (at ≡ 0)
   none_passed at len w c is = none_before w.passed w.left at c.2 c.1 is
+
+  -- from the place on there are no more packs than items, and a pack where there are items
+  joined_few : (ps : List (List X)) → HaveItems ps → length ps ≤ length (joined ps)
+  joined_few [] h = omega arith
+  joined_few (p ∷ ps) h = let n = length-append p (joined ps) in let less = joined_few ps h.1 in let one = h.0 in omega (arith, n, less, one)
+
+  pub packs_few : (at : ℕ) (ps : List (List X)) → IsWithin at ps → HaveItems ps → length ps ≤ length (from_on at ps)
+  packs_few at [] w h = omega arith
+  packs_few at (p ∷ ps) w h =
+      let n = length-append (drop at p) (joined ps) in let d = length-drop at p in let less = joined_few ps h.1 in omega (arith, n, d, less, w)
+
+  pub packs_some : (at : ℕ) (ps : List (List X)) → 0 < length (from_on at ps) → 0 < length ps
+  packs_some at [] some = absurd (omega (arith, some))
+  packs_some at (p ∷ ps) some = omega arith

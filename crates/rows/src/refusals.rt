@@ -4,4 +4,5 @@
 mod generated;
 mod sets;
 mod tables;
+mod told;
 mod unasked;

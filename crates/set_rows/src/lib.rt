@@ -14,3 +14,5 @@ mod locks;
 mod samples;
 #[cfg(test)]
 mod threads;
+#[cfg(test)]
+mod visits;

@@ -248,6 +248,40 @@ fn linked_waits_for_each_lock(rt: HostRuntime) {
     assert!(rt; sum == 2);
 }
 
+/// How many holders the visited entries have.
+fn count_holders<R: Wait>(rt: &R, set: &DefaultSet) -> u64 {
+    let mut count = 0u64;
+    set.for_each(rt, |_, holders| count = count.saturating_add(holders));
+    count
+}
+
+#[test]
+fn visits_wait_for_each_lock(rt: HostRuntime) {
+    let set = default_set(&rt, rt.alloc());
+    let _first = atom_of(&rt, &set, "afterwards");
+    let _last = atom_of(&rt, &set, "geometric");
+    let held = lock_of(&rt, &set, 0xfff);
+    let (handle, shared) = (&rt, &set);
+    let (count, ended) = beside(&rt, 1_000, held, || count_holders(handle, shared));
+    assert!(rt; !ended);
+    assert!(rt; count == 2);
+    assert!(rt; are_free(&set, usize::MAX));
+}
+
+/// The bytes of two entries beside those of the buckets: each has a node of 80 bytes, and a cell of 64 with its text.
+#[test]
+fn memory_waits_for_each_lock(rt: HostRuntime) {
+    let set = default_set(&rt, rt.alloc());
+    let _first = atom_of(&rt, &set, "afterwards");
+    let _last = atom_of(&rt, &set, "geometric");
+    let held = lock_of(&rt, &set, 0xfff);
+    let (handle, shared) = (&rt, &set);
+    let (bytes, ended) = beside(&rt, 1_000, held, || shared.memory(handle));
+    assert!(rt; !ended);
+    assert!(rt; bytes == 4096 * 80 + 2 * (80 + 64));
+    assert!(rt; are_free(&set, usize::MAX));
+}
+
 /// Whether the bucket is without entries within ten seconds.
 fn is_emptied<R: Wait + Clock>(rt: &R, bucket: &Mutex<Bucket<EmptyStaticAtomSet>>) -> bool {
     for _ in 0..10_000 {

@@ -10,6 +10,7 @@ pub use Rattle.string_cache_core.specs.Kept
 pub use Rattle.string_cache_core.specs.Layout
 pub use Rattle.counted_set.specs.Link
 pub use Rattle.string_cache_core.specs.Map
+pub use Rattle.counted_set.specs.Memory
 pub use Rattle.string_cache_core.specs.Pass
 pub use Rattle.counted_set.specs.PassLeft
 pub use Rattle.atomic_steps.specs.PassSteps
@@ -24,6 +25,7 @@ pub use Rattle.string_cache_core.specs.Tables
 pub use Rattle.atomic_steps.specs.Theorem
 pub use Rattle.string_cache_core.specs.Times
 pub use Rattle.string_cache_core.specs.Word
+pub use Rattle.counted_set.specs.Visits
 pub use Rattle.atomic_steps.specs.World
 pub mod AtomForm
 pub mod AtomValue

@@ -8,12 +8,15 @@ ghost use Rattle.counted_set.specs.Chain.{IsRightOf};
 ghost use Rattle.counted_set.specs.Counted.{GivesShares, IsPass};
 ghost use Rattle.counted_set.specs.Find.{IsFind};
 ghost use Rattle.counted_set.specs.Link.{IsLink, IsIntern};
+ghost use Rattle.counted_set.specs.Memory.{IsMemory};
 ghost use Rattle.counted_set.specs.PassLeft.{IsPassLeft};
+ghost use Rattle.counted_set.specs.Visits.{VisitsEach};
 ghost use Rattle.node_chain.specs.Walked.{passed_by};
 
 use super::counts::{CountReply, Counts, OwnCounts, Pass};
 use super::entries::Entries;
 use super::share::{Entry, Share};
+use super::visits::{memory_of, visit_each};
 use std::alloc::Global;
 use std::marker::{Model, PhantomData};
 use std::sync::Wait;
@@ -97,6 +100,25 @@ impl<Static: StaticAtomSet> Bucket<Static> {
     {
         prune_left(&mut self.entries, counts);
         self.entries.rewind();
+    }
+
+    /// Calls `visit` once for each entry, newest first, with its text and the number of its holders as one look at its count reads it.
+    /// The bucket is as it was.
+    pub fn for_each<F: FnMut(&str, u64)>(&mut self, visit: &mut F)
+        requires { F.IsAlwaysCallable visit.old }
+        ensures callable { F.IsAlwaysCallable visit.new }
+        ensures visits { VisitsEach F.FnMut visit.old self.old.entries visit.new }
+        ensures same { self.new ≡ self.old }
+    {
+        visit_each(&mut self.entries, visit);
+    }
+
+    /// How many bytes its nodes have, and the cells of its entries with their texts. The bucket is as it was.
+    pub fn memory(&mut self) -> u128
+        ensures memory { IsMemory self.old.entries result }
+        ensures same { self.new ≡ self.old }
+    {
+        memory_of(&mut self.entries)
     }
 
     /// Links one new entry as the first, with the next serial, and gives its only share. `hash` is that of the text,

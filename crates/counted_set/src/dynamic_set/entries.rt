@@ -1,12 +1,16 @@
 //! The entries of a bucket, with a place in them. Only this file knows how they are kept.
 
-ghost use Rattle.std.specs.Prelude.{◌≡◌, ◌+◌, ◌<◌, ◌∷◌, ◌++◌, [], length, IfOk, IfErr};
+ghost use Rattle.std.specs.Prelude.{◌≡◌, ◌+◌, ◌<◌, ◌≤◌, ◌∷◌, ◌++◌, [], length, IfOk, IfErr};
 ghost use Rattle.node_chain.specs.Walked.{IsNext, at_start, passed_by, taken_out};
 
 use super::share::Entry;
-use node_chain::{NodeChain, Pack};
+use node_chain::{Node, NodeChain, Pack};
 use std::alloc::{AllocFailed, Global};
 use std::marker::Model;
+use std::mem::size_of;
+
+/// How many bytes a node has.
+pub(super) const NODE_SIZE: usize = size_of::<Node<Pack<Entry>>>();
 
 /// Each node has one entry or more, and the place is before the entry `at` of the first node that is left.
 #[derive(Drop)]
@@ -44,6 +48,14 @@ impl Entries {
         ensures { result ≡ length self.now.passed + length self.now.left }
     {
         self.len
+    }
+
+    /// How many nodes have an entry that is left.
+    pub(super) fn nodes_left(&self) -> usize
+        ensures few { result ≤ length self.now.left }
+        ensures some { 0 < length self.now.left → 0 < result }
+    {
+        self.chain.remaining()
     }
 
     /// The next entry.

@@ -12,6 +12,7 @@ use super::held::Held;
 use counted_cell::CellShare;
 use std::alloc::Global;
 use std::marker::Model;
+use std::mem::size_of;
 use std::sync::{Mutex, Wait};
 use string_cache_core::Fault;
 use string_cache_core::static_sets::StaticAtomSet;
@@ -109,6 +110,33 @@ impl<Static: StaticAtomSet> Set<Static> {
         let mut sum = 0u128;
         for bucket in &self.buckets {
             sum = sum.saturating_add(bucket.lock(rt).len() as u128);
+        }
+        sum
+    }
+
+    /// Calls `visit` once for each entry that is linked, with its text and the number of its holders as one look at its count reads
+    /// it: bucket by bucket, from the first to the last, each under its lock, and newest first within a bucket.
+    ///
+    /// An entry that nobody holds any more may still be linked: its number is 0. Beside other threads, which may link and unlink between
+    /// one bucket and the next, and count up and down at any time, nothing is said of what is visited. A `visit` that waits for the lock of
+    /// the bucket, as one that interns a text may, waits for ever; it may clone and drop atoms.
+    pub fn for_each<R: Wait, F: FnMut(&str, u64)>(&self, rt: &R, mut visit: F)
+        requires { F.IsAlwaysCallable visit }
+    {
+        for bucket in &self.buckets {
+            bucket.lock(rt).for_each(&mut visit);
+        }
+    }
+
+    /// How many bytes the set has asked for and still holds: its buckets with their locks, their nodes, and the cells of the entries that
+    /// are linked, with their texts. Each bucket is read under its lock.
+    ///
+    /// The set itself, which lies where its owner has it, isn't counted. Beside other threads, nothing is said of the sum.
+    pub fn memory<R: Wait>(&self, rt: &R) -> u128 {
+        let bucket_size = size_of::<Mutex<Bucket<Static>>>() as u128;
+        let mut sum = bucket_size.saturating_mul(self.buckets.capacity() as u128);
+        for bucket in &self.buckets {
+            sum = sum.saturating_add(bucket.lock(rt).memory());
         }
         sum
     }

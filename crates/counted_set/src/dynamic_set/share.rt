@@ -1,7 +1,8 @@
 //! Counted entries, and the shares of them.
 
-ghost use Rattle.std.specs.Prelude.{◌≡◌, ◌≤◌, ◌<◌, ◌↔◌, IsTrue, IfOk};
+ghost use Rattle.std.specs.Prelude.{◌≡◌, ◌≤◌, ◌<◌, ◌^◌, ◌↔◌, length, IsTrue, IfOk};
 ghost use Rattle.string_cache_core.specs.Layout.{holder_bound};
+ghost use Rattle.counted_cell.specs.Cell.{block_size};
 ghost use Rattle.counted_set.specs.Counted.{IfAdded};
 ghost use Rattle.counted_set.specs.Share.{IsTold};
 
@@ -66,6 +67,26 @@ impl Entry {
         ensures { result ≡ self.now.ticket }
     {
         self.owner.label().ticket
+    }
+
+    /// The text.
+    pub(super) fn text(&self) -> &str
+        ensures { result.now ≡ self.now.text }
+    {
+        self.owner.text()
+    }
+
+    /// How many bytes its cell has, the text among them.
+    pub(super) fn cell_size(&self) -> usize
+        ensures exact { result ≡ block_size (length self.now.text) }
+        ensures few { result < 2 ^ 63 }
+    {
+        self.owner.block_size()
+    }
+
+    /// How many shares there are, as one look at the count reads it.
+    pub(super) fn holders(&self) -> u64 {
+        self.owner.count().shares()
     }
 
     /// Whether it is the entry of a text with this hash.

@@ -113,6 +113,19 @@ fn sets_are_swept(rt: HostRuntime) {
     assert!(rt; (held, left) == (1, 0));
 }
 
+#[test]
+fn entries_are_visited(rt: HostRuntime) {
+    let set: Set<EmptyStaticAtomSet> = new_set(&rt, rt.alloc());
+    let atom = DefaultAtom::from_str_in(&rt, &set, "interned").expect(&rt, "an atom");
+    let mut holders = 0u64;
+    begin(&rt);
+    set.for_each(&rt, |_, count| holders = holders.saturating_add(count));
+    let bytes = set.memory(&rt);
+    finish(&rt, End::Given);
+    assert!(rt; atom.as_str() == "interned");
+    assert!(rt; holders == 1 && bytes == 4096 * 80 + 80 + 56);
+}
+
 /// Whether the atom's text is found, and an inline and a static text are, and no other.
 fn are_found<R: Wait>(rt: &R, set: &Set<One>, held: &Atom<'_, One>) -> Result<bool, Fault> {
     let found = Atom::get_in(rt, set, held.as_str())?;

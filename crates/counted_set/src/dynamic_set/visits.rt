@@ -1,0 +1,71 @@
+//! Walks over a bucket's entries that leave them as they are.
+
+ghost use Rattle.std.specs.Prelude.{◌≡◌, ◌*◌, ◌^◌, ◌<◌, ◌≤◌, ◌++◌, [], length};
+ghost use Rattle.counted_set.specs.Memory.{cells_size, IsMemory};
+ghost use Rattle.counted_set.specs.Visits.{CalledAtText, VisitsEach};
+
+use super::entries::{Entries, NODE_SIZE};
+
+/// Calls `visit` at the text of each entry, with the number of its holders.
+#[tactic(auto, using(crate::proofs::Visits::same_again))]
+pub(super) fn visit_each<F: FnMut(&str, u64)>(entries: &mut Entries, visit: &mut F)
+    requires start { entries.old.passed ≡ [] }
+    requires callable { F.IsAlwaysCallable visit.old }
+    ensures callable { F.IsAlwaysCallable visit.new }
+    ensures visits { VisitsEach F.FnMut visit.old entries.old.left visit.new }
+    ensures same { entries.new ≡ entries.old }
+{
+    visit_left(entries, visit);
+    entries.rewind();
+}
+
+/// How many bytes the nodes have, and the cells of the entries.
+#[tactic(auto, using(crate::proofs::Visits::same_again, crate::proofs::Visits::is_memory))]
+pub(super) fn memory_of(entries: &mut Entries) -> u128
+    requires start { entries.old.passed ≡ [] }
+    ensures memory { IsMemory entries.old.left result }
+    ensures same { entries.new ≡ entries.old }
+{
+    let nodes = entries.nodes_left() as u128;
+    let cells = cells_left(entries);
+    entries.rewind();
+    nodes * NODE_SIZE as u128 + cells
+}
+
+// Calls `visit` at the text of each entry that is left, with the number of its holders, and passes it by.
+#[tactic(auto, using(crate::proofs::Visits::visited_all))]
+fn visit_left<F: FnMut(&str, u64)>(entries: &mut Entries, visit: &mut F)
+    requires { F.IsAlwaysCallable visit.old }
+    ensures callable { F.IsAlwaysCallable visit.new }
+    ensures visits { VisitsEach F.FnMut visit.old entries.old.left visit.new }
+    ensures same { entries.new.passed ++ entries.new.left ≡ entries.old.passed ++ entries.old.left }
+{
+    while let Some(entry) = entries.look() {
+        visit_one(visit, entry.text(), entry.holders());
+        entries.keep();
+    }
+}
+
+// One call.
+fn visit_one<F: FnMut(&str, u64)>(visit: &mut F, text: &str, holders: u64)
+    requires { F.IsAlwaysCallable visit.old }
+    ensures callable { F.IsAlwaysCallable visit.new }
+    ensures called { CalledAtText F.FnMut visit.old text.now visit.new }
+{
+    visit(text, holders);
+}
+
+// How many bytes the cells of the entries that are left have. It passes all by.
+fn cells_left(entries: &mut Entries) -> u128
+    ensures sum { result ≡ cells_size entries.old.left }
+    ensures few { result ≤ 2 ^ 64 * 2 ^ 63 }
+    ensures same { entries.new.passed ++ entries.new.left ≡ entries.old.passed ++ entries.old.left }
+{
+    let count = entries.len(); // so that the proof knows how many there may be
+    let mut bytes = 0u128;
+    while let Some(entry) = entries.look() {
+        bytes += entry.cell_size() as u128;
+        entries.keep();
+    }
+    bytes
+}

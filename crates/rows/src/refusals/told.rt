@@ -1,0 +1,74 @@
+//! Calls whose bytes a set tells: `tools/refused.py` compares what each of these tests prints with what the call asked for.
+
+use crate::begun::new_set;
+use std::alloc::Global;
+use std::io::Print;
+use std::process::Abort;
+use std::sync::Wait;
+use string_cache::dynamic_set::Set;
+use string_cache::word::{Buckets, Limits};
+use string_cache::{DefaultAtom, EmptyStaticAtomSet};
+use text_streams::samples::{End, begin, finish};
+
+/// A set without static texts.
+type DefaultSet = Set<EmptyStaticAtomSet>;
+
+/// Prints how many bytes the call asked for, as the set tells.
+fn tell<R: Print>(rt: &R, bytes: u128) {
+    let _ = println!(rt; "-- {bytes} bytes");
+}
+
+/// A set of 2 to the power of this many buckets is made.
+fn make<R: Wait + Print + Abort>(rt: &R, alloc: Global, bits: u8) -> DefaultSet {
+    let buckets = Buckets::new(bits).expect(rt, "bits");
+    begin(rt);
+    let set = Set::with_buckets(alloc, Limits::greatest(), buckets);
+    finish(rt, End::Given);
+    set.expect(rt, "a set")
+}
+
+#[test]
+fn set_of_one_bucket(rt: HostRuntime) {
+    let set = make(&rt, rt.alloc(), 0);
+    tell(&rt, set.memory(&rt));
+}
+
+#[test]
+fn set_of_most_buckets(rt: HostRuntime) {
+    let set = make(&rt, rt.alloc(), 14);
+    tell(&rt, set.memory(&rt));
+}
+
+/// The text is interned, which a set tells of.
+fn intern<R: Wait + Print + Abort>(rt: &R, set: &DefaultSet, text: &str) {
+    let before = set.memory(rt);
+    begin(rt);
+    let atom = DefaultAtom::from_str_in(rt, set, text);
+    finish(rt, End::Given);
+    tell(rt, set.memory(rt).saturating_sub(before));
+    assert!(rt; atom.expect(rt, "an atom").as_str() == text);
+}
+
+#[test]
+fn text_of_eight_bytes(rt: HostRuntime) {
+    intern(&rt, &new_set(&rt, rt.alloc()), "interned");
+}
+
+#[test]
+fn text_of_a_hundred_bytes(rt: HostRuntime) {
+    let text = "a".repeat(rt.alloc(), 100).expect(&rt, "a text");
+    intern(&rt, &new_set(&rt, rt.alloc()), &text);
+}
+
+/// The second text of a bucket has room in its node.
+#[test]
+fn second_text_of_a_node(rt: HostRuntime) {
+    let set: DefaultSet = new_set(&rt, rt.alloc());
+    let _first = DefaultAtom::from_str_in(&rt, &set, "forgotten").expect(&rt, "an atom");
+    intern(&rt, &set, "magnitude");
+}
+
+#[test]
+fn short_text(rt: HostRuntime) {
+    intern(&rt, &new_set(&rt, rt.alloc()), "short");
+}
