@@ -111,12 +111,12 @@ fn has_room<R: Print + Abort>(rt: &R, table: &mut Table<EmptyStaticAtomSet>) -> 
     is_refused || answer == Ok(FIRST)
 }
 
-/// The last one of as many texts as room was made for.
+/// The last one of as many texts as room was made for. 576 texts fill what a table grows to by itself, so that one more would ask for room.
 #[test]
 fn text_finds_room_in_a_table(rt: HostRuntime) {
     let alloc = rt.alloc();
-    let mut table = Table::<EmptyStaticAtomSet>::with_capacity(alloc, 1000).expect(&rt, "a table");
-    fill(&rt, alloc, &mut table, 999).expect(&rt, "words");
+    let mut table = Table::<EmptyStaticAtomSet>::with_capacity(alloc, 577).expect(&rt, "a table");
+    fill(&rt, alloc, &mut table, 576).expect(&rt, "words");
     assert!(rt; has_room(&rt, &mut table));
 }
 
