@@ -2,8 +2,8 @@
 # The gate: every proof from nothing, every edit that the prover has to refuse, every test, each program as two compilers
 # build it (rt ci), then each request for memory or a thread refused under the tests that rt ci built, the schedules of small
 # scenes, the static type that a script wrote, the scripts that count over many machines and that review wrong bodies, what is said of
-# wrong bodies that no test sees, and each wrong body that a test has to catch, which begin where rt ci leaves a processor idle. The last
-# line sums up.
+# wrong bodies that no test sees, the library for C with its clients and their wrong bodies, and each wrong body that a test has to catch,
+# which begin where rt ci leaves a processor idle. The last line sums up.
 #
 # `./test.sh quick [CRATE ..]` isn't the gate: it proves what changed over kept work, and runs the tests that see it (tools/quick.py).
 set -uo pipefail
@@ -55,6 +55,8 @@ run static tools/static_type.py --check
 run many tools/count_many_test.py
 run review tools/review_test.py
 run verdicts tools/caught_test.py
+run clients tools/clients.py
+run wrong_clients tools/clients_caught.py --archive crates/string_cache_c/out/libstring_cache_c.a
 wait "$bodies"
 cat "$said/bodies"
 wait "$scenes"
@@ -66,6 +68,8 @@ add static
 add many
 add review
 add verdicts
+add clients
+add wrong_clients
 add caught
 add schedules
 echo "$passed passed, $failed failed"

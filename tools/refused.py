@@ -33,8 +33,10 @@ EVERY = sys.maxsize
 NAMES = {"memory": "requests for memory", "starts": "starts of threads"}  # what can be refused
 # How many requests a call may do without, by its test's name: in each worker that has words (the text has 20), each of two lists that
 # are collected asks ahead for the room that it may need, and goes on without it. Threads ask in another order in each run, so that a
-# number may meet such a request twice: with more than one worker there may be twice as many.
+# number may meet such a request twice: with more than one worker there may be twice as many. Equal texts are looked for with two requests,
+# and where one of them is refused, without.
 SPARED = {
+    "refusals::generated::doubles_are_told": 2,
     "refusals::programs::counts_by_one": 2,
     "refusals::programs::counts_by_two": 8,
     "refusals::programs::counts_by_three": 12,

@@ -47,9 +47,11 @@ def after(state, call, limits):
     """The map after the call, or None where the map answers the call otherwise."""
     held = {text: (ticket, holders) for text, ticket, holders in state.held}
     fault = call.number if call.answer == "fault" else None
-    if call.name == "sweep":
+    if call.name in ("sweep", "memory"):
         return state
-    if call.name == "linked":  # dropped texts may be linked still, and what several buckets have isn't read at once
+    if call.answer == "strange":
+        return None
+    if call.name in ("linked", "visit"):  # dropped texts may be linked still, and what several buckets have isn't read at once
         return state if limits.bits or len(held) <= call.number <= sum(serial for _, serial in state.last) else None
     text = {"upper": call.text.upper(), "lower": call.text.lower()}.get(call.name, call.text)
     ticket, holders = held.get(text, (None, 0))
@@ -59,6 +61,8 @@ def after(state, call, limits):
         return state if fault == FULL_COUNT else None
     if holders:
         return state.with_held(text, ticket, holders + 1) if fault is None and call.number == ticket else None
+    if call.name == "find":
+        return state if call.answer == "absent" else None
     if call.name == "clone" or text == call.text and call.name in ("upper", "lower"):
         return None  # it is made on an atom, which is held
     last, bucket = dict(state.last), HASHES[text] % 2**limits.bits

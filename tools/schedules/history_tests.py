@@ -74,6 +74,25 @@ class Histories(unittest.TestCase):
         self.wrong(intern(1, 0, 0, FIRST), call(1, 1, 1, "upper", "forgotten", FIRST))
         self.well(intern(1, 0, 0, FIRST), call(1, 1, 1, "lower", "forgotten", FIRST))
 
+    def test_a_text_that_is_looked_up_has_its_ticket_or_is_absent(self):
+        self.well(intern(1, 0, 0, FIRST), call(2, 1, 1, "find", "forgotten", FIRST))
+        self.wrong(intern(1, 0, 0, FIRST), call(2, 1, 1, "find", "forgotten", 0, "absent"))
+        self.well(intern(1, 0, 1, FIRST), call(2, 0, 1, "find", "forgotten", 0, "absent"))
+        self.wrong(call(2, 1, 1, "find", "forgotten", FIRST))
+        self.well(intern(1, 0, 0, FIRST), drop(1, 1, 1, FIRST), call(2, 2, 2, "find", "forgotten", 0, "absent"))
+
+    def test_a_text_that_is_looked_up_has_one_holder_more(self):
+        found = call(2, 1, 1, "find", "forgotten", FIRST)
+        self.well(intern(1, 0, 0, FIRST), found, drop(1, 2, 2, FIRST), drop(2, 3, 3, FIRST))
+        self.wrong(intern(1, 0, 0, FIRST), drop(1, 2, 2, FIRST), drop(2, 3, 3, FIRST))
+        self.well(intern(1, 0, 0, FIRST), call(2, 1, 1, "find", "forgotten", FULL_COUNT, "fault"), holders=1)
+        self.wrong(intern(1, 0, 0, FIRST), found, holders=1)
+
+    def test_all_that_are_held_are_visited_and_none_is_strange(self):
+        self.wrong(intern(1, 0, 0, FIRST), call(2, 1, 1, "visit", "-", 0, "visited"))
+        self.well(intern(1, 0, 0, FIRST), call(2, 1, 1, "visit", "-", 1, "visited"))
+        self.wrong(intern(1, 0, 0, FIRST), call(2, 1, 1, "visit", "-", 1, "strange"))
+
     def test_all_that_are_held_are_linked(self):
         count = call(2, 1, 1, "linked", "-", 0, "linked")
         self.wrong(intern(1, 0, 0, FIRST), count)

@@ -7,7 +7,8 @@ from history import Limits
 
 FILE = Path(__file__).resolve().parent / "scenes.txt"
 TEXTS = ("forgotten", "magnitude", "afterwards", "geometric", "FORGOTTEN", "MAGNITUDE", "AFTERWARDS", "GEOMETRIC")
-LETTERS = {"clone": "c", "drop": "d", "upper": "u", "lower": "w", "sweep": "s", "linked": "l"}
+LETTERS = {"clone": "c", "drop": "d", "upper": "u", "lower": "w", "sweep": "s", "linked": "l", "visit": "v", "memory": "m"}
+FIRST_LETTERS = {"intern": "0", "read": "A", "find": "I"}  # of the first text
 
 
 class BadScene(Exception):
@@ -42,7 +43,7 @@ def calls_of(text):
     for word in words:
         if word in LETTERS:
             calls.append(word)
-        elif word in ("intern", "read"):
+        elif word in FIRST_LETTERS:
             calls.append(f"{word} {next(words, '')}")
         else:
             raise BadScene(f"'{word}' is no call")
@@ -56,7 +57,7 @@ def letter_of(call):
         return LETTERS[name]
     if text not in TEXTS:
         raise BadScene(f"'{text}' is none of the texts: {', '.join(TEXTS)}")
-    return chr(ord("0" if name == "intern" else "A") + TEXTS.index(text))
+    return chr(ord(FIRST_LETTERS[name]) + TEXTS.index(text))
 
 
 def read_line(scene, line):

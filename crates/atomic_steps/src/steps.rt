@@ -19,7 +19,7 @@ use state::State;
 use std::alloc::Global;
 use std::marker::{Model, PhantomData};
 use string_cache_core::Fault;
-use string_cache_core::static_sets::StaticAtomSet;
+use string_cache_core::static_sets::StaticTables;
 use string_cache_core::word::{Buckets, Limits};
 
 /// A step of a party.
@@ -96,12 +96,12 @@ pub enum StepReply {
 
 /// A world of buckets and of the entries that were ever linked in them, in which parties make steps.
 #[derive(Drop)]
-pub struct World<S: StaticAtomSet> {
+pub struct World<S: StaticTables> {
     state: State,
     of: PhantomData<S>,
 }
 
-impl<S: StaticAtomSet> Model for World<S> {
+impl<S: StaticTables> Model for World<S> {
     ghost use Rattle.atomic_steps.specs.World as world;
     ghost use Rattle.atomic_steps.specs.Sound.{SoundWorld};
 
@@ -112,7 +112,7 @@ impl<S: StaticAtomSet> Model for World<S> {
     ghost invariant = { λ a. SoundWorld S.tables a.state };
 }
 
-impl<S: StaticAtomSet> World<S> {
+impl<S: StaticTables> World<S> {
     ghost use Rattle.atomic_steps.specs.World as world;
     ghost use Rattle.atomic_steps.specs.World.{is_linked};
 

@@ -5,6 +5,8 @@
 #[cfg(test)]
 mod forms;
 #[cfg(test)]
+mod memory;
+#[cfg(test)]
 mod table;
 #[cfg(test)]
 mod words;

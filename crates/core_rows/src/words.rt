@@ -178,6 +178,33 @@ fn texts_come_in_their_order(rt: HostRuntime) {
     );
 }
 
+/// Whether the text at a place is this one, with its word and its holders, or there is none.
+fn stands_at<S: StaticAtomSet>(table: &Table<S>, at: usize, wanted: Option<(&str, u64)>) -> bool {
+    match (table.nth(at), wanted) {
+        (Some(held), Some((text, holders))) => {
+            held.text == text && held.holders == holders && table.get(text) == Some(held.word)
+        }
+        (None, None) => true,
+        _ => false,
+    }
+}
+
+#[test]
+fn texts_stand_at_places(rt: HostRuntime) {
+    let mut table = new_table(&rt, rt.alloc());
+    for text in ["interned", "tokenised", "abcdefgh", "interned"] {
+        table.intern(text).expect(&rt, "a word");
+    }
+    assert!(rt; stands_at(&table, 0, Some(("interned", 2))));
+    assert!(rt; stands_at(&table, 1, Some(("tokenised", 1))));
+    assert!(rt; stands_at(&table, 2, Some(("abcdefgh", 1))));
+    assert!(rt; stands_at(&table, 3, None));
+    assert!(rt; releases(&mut table, FIRST) && releases(&mut table, FIRST));
+    assert!(rt; stands_at(&table, 0, Some(("abcdefgh", 1))));
+    assert!(rt; stands_at(&table, 1, Some(("tokenised", 1))));
+    assert!(rt; stands_at(&table, 2, None));
+}
+
 /// The first two of three texts, and how many are left at each.
 fn goes_over_three(table: &Plain) -> bool {
     let mut texts = table.iter();

@@ -6,6 +6,7 @@
 #![tactic(auto)]
 
 mod calls;
+mod seen;
 mod texts;
 mod worker;
 
@@ -101,7 +102,10 @@ fn print_call<R: Print>(rt: &R, done: &Done) -> Result<()> {
         Answer::Ticket(ticket) => ("ticket", u128::from(ticket)),
         Answer::OtherText(ticket) => ("other-text", u128::from(ticket)),
         Answer::Fault(number) => ("fault", u128::from(number)),
+        Answer::Absent => ("absent", 0),
         Answer::Linked(number) => ("linked", number),
+        Answer::Visited(number) => ("visited", u128::from(number)),
+        Answer::Strange(number) => ("strange", u128::from(number)),
     };
     println!(rt; "{thread} {call} {text} {begun} {ended} {word} {number}")?;
     Ok(())

@@ -61,6 +61,14 @@ impl Word {
         }
     }
 
+    /// The number of a text, or `None` where no word has it.
+    pub fn number_of(text: &str) -> Option<u8> {
+        (0..8u8).find(|number| match Word::of_number(*number) {
+            Some(word) => word.as_str() == text,
+            None => false,
+        })
+    }
+
     /// The same text in this case.
     pub fn in_case(&self, case: Case) -> Word {
         Word {

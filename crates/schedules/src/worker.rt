@@ -1,6 +1,7 @@
 //! A thread's atoms, and the calls that it makes one after another.
 
 use crate::calls::{Answer, Call, Done};
+use crate::seen::Seen;
 use crate::texts::{Case, Word};
 use serde_json::Value;
 use std::sync::Wait;
@@ -75,11 +76,14 @@ impl<'s> Worker<'s> {
         match call {
             Call::Intern(word) => self.intern(rt, word),
             Call::Read(word) => self.read(rt, word),
+            Call::Find(word) => self.find(rt, word),
             Call::Clone => self.copy(rt),
             Call::Drop => self.let_go(),
             Call::ToCase(case) => self.change_case(rt, case),
             Call::Sweep => self.sweep(rt),
             Call::Linked => self.count(rt),
+            Call::Visit => self.visit(rt),
+            Call::Memory => self.measure(rt),
         }
     }
 
@@ -151,6 +155,17 @@ impl<'s> Worker<'s> {
         self.keep(Call::Read(word), text, begun, word, given)
     }
 
+    fn find<R: Wait>(&mut self, rt: &R, word: Word) -> Result<(), Fault> {
+        let text = word.as_str();
+        let begun = self.tick();
+        let call = Call::Find(word);
+        match DefaultAtom::get_in(rt, self.set, text) {
+            Ok(None) => self.note(call, text, begun, Answer::Absent),
+            Ok(Some(atom)) => self.keep(call, text, begun, word, Ok(atom)),
+            Err(fault) => self.keep(call, text, begun, word, Err(fault)),
+        }
+    }
+
     fn copy<R: Wait>(&mut self, rt: &R) -> Result<(), Fault> {
         let Some(Kept { atom, word }) = self.atoms.last() else {
             return Ok(());
@@ -203,5 +218,19 @@ impl<'s> Worker<'s> {
         let begun = self.tick();
         let linked = self.set.linked(rt);
         self.note(Call::Linked, "-", begun, Answer::Linked(linked))
+    }
+
+    fn visit<R: Wait>(&mut self, rt: &R) -> Result<(), Fault> {
+        let begun = self.tick();
+        let mut seen = Seen::nothing();
+        self.set
+            .for_each(rt, |text, holders| seen.meet(text, holders));
+        self.note(Call::Visit, "-", begun, seen.answer())
+    }
+
+    fn measure<R: Wait>(&mut self, rt: &R) -> Result<(), Fault> {
+        let begun = self.tick();
+        let _ = self.set.memory(rt);
+        self.note(Call::Memory, "-", begun, Answer::Nothing)
     }
 }

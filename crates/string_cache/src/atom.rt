@@ -23,13 +23,13 @@ use std::marker::Model;
 use std::sync::Wait;
 use string_cache_core::Fault;
 use string_cache_core::static_sets::{
-    EmptyStaticAtomSet, StaticAtomSet, TextForm, form_of_text, static_text,
+    EmptyStaticAtomSet, StaticTables, TextForm, form_of_text, static_text,
 };
 use string_cache_core::word::{InlineText, static_word, unpack_inline};
 
 /// How an atom holds its text.
 #[derive(Drop)]
-enum Repr<'s, Static: StaticAtomSet> {
+enum Repr<'s, Static: StaticTables> {
     Inline(InlineText),
     /// The text at this index of the static tables.
     Static(u32),
@@ -40,14 +40,14 @@ enum Repr<'s, Static: StaticAtomSet> {
 /// A text, in the form that it has under the tables of its static type. A dynamic one is shared with the set `'s`: its end
 /// gives one share back, and never waits.
 #[derive(Drop)]
-pub struct Atom<'s, Static: StaticAtomSet> {
+pub struct Atom<'s, Static: StaticTables> {
     form: Repr<'s, Static>,
 }
 
 /// An atom that is inline or dynamic.
 pub type DefaultAtom<'s> = Atom<'s, EmptyStaticAtomSet>;
 
-impl<'s, Static: StaticAtomSet> Model for Atom<'s, Static> {
+impl<'s, Static: StaticTables> Model for Atom<'s, Static> {
     ghost use Rattle.string_cache.specs.AtomValue.{AtomValue};
 
     ghost Value = { AtomValue };
@@ -59,7 +59,7 @@ impl<'s, Static: StaticAtomSet> Model for Atom<'s, Static> {
     ghost invariant = { λ a. IsOwnForm Static.tables a.form };
 }
 
-impl<'s, Static: StaticAtomSet> Atom<'s, Static> {
+impl<'s, Static: StaticTables> Atom<'s, Static> {
     fn of_form(form: Repr<'s, Static>) -> Self
         requires { IsOwnForm Static.tables form }
         ensures { result ≡ value_of_form Static.tables form.entry }
@@ -214,7 +214,7 @@ impl<'s, Static: StaticAtomSet> Atom<'s, Static> {
     {
         match &self.form {
             Repr::Inline(text) => text.as_str(),
-            Repr::Static(index) => Static::get().atoms[*index as usize],
+            Repr::Static(index) => Static::text_at(*index),
             Repr::Dynamic(_, held) => held.text(),
         }
     }
@@ -246,7 +246,7 @@ impl<'s, Static: StaticAtomSet> Atom<'s, Static> {
     {
         match &self.form {
             Repr::Inline(text) => text.word(),
-            Repr::Static(index) => Static::get().hashes[*index as usize],
+            Repr::Static(index) => Static::hash_at(*index),
             Repr::Dynamic(_, held) => held.hash(),
         }
     }
@@ -274,7 +274,7 @@ impl<'s, Static: StaticAtomSet> Atom<'s, Static> {
 }
 
 /// The atom of the empty text, which is inline: its word is 1.
-impl<'s, Static: StaticAtomSet> Default for Atom<'s, Static> {
+impl<'s, Static: StaticTables> Default for Atom<'s, Static> {
     ghost is_default = { λ atom. atom ≡ record { text = []; word = 1; bits = None } };
 
     fn default() -> Self {
@@ -283,7 +283,7 @@ impl<'s, Static: StaticAtomSet> Default for Atom<'s, Static> {
 }
 
 /// Two atoms are equal where their texts are, whichever sets they borrow.
-impl<'s, Static: StaticAtomSet> PartialEq for Atom<'s, Static> {
+impl<'s, Static: StaticTables> PartialEq for Atom<'s, Static> {
     ghost eq = { λ a b. pointwise nat_eq a.text b.text };
 
     ghost laws = { on_per (λ a. a.text) (Cmp.partial_equiv_from_equiv nat_list_eq_equiv) };
@@ -302,6 +302,6 @@ impl<'s, Static: StaticAtomSet> PartialEq for Atom<'s, Static> {
     }
 }
 
-impl<'s, Static: StaticAtomSet> Eq for Atom<'s, Static> {
+impl<'s, Static: StaticTables> Eq for Atom<'s, Static> {
     ghost laws = { on_equiv (λ a. a.text) nat_list_eq_equiv };
 }

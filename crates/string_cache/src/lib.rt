@@ -9,5 +9,8 @@ pub mod trivial_impls;
 pub use atom::{Atom, DefaultAtom};
 pub use atomic_steps::steps;
 pub use counted_set::dynamic_set;
-pub use string_cache_core::static_sets::{EmptyStaticAtomSet, PhfStrSet, StaticAtomSet};
-pub use string_cache_core::{Fault, phf, static_sets, table, word};
+pub use string_cache_core::packed_sets::{Packed, PackedAtomSet, PackedStrSet};
+pub use string_cache_core::static_sets::{
+    EmptyStaticAtomSet, PhfStrSet, StaticAtomSet, StaticTables,
+};
+pub use string_cache_core::{Fault, packed_sets, phf, static_sets, table, word};

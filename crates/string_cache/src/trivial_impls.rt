@@ -20,7 +20,7 @@ use std::convert::{AsSlice, AsStr};
 use std::fmt::{self, Debug, Display, Formatter, Write};
 use std::sync::Wait;
 use string_cache_core::Fault;
-use string_cache_core::static_sets::StaticAtomSet;
+use string_cache_core::static_sets::StaticTables;
 
 /// Values that have a hash of 32 bits at hand.
 pub trait PrecomputedHash {
@@ -33,7 +33,7 @@ pub trait PrecomputedHash {
 }
 
 /// An atom lends its text.
-impl<'s, Static: StaticAtomSet> AsStr for Atom<'s, Static> {
+impl<'s, Static: StaticTables> AsStr for Atom<'s, Static> {
     ghost text = { λ atom. atom.text };
 
     fn as_str(&self) -> &str {
@@ -42,7 +42,7 @@ impl<'s, Static: StaticAtomSet> AsStr for Atom<'s, Static> {
 }
 
 /// An atom lends the bytes of its text.
-impl<'s, Static: StaticAtomSet> AsSlice<u8> for Atom<'s, Static> {
+impl<'s, Static: StaticTables> AsSlice<u8> for Atom<'s, Static> {
     ghost items = { λ atom. atom.text };
 
     fn as_slice(&self) -> &[u8] {
@@ -51,7 +51,7 @@ impl<'s, Static: StaticAtomSet> AsSlice<u8> for Atom<'s, Static> {
 }
 
 /// The high 32 bits of `get_hash`, xored with the low ones.
-impl<'s, Static: StaticAtomSet> PrecomputedHash for Atom<'s, Static> {
+impl<'s, Static: StaticTables> PrecomputedHash for Atom<'s, Static> {
     ghost precomputed = { λ atom. precomputed_number (hash_number Static.tables atom.text) };
 
     fn precomputed_hash(&self) -> u32 {
@@ -61,7 +61,7 @@ impl<'s, Static: StaticAtomSet> PrecomputedHash for Atom<'s, Static> {
 }
 
 /// The text. Width and precision act on it as on a `str`.
-impl<'s, Static: StaticAtomSet> Display for Atom<'s, Static> {
+impl<'s, Static: StaticTables> Display for Atom<'s, Static> {
     ghost output = { λ atom. Some atom.text };
 
     ghost styled_output = { λ atom spec. Some (styled_text spec atom.text) };
@@ -72,7 +72,7 @@ impl<'s, Static: StaticAtomSet> Display for Atom<'s, Static> {
 }
 
 /// `Atom('`, the text as it is, `' type=`, the name of its form, and `)`. No width acts on the whole.
-impl<'s, Static: StaticAtomSet> Debug for Atom<'s, Static> {
+impl<'s, Static: StaticTables> Debug for Atom<'s, Static> {
     ghost debug_output = { λ atom. Some (debug_text Static.tables atom.text) };
 
     fn fmt<W: Write>(&self, f: &mut Formatter<W>) -> fmt::Result {
@@ -80,18 +80,18 @@ impl<'s, Static: StaticAtomSet> Debug for Atom<'s, Static> {
     }
 }
 
-impl<'s, Static: StaticAtomSet> Described for Atom<'s, Static> {
+impl<'s, Static: StaticTables> Described for Atom<'s, Static> {
     ghost writes = { λ atom. Sends (text_event atom.text) };
 }
 
 /// An atom is written as its text. None is read by `Deserialize`, which is handed no set.
-impl<'s, Static: StaticAtomSet> Serialize for Atom<'s, Static> {
+impl<'s, Static: StaticTables> Serialize for Atom<'s, Static> {
     fn serialize<S: Serializer>(&self, out: &mut S) -> Result<(), S::Error> {
         out.str(self.as_str())
     }
 }
 
-impl<'s, Static: StaticAtomSet> Atom<'s, Static> {
+impl<'s, Static: StaticTables> Atom<'s, Static> {
     /// The JSON text value of the atom's text. It is refused for `Memory` alone.
     pub fn to_json(&self, alloc: Global) -> Result<Value, Fault>
         ensures text { IfOk result (λ value. view value ≡ string self.now.text) }

@@ -1,3 +1,4 @@
+pub mod Found
 pub mod HeldWords
 pub mod IfHeld
 pub mod Keep

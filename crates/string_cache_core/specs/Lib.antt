@@ -7,8 +7,10 @@ pub mod InlineText
 pub mod Kept
 pub mod Layout
 pub mod Map
+pub mod Memory
 pub mod Name
 pub mod Order
+pub mod Packed
 pub mod Parts
 pub mod Pass
 pub mod Phf

@@ -1,5 +1,5 @@
 -- What the calls of a table do, as calls of the map that it is.
-use Rattle.std.specs.Prelude.{◌≡◌, ℕ, ◌<◌, ◌≤◌, ◌⊎◌, ◌↔◌, Bool, true, false, List, Option, None, Some, Result, Ok, Err}
+use Rattle.std.specs.Prelude.{◌≡◌, ℕ, ◌<◌, ◌≤◌, ◌⊎◌, ◌↔◌, Bool, true, false, List, [], ◌∷◌, Option, None, Some, Result, Ok, Err}
 use Rattle.std.specs.Str.{IsUtf8}
 use Rattle.string_cache_core.specs.Bounds.{Bounds}
 use Rattle.string_cache_core.specs.declared.faults.Fault.{Fault}
@@ -39,7 +39,7 @@ abbrev pub IsFixedWord : Tables → ℕ → Type 0
 IsFixedWord t word = IsInlineWord word ⊎ IsStaticTextWord t word
 
 -- the word is one that a text's form fixes, or a ticket that the map holds
-abbrev pub IsHeld : Tables → InternMap → ℕ → Type 0
+unfoldable pub IsHeld : Tables → InternMap → ℕ → Type 0
 IsHeld t m word = IsFixedWord t word ⊎ IsHeldTicket m word
 
 -- At least n hold the word; a word that a text's form fixes is held by any number.
@@ -51,6 +51,10 @@ IsHeldBy t m word n =
 -- Each word can be given as often as it is listed. A caller lists what it interned and cloned, and has not given.
 abbrev pub AreHeld : Tables → InternMap → List ℕ → Type 0
 AreHeld t m words = (word : ℕ) → IsHeldBy t m word (times word words)
+
+-- Each of two words can be given though the other is; one word twice, where they are one.
+unfoldable pub AreBothHeld : Tables → InternMap → ℕ → ℕ → Type 0
+AreBothHeld t m word other = AreHeld t m (word ∷ other ∷ [])
 
 -- cloning a word that is held: nothing changes at a fixed word, and a ticket is the map's call
 abbrev pub Clones : Tables → Bounds → InternMap → ℕ → Result ℕ Fault → InternMap → Type 0
@@ -89,6 +93,10 @@ HasWordBy m text None word = (holders : ℕ) × (m.held text ≡ Some (record { 
 -- the text has the word: the one that its form fixes, or the ticket that it is held with
 abbrev pub HasWord : Tables → InternMap → List ℕ → ℕ → Type 0
 HasWord t m text word = HasWordBy m text (fixed_word (form_of_text t text)) word
+
+-- a text of UTF-8 that has the word
+unfoldable pub IsWordOf : Tables → InternMap → List ℕ → ℕ → Type 0
+IsWordOf t m text word = IsUtf8 text × HasWord t m text word
 
 -- what a word has in m, it has in new
 pub record KeepsWord (t : Tables) (m new : InternMap) (word : ℕ) : Type 0 where

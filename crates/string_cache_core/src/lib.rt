@@ -2,6 +2,7 @@
 #![tactic(auto)]
 
 mod faults;
+pub mod packed_sets;
 pub mod phf;
 #[doc(hidden)]
 pub mod samples;

@@ -1,8 +1,8 @@
 //! Static tables of texts, and the form that they give a text.
 
-ghost use Rattle.std.specs.Prelude.{◌≡◌, ◌↔◌, IfSome, IsSome, IsTrue};
+ghost use Rattle.std.specs.Prelude.{◌≡◌, ◌↔◌, ◌<◌, IfSome, IsSome, IsTrue, length, slice_index};
 ghost use Rattle.string_cache_core.specs.Parts.{parts};
-ghost use Rattle.string_cache_core.specs.Tables.{Tables, AreUsable, AllAreStatic, IsPerfectTable, IsStaticIndex, empty_tables, form_of_text, text_at};
+ghost use Rattle.string_cache_core.specs.Tables.{Tables, AreUsable, AllAreStatic, IsPerfectTable, IsStaticIndex, empty_tables, entry_hash, form_of_text, place_in, text_at};
 
 use crate::phf::{hash, place};
 use crate::word::pack_inline_word;
@@ -58,6 +58,34 @@ pub fn check_parts(key: u64, disps: &[(u32, u32)], atoms: &[&str], hashes: &[u64
     true
 }
 
+/// What is asked of the tables of a static type, however their texts lie. `StaticAtomSet` gives it for tables that list each text,
+/// `Packed` for those whose texts lie in one.
+pub trait StaticTables: Ord {
+    ghost tables: { Tables };
+
+    /// How many texts they have.
+    fn count() -> u32
+        ensures { result ≡ length tables.atoms };
+
+    /// The place of a text, whether it is listed or not, and the hash of its entry.
+    fn look_up(text: &str) -> (u32, u64)
+        ensures place { result.0 ≡ place_in tables text.now }
+        ensures listed { result.0 < length tables.atoms }
+        ensures hash { result.1 ≡ entry_hash tables text.now };
+
+    /// The text at an index.
+    fn text_at(index: u32) -> &'static str
+        requires { index < length tables.atoms }
+        ensures { result.now ≡ text_at tables index };
+
+    /// The number that an atom of the text at an index hashes as.
+    fn hash_at(index: u32) -> u64
+        requires { index < length tables.atoms }
+        ensures { result ≡ slice_index tables.hashes index };
+
+    ghost usable: { AreUsable tables };
+}
+
 /// The type of a static set.
 pub trait StaticAtomSet: Ord {
     ghost tables: { Tables };
@@ -70,6 +98,35 @@ pub trait StaticAtomSet: Ord {
         ensures { tables_of result.now ≡ tables };
 
     ghost usable: { AreUsable tables };
+}
+
+impl<S: StaticAtomSet> StaticTables for S {
+    ghost tables = { S.tables };
+
+    ghost usable = { S.usable };
+
+    #[inline]
+    fn count() -> u32 {
+        S::get().atoms.len() as u32
+    }
+
+    #[inline]
+    fn look_up(text: &str) -> (u32, u64) {
+        let set = S::get();
+        let hashes = hash(text, set.key);
+        let index = place(&hashes, set.disps, set.atoms.len() as u32);
+        (index, hashes.entry_hash())
+    }
+
+    #[inline]
+    fn text_at(index: u32) -> &'static str {
+        S::get().atoms[index as usize]
+    }
+
+    #[inline]
+    fn hash_at(index: u32) -> u64 {
+        S::get().hashes[index as usize]
+    }
 }
 
 /// The static set without a text that could be static.
@@ -108,31 +165,47 @@ pub enum TextForm {
 
 /// The form of a text under the tables of `S`. It hashes a text of more than 7 bytes once.
 #[inline]
-pub fn form_of_text<S: StaticAtomSet>(text: &str) -> TextForm
+pub fn form_of_text<S: StaticTables>(text: &str) -> TextForm
     ensures { result ≡ form_of_text S.tables text.now }
 {
     if let Some(word) = pack_inline_word(text) {
         return TextForm::Inline(word);
     }
-    let set = S::get();
-    let hashes = hash(text, set.key);
-    let index = place(&hashes, set.disps, set.atoms.len() as u32);
-    if set.atoms[index as usize] == text {
+    let (index, hash) = S::look_up(text);
+    if S::text_at(index) == text {
         TextForm::Static(index)
     } else {
-        TextForm::Dynamic(hashes.entry_hash())
+        TextForm::Dynamic(hash)
     }
 }
 
 /// The static text at an index. `None` where the tables have none there, or one that isn't at its place or has at most
 /// 7 bytes.
-pub fn static_text<S: StaticAtomSet>(index: u32) -> Option<&'static str>
+pub fn static_text<S: StaticTables>(index: u32) -> Option<&'static str>
     ensures is_static { IsSome result ↔ IsStaticIndex S.tables index }
     ensures text { IfSome result (λ text. text.now ≡ text_at S.tables index) }
 {
-    let text = *S::get().atoms.get(index as usize)?;
+    if index >= S::count() {
+        return None;
+    }
+    let text = S::text_at(index);
     match form_of_text::<S>(text) {
         TextForm::Static(own) if own == index => Some(text),
         _ => None,
     }
+}
+
+/// Whether each text of the tables of `S` is listed once, at its place. Then every text of more than 7 bytes in them is static.
+/// The hashes aren't looked at. It takes no memory, and hashes each text once.
+pub fn are_perfect<S: StaticTables>() -> bool
+    ensures perfect { IsTrue result ↔ IsPerfectTable S.tables }
+    ensures found { IsTrue result → AllAreStatic S.tables }
+{
+    for index in 0..S::count() {
+        let (place, _) = S::look_up(S::text_at(index));
+        if place != index {
+            return false;
+        }
+    }
+    true
 }

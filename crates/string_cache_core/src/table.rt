@@ -8,7 +8,7 @@ ghost use Rattle.std.specs.List.{swap_remove};
 ghost use Rattle.string_cache_core.specs.Layout.{holder_bound, serial_bound, usual_buckets};
 ghost use Rattle.string_cache_core.specs.Map.{Holding, IsHeldTicket, Intern, MapReply, MayReply, empty_map, with_held, with_last};
 ghost use Rattle.string_cache_core.specs.Order.{ComesLast, GoesFrom};
-ghost use Rattle.string_cache_core.specs.Table.{Adds, Interns, Gives, AreHeld, GivesOnce, HasOneTextEach, HasWord, IsFixedWord, IsHeld, IsTextOf, KeepsWord, as_word};
+ghost use Rattle.string_cache_core.specs.Table.{Adds, Interns, Gives, AreBothHeld, AreHeld, GivesOnce, HasOneTextEach, HasWord, IsFixedWord, IsHeld, IsTextOf, IsWordOf, KeepsWord, as_word};
 ghost use Rattle.string_cache_core.specs.Tables.{bucket_of, form_of_text, fixed_word};
 ghost use Rattle.string_cache_core.specs.Word.{inline_word, ticket_of};
 ghost use Rattle.string_cache_core.specs.declared.static_sets.TextForm.TheVariants.{Dynamic};
@@ -17,6 +17,7 @@ mod call;
 mod holding;
 mod iter;
 mod look_up;
+mod memory;
 mod name;
 mod names;
 mod release;
@@ -24,12 +25,13 @@ mod room;
 mod word_text;
 
 use crate::Fault;
-use crate::static_sets::{StaticAtomSet, TextForm, form_of_text, static_text};
+use crate::static_sets::{StaticTables, TextForm, form_of_text, static_text};
 use crate::word::{Buckets, Form, Limits, form_of, static_word, ticket_word};
 pub use call::{Call, TableReply};
 use holding::{Holding, write_holders};
 use indexmap::{IndexMap, IndexSet};
 pub use iter::{HeldText, Iter};
+use memory::Room;
 pub use name::Name;
 pub use names::Names;
 use std::alloc::Global;
@@ -38,18 +40,19 @@ pub use word_text::WordText;
 
 /// The interned texts of one thread. Each dynamic text that is held has one ticket, and a number of holders.
 #[derive(Drop)]
-pub struct Table<S: StaticAtomSet> {
+pub struct Table<S: StaticTables> {
     limits: Limits,
     buckets: Buckets,
     lasts: Vec<u64>, // a bucket's last serial
     entries: IndexMap<String, Holding>,
     tickets: IndexSet<u64>, // each at the place of its entry
     bytes: u128, // of all texts together
+    room: Room,
     alloc: Global,
     statics: PhantomData<S>,
 }
 
-impl<S: StaticAtomSet> Model for Table<S> {
+impl<S: StaticTables> Model for Table<S> {
     ghost use Rattle.string_cache_core.specs.Kept.{Kept, pairs_of, IsKeptTable};
 
     ghost Value = { Kept };
@@ -59,7 +62,7 @@ impl<S: StaticAtomSet> Model for Table<S> {
     ghost invariant = { λ a. IsKeptTable S.tables a.buckets a.lasts.items (pairs_of a.entries.entries) a.tickets.keys a.bytes };
 }
 
-impl<S: StaticAtomSet> Table<S> {
+impl<S: StaticTables> Table<S> {
     ghost use Rattle.string_cache_core.specs.Kept.{Kept, Pair, map_of, tickets_of, IsSoundMap};
     ghost use Rattle.string_cache_core.specs.Places.{IsPlace, IsFound};
 
@@ -96,6 +99,7 @@ impl<S: StaticAtomSet> Table<S> {
             entries: IndexMap::new(alloc),
             tickets: IndexSet::new(alloc),
             bytes: 0,
+            room: Room::none(),
             alloc,
             statics: PhantomData,
         })
@@ -119,6 +123,12 @@ impl<S: StaticAtomSet> Table<S> {
         ensures apart { HasOneTextEach S.tables (map_of self.new) }
         ensures once { GivesOnce (map_of self.old) (map_of self.new) }
         ensures order { IfOk result (λ word. ComesLast self.old word self.new) }
+        // The same once more, as a caller's proof finds it by itself.
+        ensures own { IfOk result (λ word. IsWordOf S.tables (map_of self.new) text.now word) }
+        ensures same { IfOk result (λ word. (other : ℕ) (also : List ℕ) → IsWordOf S.tables (map_of self.old) also other → (word ≡ other) ↔ (text.now ≡ also)) }
+        ensures owned { (other : ℕ) (also : List ℕ) → IsWordOf S.tables (map_of self.old) also other → IsWordOf S.tables (map_of self.new) also other }
+        ensures still { (other : ℕ) → IsHeld S.tables (map_of self.old) other → IsHeld S.tables (map_of self.new) other }
+        ensures both { IfOk result (λ word. (other : ℕ) → IsHeld S.tables (map_of self.old) other → AreBothHeld S.tables (map_of self.new) word other) }
         ensures fault { IfErr result IsInternFault }
         ensures err { OnErr result (self.new ≡ self.old) }
     {
@@ -282,6 +292,8 @@ impl<S: StaticAtomSet> Table<S> {
         ensures map { (text : List ℕ) (had : Holding) → slice_get self.old.pairs at ≡ Some (text, had) → map_of self.new ≡ with_held (map_of self.old) text None }
         ensures order { (ticket : ℕ) → tickets_of self.new.pairs ≡ swap_remove (tickets_of self.old.pairs) at ticket }
     {
+        self.room
+            .note(self.entries.capacity(), self.tickets.capacity());
         let Some((text, _)) = self.entries.swap_remove_index(at) else {
             unreachable!()
         };
@@ -352,7 +364,7 @@ impl<S: StaticAtomSet> Table<S> {
 }
 
 /// Whether it is the word of an inline or of a static text.
-fn is_fixed<S: StaticAtomSet>(word: u64) -> bool
+fn is_fixed<S: StaticTables>(word: u64) -> bool
     ensures { IsTrue result ↔ IsFixedWord S.tables word }
 {
     match form_of(word) {

@@ -1,4 +1,5 @@
 pub mod Cuts
+pub mod Doubles
 pub mod Fitting
 pub mod HexLemmas
 pub mod LineLemmas

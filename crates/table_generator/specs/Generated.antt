@@ -1,5 +1,5 @@
 -- What tables of a list of texts are, and what making them may answer.
-use Rattle.std.specs.Prelude.{◌≡◌, ◌↔◌, ℕ, ◌+◌, ◌/◌, ◌<◌, ◌≤◌, List, [], ◌∷◌, length, map, slice_index_or, string_bytes, Result, Err, IfOk}
+use Rattle.std.specs.Prelude.{◌≡◌, ◌↔◌, ◌⊎◌, ℕ, ◌+◌, ◌/◌, ◌<◌, ◌≤◌, List, [], ◌∷◌, length, map, slice_index_or, string_bytes, Result, Err, IfOk}
 use Rattle.std.specs.List.{All, Contains}
 use Rattle.std.specs.List.Sorted.{IsPermutation}
 use denote.Ref.{Bor}
@@ -41,11 +41,19 @@ HasFeed texts = (i : ℕ) × (i < length texts) × Contains (slice_index_or text
 abbrev pub HasDouble : List (List ℕ) → Type 0
 HasDouble texts = (i : ℕ) × (j : ℕ) × (i < j) × (j < length texts) × (slice_index_or texts i [] ≡ slice_index_or texts j [])
 
+-- a text before the one at the index is equal to it
+abbrev pub HasEarlier : List (List ℕ) → ℕ → Type 0
+HasEarlier texts index = (i : ℕ) × (i < index) × (slice_index_or texts i [] ≡ slice_index_or texts index [])
+
 -- no two displacements below the bound, as the one pair, give the texts different places
 abbrev pub IsUnplaceable : List (List ℕ) → ℕ → ℕ → Type 0
 IsUnplaceable texts key bound =
     (d1 d2 : ℕ) → d1 < bound → d2 < bound
     → AreApart ((d1, d2) ∷ []) (length texts) (map (λ text. hashes_of text key) texts) → ⊥
+
+-- The fault says whether two texts are equal: it is `Doubled` where they are, and `Memory` where none are.
+abbrev pub TellsDouble : List (List ℕ) → GenFault → Type 0
+TellsDouble texts found = ((found ≡ fault.Doubled) × HasDouble texts) ⊎ ((found ≡ fault.Memory) × ¬ (HasDouble texts))
 
 -- What making tables of the texts answers.
 pub record TellsTables (texts : List (List ℕ)) (key bound : ℕ) (result : Result Tables GenFault) : Type 0 where

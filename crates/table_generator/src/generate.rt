@@ -3,16 +3,19 @@
 //! Each text belongs to the pair of displacements that its hash `g` picks. Pairs with more texts are settled first; for a pair
 //! one displacement after another is tried against the places that are taken by then, and nothing that was settled changes.
 
-ghost use Rattle.std.specs.Prelude.{◌≡◌, ◌<◌, ◌≤◌, ◌%◌, ◌^◌, ◌⊎◌, ℕ, IfOk, IfSome, length};
+ghost use Rattle.std.specs.Prelude.{◌≡◌, ◌<◌, ◌≤◌, ◌%◌, ◌^◌, ◌⊎◌, ℕ, IfErr, IfOk, IfSome, length, map};
 ghost use Rattle.std.specs.Bool.{OnTrue, OnFalse};
 ghost use Rattle.std.specs.List.{All};
-ghost use Rattle.table_generator.specs.Generated.{tables_of, texts_of, HasDouble, HasFeed, IsTablesOf, IsUnplaceable, TellsTables};
+ghost use Rattle.std.specs.List.Sorted.{IsPermutation};
+ghost use Rattle.string_cache_core.specs.Phf.{hashes_of};
+ghost use Rattle.table_generator.specs.Generated.{tables_of, texts_of, HasDouble, HasFeed, IsTablesOf, IsUnplaceable, TellsDouble, TellsTables};
+ghost use Rattle.table_generator.specs.Grouped.{AreGrouped};
 
 use crate::displace::displace;
-use crate::items::{assemble, hashes_of_items, items_of};
+use crate::items::{Item, assemble, has_repeat, hashes_of_items, items_of};
 use crate::search::Tried;
 use crate::tables::{GenFault, Tables};
-use std::alloc::{AllocError, Global};
+use std::alloc::Global;
 
 /// Whether a text has a line feed.
 fn has_feed(list: &[&str]) -> bool
@@ -73,22 +76,55 @@ fn tried(count: u32, bound: u32) -> Tried
     Tried { first, second }
 }
 
-/// Tables of the texts, or `None` where the search found none.
-fn tables_in(
+/// The texts as items, of which no two are equal. `Doubled` comes where two are, also where memory is refused: then each text is
+/// compared with all before it, which takes none, and `Memory` comes where all differ.
+fn different_items<'t>(
     alloc: Global,
-    list: &[&str],
+    list: &[&'t str],
     key: u64,
-    bound: u32,
-) -> Result<Option<Tables>, AllocError>
+    pairs: usize,
+) -> Result<Vec<Item<'t>>, GenFault>
+    requires pairs { 1 ≤ pairs }
+    requires few_pairs { pairs < 2 ^ 31 }
+    requires few { length list.now < 2 ^ 32 }
+    ensures count { IfOk result (λ items. length items.items ≡ length list.now) }
+    ensures texts { IfOk result (λ items. IsPermutation (texts_of list.now) (map (λ item. item.text.now) items.items)) }
+    ensures hashed { IfOk result (λ items. All (λ item. item.hashes ≡ hashes_of item.text.now key) items.items) }
+    ensures grouped { IfOk result (λ items. AreGrouped pairs (map (λ item. item.hashes) items.items)) }
+    ensures differ { IfOk result (λ items. HasDouble (texts_of list.now) → ⊥) }
+    ensures fault { IfErr result (TellsDouble (texts_of list.now)) }
+{
+    match items_of(alloc, list, key, pairs) {
+        Ok(items) => {
+            if has_repeat(&items, pairs) {
+                return Err(GenFault::Doubled);
+            }
+            Ok(items)
+        }
+        Err(_) => {
+            if has_double(list) {
+                return Err(GenFault::Doubled);
+            }
+            Err(GenFault::Memory)
+        }
+    }
+}
+
+/// Tables of the texts, or `None` where the search found none.
+fn tables_in(alloc: Global, list: &[&str], key: u64, bound: u32) -> Result<Option<Tables>, GenFault>
     requires some { 1 ≤ length list.now }
     requires few { length list.now < 2 ^ 32 }
-    requires bound { 1 ≤ bound }
     ensures made { IfOk result (λ found. IfSome found (λ t. IsTablesOf (texts_of list.now) key bound (tables_of t))) }
     ensures small { IfOk result (λ found. IfSome found (λ t. All (λ hash. hash < 2 ^ 64) t.hashes.items)) }
     ensures unplaced { IfOk result (λ found. found ≡ None → length list.now ≤ 5 → IsUnplaceable (texts_of list.now) key bound) }
+    ensures differ { IfOk result (λ found. HasDouble (texts_of list.now) → ⊥) }
+    ensures fault { IfErr result (TellsDouble (texts_of list.now)) }
 {
     let pairs = (list.len() + 4) / 5;
-    let items = items_of(alloc, list, key, pairs)?;
+    let items = different_items(alloc, list, key, pairs)?;
+    if bound == 0 {
+        return Ok(None);
+    }
     let hashes = hashes_of_items(alloc, &items)?;
     let tried = tried(list.len() as u32, bound);
     let Some(disps) = displace(alloc, &hashes, pairs, tried)? else {
@@ -100,15 +136,16 @@ fn tables_in(
 /// Tables of the texts under the key, with each displacement below the bound: one pair of displacements for each five texts,
 /// and one more where some are left.
 ///
-/// `EmptyList`, `LineFeed` and `Doubled` come in this order, before any memory is asked for. `NotPlaced` comes where the search
-/// found no tables: of at most five texts only where there are none, so never of one text with a bound of at least 1. Another
-/// key, or a greater bound, may find some.
+/// `EmptyList`, `LineFeed` and `Doubled` come in this order and before any other fault, the first two before any memory is asked for.
+/// `NotPlaced` comes where the search found no tables: of at most five texts only where there are none, so never of one text with a
+/// bound of at least 1. Another key, or a greater bound, may find some.
 ///
 /// The search takes milliseconds for a thousand texts, and has an end. What it tries for one pair, where that is hopeless, is at
 /// most 65,536 or `bound` displacements, whichever is less, times the number of texts; that number's square where it is a power of
 /// two; and three times `bound` times `bound` for three or five texts. Of these small ones are tried first: where some below a small
-/// bound place the texts, a greater bound takes no longer. Looking for equal texts compares each text with all before it, which is
-/// quick for thousands and slow for hundreds of thousands.
+/// bound place the texts, a greater bound takes no longer. Equal texts have equal hashes, so each text is compared with those of its
+/// own pair alone, some five of them. Where memory is refused before that, or there are 2^32 texts or more, it is compared with all
+/// before it, which takes no memory, and hours for millions of texts.
 pub fn generate(alloc: Global, list: &[&str], key: u64, bound: u32) -> Result<Tables, GenFault>
     ensures { TellsTables (texts_of list.now) key bound result }
 {
@@ -118,10 +155,10 @@ pub fn generate(alloc: Global, list: &[&str], key: u64, bound: u32) -> Result<Ta
     if has_feed(list) {
         return Err(GenFault::LineFeed);
     }
-    if has_double(list) {
-        return Err(GenFault::Doubled);
-    }
-    if list.len() > u32::MAX as usize || bound == 0 {
+    if list.len() > u32::MAX as usize {
+        if has_double(list) {
+            return Err(GenFault::Doubled);
+        }
         return Err(GenFault::NotPlaced);
     }
     match tables_in(alloc, list, key, bound)? {

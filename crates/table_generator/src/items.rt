@@ -1,11 +1,12 @@
 //! Texts in the order in which they are settled, and then in that of their places.
 
 ghost use Rattle.std.specs.Prelude.{◌≡◌, ◌<◌, ◌≤◌, ◌^◌, IfOk, length, map};
-ghost use Rattle.std.specs.List.{All};
+ghost use Rattle.std.specs.Bool.{OnTrue, OnFalse};
+ghost use Rattle.std.specs.List.{All, AllPairs};
 ghost use Rattle.std.specs.List.Sorted.{IsPermutation};
 ghost use Rattle.string_cache_core.specs.Phf.{hash_of_hashes, hashes_of, place_of};
 ghost use Rattle.table_generator.specs.Assembled.{Assembles};
-ghost use Rattle.table_generator.specs.Generated.{tables_of, texts_of};
+ghost use Rattle.table_generator.specs.Generated.{tables_of, texts_of, HasDouble, HasEarlier};
 ghost use Rattle.table_generator.specs.Grouped.{AreGrouped, rank_of};
 ghost use Rattle.table_generator.specs.Places.{AreApart};
 
@@ -83,6 +84,46 @@ pub fn items_of<'t>(
     let mut items = ranked(alloc, list, key, &others)?;
     items.sort_unstable_by_key(|item| item.rank);
     Ok(items)
+}
+
+/// Whether a text before the one at this index is equal to it. Texts of one pair stand side by side, and equal ones are of one pair,
+/// so no others are looked at.
+fn repeats_earlier(items: &[Item], index: usize, pairs: usize) -> bool
+    requires pairs { 1 ≤ pairs }
+    requires listed { index < length items.now }
+    requires grouped { AreGrouped pairs (map (λ item. item.hashes) items.now) }
+    requires alike { AllPairs (λ x y. x.text.now ≡ y.text.now → x.hashes ≡ y.hashes) items.now }
+    ensures yes { OnTrue result (HasEarlier (map (λ item. item.text.now) items.now) index) }
+    ensures no { OnFalse result (HasEarlier (map (λ item. item.text.now) items.now) index → ⊥) }
+{
+    let item = &items[index];
+    let own = item.hashes.g as usize % pairs;
+    for at in (0..index).rev() {
+        let earlier = &items[at];
+        if earlier.hashes.g as usize % pairs != own {
+            return false;
+        }
+        if earlier.hashes == item.hashes && earlier.text == item.text {
+            return true;
+        }
+    }
+    false
+}
+
+/// Whether two of the items have equal texts. It takes no memory, and compares a text with those of its own pair alone.
+pub fn has_repeat(items: &[Item], pairs: usize) -> bool
+    requires pairs { 1 ≤ pairs }
+    requires grouped { AreGrouped pairs (map (λ item. item.hashes) items.now) }
+    requires alike { AllPairs (λ x y. x.text.now ≡ y.text.now → x.hashes ≡ y.hashes) items.now }
+    ensures yes { OnTrue result (HasDouble (map (λ item. item.text.now) items.now)) }
+    ensures no { OnFalse result (HasDouble (map (λ item. item.text.now) items.now) → ⊥) }
+{
+    for index in 0..items.len() {
+        if repeats_earlier(items, index, pairs) {
+            return true;
+        }
+    }
+    false
 }
 
 /// The hashes of the texts.

@@ -85,6 +85,12 @@ fn refused_lists(rt: HostRuntime) -> Result<(), Fail> {
             GenFault::NotPlaced,
             "no tables within the bound",
         ),
+        (
+            ["sentence", "interned", "sentence"].as_slice(),
+            0,
+            GenFault::Doubled,
+            "text listed twice",
+        ),
     ] {
         assert!(rt; tables_of(alloc, list, 0, bound).err() == Some(fault));
         assert_eq!(rt; format!(in alloc; "{fault}")?.as_str(), text);
@@ -93,6 +99,104 @@ fn refused_lists(rt: HostRuntime) -> Result<(), Fail> {
         format!(in alloc; "{}", GenFault::Memory)?.as_str(),
         "no memory"
     );
+    Ok(())
+}
+
+/// The fault that comes of these texts, with the one at `to` like that at `from`.
+fn fault_of_double(
+    alloc: Global,
+    texts: &[String],
+    from: usize,
+    to: usize,
+) -> Result<Option<GenFault>, Fail> {
+    let mut list = Vec::new(alloc);
+    for (i, text) in texts.iter().enumerate() {
+        let twice = if i == to { texts.get(from) } else { None };
+        list.push(twice.unwrap_or(text).as_str())?;
+    }
+    Ok(tables_of(alloc, &list, 0, 1024).err())
+}
+
+/// Wherever the two equal texts stand among a thousand: side by side, far apart, or in the place of each other.
+#[test]
+fn doubled_texts(rt: HostRuntime) -> Result<(), Fail> {
+    let alloc = rt.alloc();
+    let texts = numbered(alloc, 1000)?;
+    for (from, to) in &[(0usize, 1usize), (0, 999), (999, 0), (499, 500), (17, 801)] {
+        let fault = fault_of_double(alloc, &texts, *from, *to)?;
+        assert!(rt; fault == Some(GenFault::Doubled), "of {from} and {to}");
+    }
+    Ok(())
+}
+
+/// A text that is listed three times, and between them others of its pair of displacements.
+#[test]
+fn text_listed_three_times(rt: HostRuntime) -> Result<(), Fail> {
+    let alloc = rt.alloc();
+    let list = ["sentence", "interned", "sentence", "tokenised", "sentence"];
+    let found = tables_of(alloc, &list, 0, 1024);
+    assert!(rt; found.err() == Some(GenFault::Doubled));
+    Ok(())
+}
+
+/// Xor and wrapping sum of the numbers.
+fn xor_and_sum(numbers: &[u64]) -> (u64, u64) {
+    let mut xor = 0u64;
+    let mut sum = 0u64;
+    for number in numbers {
+        xor ^= *number;
+        sum = sum.wrapping_add(*number);
+    }
+    (xor, sum)
+}
+
+/// The texts `name_of_element_N_x`, N being 7919, 15838 and so on modulo 1,000,003.
+fn spread(alloc: Global, count: u64) -> Result<Vec<String>, Fail> {
+    let mut texts = Vec::new(alloc);
+    for i in 0..count {
+        let number = i.wrapping_mul(7919) % 1_000_003;
+        texts.push(format!(in alloc; "name_of_element_{number}_x")?)?;
+    }
+    Ok(texts)
+}
+
+/// A thousand texts and one beyond ASCII. By a program in Python, written from what is stated of the hash, xor and sum of their entries'
+/// hashes are these.
+#[test]
+fn thousand_and_one_texts(rt: HostRuntime) -> Result<(), Fail> {
+    let alloc = rt.alloc();
+    let texts = spread(alloc, 1000)?;
+    let mut list = lent(alloc, &texts)?;
+    list.push("味噌汁")?;
+    let tables = tables_of(alloc, &list, 0, 2048)?;
+    let wanted = (0xa53f_e03c_a4ac_91ebu64, 0xb218_f2a5_e4b2_b187u64);
+    assert!(rt; xor_and_sum(&tables.hashes) == wanted);
+    assert!(rt; tables.disps.len() == 201);
+    assert!(rt; checked(alloc, &format!(in alloc; "{tables}")?)?);
+    Ok(())
+}
+
+/// Names of several scripts under two pairs of displacements, as a program in Python placed them that was written from what is stated of the
+/// hash and of places, with another search.
+#[test]
+fn text_of_another_program(rt: HostRuntime) -> Result<(), Fail> {
+    let atoms = "atom ee9d42ffbc5d841a 味噌汁
+atom fd9460e8e024ebc2 gołąbki
+atom cb0d452761586807 שקשוקה
+atom c9cea4fccea8d648 sauerkraut
+atom 1933aeba31c325e4 minestrone
+atom 9f0d8fed70392973 bouillabaisse
+atom bb1cbbc265467a6b борщ зелёный
+atom d6b28c12c11d6bd6 café au lait
+";
+    let alloc = rt.alloc();
+    for (pairs, yes) in &[
+        ("disp 198 0\ndisp 196 3", true),
+        ("disp 196 3\ndisp 198 0", false),
+    ] {
+        let text = format!(in alloc; "key 3\n{pairs}\n{atoms}")?;
+        assert!(rt; checked(alloc, &text)? == *yes, "of {pairs}");
+    }
     Ok(())
 }
 

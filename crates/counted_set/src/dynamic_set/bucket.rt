@@ -21,7 +21,7 @@ use std::alloc::Global;
 use std::marker::{Model, PhantomData};
 use std::sync::Wait;
 use string_cache_core::Fault;
-use string_cache_core::static_sets::StaticAtomSet;
+use string_cache_core::static_sets::StaticTables;
 use string_cache_core::word::{Buckets, Limits, ticket_word};
 
 /// What one lock of a set holds: entries, newest first, and the serial that it gave last.
@@ -29,7 +29,7 @@ use string_cache_core::word::{Buckets, Limits, ticket_word};
 /// It is one of some number of buckets. Each entry names that number, its hash is that of its text, its ticket is that of its serial in
 /// the bucket of the hash, and no serial is given twice. Which lock a bucket stands under isn't known here.
 #[derive(Drop)]
-pub struct Bucket<Static: StaticAtomSet> {
+pub struct Bucket<Static: StaticTables> {
     buckets: Buckets,
     entries: Entries,
     last: u64,
@@ -37,7 +37,7 @@ pub struct Bucket<Static: StaticAtomSet> {
     of: PhantomData<Static>,
 }
 
-impl<Static: StaticAtomSet> Model for Bucket<Static> {
+impl<Static: StaticTables> Model for Bucket<Static> {
     ghost use Rattle.std.specs.Prelude.{◌≡◌, []};
     ghost use Rattle.counted_set.specs.Chain.{Chain, IsKept};
 
@@ -48,7 +48,7 @@ impl<Static: StaticAtomSet> Model for Bucket<Static> {
     ghost invariant = { λ b. (b.entries.passed ≡ []) × IsKept Static.tables (record { bits = b.buckets; entries = b.entries.left; last = b.last }) };
 }
 
-impl<Static: StaticAtomSet> Bucket<Static> {
+impl<Static: StaticTables> Bucket<Static> {
     /// A bucket without entries, which has given no serial: one of this many.
     pub fn new(alloc: Global, buckets: Buckets) -> Self
         ensures { result ≡ record { bits = buckets; entries = []; last = 0 } }

@@ -8,18 +8,18 @@ use counted_cell::CellShare;
 use std::marker::Model;
 use std::sync::Wait;
 use string_cache_core::Fault;
-use string_cache_core::static_sets::StaticAtomSet;
+use string_cache_core::static_sets::StaticTables;
 
 /// One share of an entry, with the set that it is of.
 ///
 /// Its drop subtracts one and never waits. Where it was the entry's last share, the bucket's lock is tried once; if it was
 /// free, dying entries are taken out of the bucket, and otherwise the next pass over the bucket does that.
-pub struct Held<'s, Static: StaticAtomSet> {
+pub struct Held<'s, Static: StaticTables> {
     share: CellShare,
     set: &'s Set<Static>,
 }
 
-impl<'s, Static: StaticAtomSet> Model for Held<'s, Static> {
+impl<'s, Static: StaticTables> Model for Held<'s, Static> {
     ghost use Rattle.counted_set.specs.Chain.{IsRight, Linked};
 
     ghost Value = { Linked };
@@ -31,7 +31,7 @@ impl<'s, Static: StaticAtomSet> Model for Held<'s, Static> {
     ghost invariant = { λ h. IsRight Static.tables (linked_of h.share) };
 }
 
-impl<'s, Static: StaticAtomSet> Drop for Held<'s, Static> {
+impl<'s, Static: StaticTables> Drop for Held<'s, Static> {
     #[inline]
     fn drop(self) {
         let Self { share, set } = self;
@@ -39,7 +39,7 @@ impl<'s, Static: StaticAtomSet> Drop for Held<'s, Static> {
     }
 }
 
-impl<'s, Static: StaticAtomSet> Held<'s, Static> {
+impl<'s, Static: StaticTables> Held<'s, Static> {
     ghost use Rattle.counted_set.specs.Chain.{IsRight};
 
     pub(super) fn new(share: Share, set: &'s Set<Static>) -> Held<'s, Static>

@@ -15,20 +15,20 @@ use std::marker::Model;
 use std::mem::size_of;
 use std::sync::{Mutex, Wait};
 use string_cache_core::Fault;
-use string_cache_core::static_sets::StaticAtomSet;
+use string_cache_core::static_sets::StaticTables;
 use string_cache_core::word::{Buckets, Limits};
 
 /// The dynamic texts of a static type, in buckets by their hashes. Threads share it. In a clause it is its limits and the bits of
 /// the number of its buckets.
 #[derive(Drop)]
-pub struct Set<Static: StaticAtomSet> {
+pub struct Set<Static: StaticTables> {
     buckets: Vec<Mutex<Bucket<Static>>>,
     count: Buckets,
     limits: Limits,
     alloc: Global,
 }
 
-impl<Static: StaticAtomSet> Model for Set<Static> {
+impl<Static: StaticTables> Model for Set<Static> {
     ghost use Rattle.std.specs.Prelude.{◌≡◌, ◌^◌, vec_len};
     ghost use Rattle.counted_set.specs.SetValue.{SetValue};
 
@@ -39,7 +39,7 @@ impl<Static: StaticAtomSet> Model for Set<Static> {
     ghost invariant = { λ s. vec_len s.buckets ≡ 2 ^ s.count };
 }
 
-impl<Static: StaticAtomSet> Set<Static> {
+impl<Static: StaticTables> Set<Static> {
     /// A set without texts, with the greatest limits and the usual number of buckets. It is refused for `Memory` alone.
     pub fn new(alloc: Global) -> Result<Self, Fault>
         ensures limits { IfOk result (λ set. set.limits ≡ record { holders = holder_bound - 1; serials = serial_bound - 1 }) }

@@ -1,898 +1,1496 @@
-//! A static type over the tables that `generate 0 1024` prints of the names.
+//! A static type over generated tables.
 
 ghost use Rattle.std.specs.Prelude.{[], ◌∷◌, codes};
 
-use string_cache::{PhfStrSet, StaticAtomSet};
+#[cfg(test)]
+use string_cache::word::pack_inline_word;
+use string_cache::{Atom, PhfStrSet, StaticAtomSet};
 
+/// The tables, as they were generated.
 pub static NAMES_TABLES: PhfStrSet = PhfStrSet {
     key: 0,
     disps: &[
-        (0, 242),
-        (0, 1),
-        (0, 6),
-        (0, 0),
-        (0, 22),
-        (0, 21),
-        (0, 4),
+        (0, 113),
+        (4, 98),
         (0, 2),
-        (0, 0),
-        (0, 22),
-        (8, 268),
-        (2, 262),
-        (0, 11),
-        (1, 351),
-        (0, 40),
-        (0, 9),
-        (0, 239),
-        (0, 90),
-        (0, 0),
-        (0, 156),
-        (0, 100),
-        (0, 18),
-        (0, 26),
-        (0, 64),
-        (0, 102),
-        (3, 4),
-        (0, 254),
-        (0, 272),
-        (0, 8),
-        (0, 21),
-        (0, 25),
-        (0, 304),
-        (1, 142),
-        (0, 0),
-        (9, 158),
-        (0, 36),
+        (5, 28),
         (0, 3),
-        (0, 61),
+        (1, 12),
+        (0, 14),
         (0, 0),
-        (0, 2),
-        (1, 313),
-        (0, 0),
-        (0, 6),
-        (0, 5),
-        (4, 185),
-        (2, 0),
-        (2, 275),
-        (0, 269),
+        (1, 1),
+        (7, 5),
+        (0, 109),
+        (9, 111),
+        (0, 19),
+        (1, 22),
         (0, 18),
+        (21, 79),
+        (2, 0),
         (0, 6),
-        (0, 0),
-        (0, 124),
-        (0, 145),
-        (0, 282),
-        (3, 74),
-        (0, 26),
-        (0, 137),
-        (0, 51),
-        (0, 12),
-        (3, 82),
-        (0, 86),
-        (14, 184),
-        (0, 0),
-        (2, 253),
-        (3, 161),
-        (4, 157),
-        (1, 6),
-        (0, 254),
-        (66, 179),
-        (0, 273),
-        (0, 2),
-        (1, 237),
-        (0, 242),
-        (29, 374),
-        (0, 24),
-        (11, 286),
-        (8, 1),
-        (0, 335),
-        (0, 82),
+        (22, 93),
+        (232, 103),
+        (1, 102),
+        (11, 56),
+        (94, 55),
     ],
     atoms: &[
-        "unicode-bidi",
-        "mix-blend-mode",
-        "border-spacing",
-        "font-family",
-        "textarea",
-        "resize",
-        "class",
-        "column-gap",
-        "of",
-        "await",
-        "meta",
-        "blockquote",
-        "extern",
-        "in",
-        "head",
-        "ref",
-        "while",
-        "visibility",
-        "rb",
-        "object",
-        "marquee",
-        "list-style",
-        "h6",
-        "opens",
-        "progress",
-        "article",
-        "hr",
-        "typeof_unqual",
-        "audio",
-        "signed",
-        "link",
-        "span",
-        "grid",
-        "left",
-        "rtc",
-        "set",
-        "multicol",
-        "dt",
-        "translate",
-        "footer",
-        "inline",
-        "void",
-        "volatile",
-        "address",
-        "protected",
-        "img",
-        "char",
-        "instanceof",
-        "crate",
-        "tbody",
-        "background-color",
-        "area",
-        "object-position",
-        "if",
-        "data",
-        "sealed",
-        "gap",
-        "int",
-        "def",
-        "border",
-        "plaintext",
-        "contain",
-        "blink",
-        "page",
-        "colgroup",
-        "search",
-        "menu",
-        "box",
-        "font-style",
-        "dl",
-        "mark",
-        "white-space",
-        "this",
-        "short",
-        "datalist",
-        "font-size",
-        "eval",
-        "column-count",
-        "table",
-        "image",
-        "width",
-        "function",
-        "constexpr",
-        "nav",
-        "align-items",
-        "portal",
-        "place-content",
-        "abstract",
-        "bool",
-        "static_assert",
-        "null",
-        "element",
-        "text-shadow",
-        "pointer-events",
-        "columns",
-        "q",
-        "background-image",
-        "align-content",
-        "typeof",
-        "with",
-        "flex-basis",
-        "div",
-        "nobr",
-        "dyn",
-        "big",
-        "exports",
-        "picture",
-        "button",
-        "input",
-        "throws",
-        "yield",
-        "True",
-        "grid-row",
-        "unsigned",
-        "max-width",
-        "ul",
-        "time",
-        "del",
-        "double",
-        "raise",
-        "kbd",
-        "struct",
-        "height",
-        "else",
-        "record",
-        "bgsound",
-        "aside",
-        "flex-direction",
-        "tt",
-        "h3",
-        "s",
-        "try",
-        "ruby",
-        "iframe",
-        "appearance",
-        "break",
-        "position",
-        "scroll-behavior",
-        "dfn",
-        "final",
-        "noembed",
-        "b",
-        "flex-grow",
-        "nullptr",
-        "spacer",
-        "fieldset",
-        "frame",
-        "move",
-        "applet",
-        "or",
-        "max-height",
-        "loop",
-        "word-spacing",
-        "a",
-        "None",
-        "animation",
-        "mod",
-        "dir",
-        "tr",
-        "color",
-        "min-width",
-        "isindex",
-        "strictfp",
-        "counter-reset",
-        "true",
-        "widows",
-        "keygen",
-        "top",
-        "frameset",
-        "tfoot",
-        "provides",
-        "style",
-        "dialog",
-        "body",
-        "justify-items",
-        "code",
-        "native",
-        "h2",
-        "rp",
-        "match",
-        "text-decoration",
-        "synchronized",
-        "float",
-        "delete",
-        "small",
-        "transitive",
-        "pass",
-        "z-index",
-        "canvas",
-        "main",
-        "li",
-        "boolean",
-        "quotes",
-        "writing-mode",
-        "box-sizing",
-        "var",
-        "self",
-        "ins",
-        "row-gap",
-        "header",
-        "shadow",
-        "byte",
-        "throw",
-        "em",
-        "aspect-ratio",
-        "unsafe",
-        "table-layout",
-        "line-height",
-        "center",
-        "hyphens",
-        "select",
-        "export",
-        "letter-spacing",
-        "scale",
-        "finally",
-        "interface",
-        "sizeof",
-        "flex-shrink",
-        "details",
-        "justify-content",
-        "package",
-        "new",
-        "i",
-        "xmp",
-        "undefined",
-        "samp",
-        "public",
-        "union",
-        "font-weight",
-        "filter",
-        "and",
-        "nextid",
-        "figcaption",
-        "as",
-        "transform",
-        "private",
-        "text-transform",
-        "ol",
-        "from",
-        "fn",
-        "restrict",
-        "do",
-        "grid-column",
-        "import",
-        "implements",
-        "summary",
-        "isolation",
-        "become",
-        "font-variant",
-        "thead",
-        "word-break",
-        "caret-color",
-        "text-overflow",
-        "static",
-        "box-shadow",
-        "tab-size",
-        "p",
-        "for",
-        "module",
-        "section",
-        "font",
-        "acronym",
-        "display",
-        "svg",
-        "empty-cells",
-        "type",
-        "abbr",
-        "param",
-        "strike",
-        "not",
-        "return",
-        "trait",
-        "figure",
-        "flex",
-        "priv",
-        "bdo",
-        "grid-area",
-        "cite",
-        "continue",
-        "title",
-        "background",
-        "bdi",
-        "script",
-        "output",
-        "u",
-        "pub",
-        "object-fit",
-        "html",
-        "register",
-        "False",
-        "h4",
-        "h1",
-        "perspective",
-        "menuitem",
-        "use",
-        "permits",
-        "padding",
-        "elif",
-        "content",
-        "noframes",
-        "lambda",
-        "assert",
-        "counter-increment",
-        "th",
-        "transition",
-        "track",
-        "transient",
-        "thread_local",
-        "template",
-        "right",
-        "basefont",
-        "strong",
-        "direction",
-        "sup",
-        "cursor",
-        "rt",
-        "unsized",
-        "clip-path",
-        "h5",
-        "opacity",
         "flex-wrap",
-        "border-radius",
-        "min-height",
-        "except",
-        "math",
-        "virtual",
-        "base",
-        "label",
-        "pre",
-        "where",
-        "br",
-        "nonlocal",
-        "switch",
-        "legend",
-        "grid-template",
-        "is",
-        "override",
-        "noscript",
-        "catch",
-        "caption",
-        "meter",
-        "command",
-        "col",
-        "when",
-        "orphans",
-        "arguments",
-        "const",
-        "listing",
-        "dd",
-        "macro",
-        "get",
-        "margin",
-        "text-align",
-        "enum",
-        "let",
-        "long",
-        "debugger",
-        "column-rule",
-        "goto",
-        "auto",
-        "false",
-        "alignas",
-        "impl",
-        "order",
-        "rotate",
-        "extends",
-        "text-indent",
-        "video",
-        "typedef",
-        "form",
-        "global",
-        "async",
-        "option",
-        "wbr",
-        "map",
-        "outline",
-        "alignof",
-        "sub",
-        "embed",
-        "default",
-        "case",
-        "requires",
-        "super",
-        "optgroup",
-        "slot",
-        "td",
-        "overflow",
+        "grid-row",
+        "fieldset",
+        "align-content",
+        "textarea",
+        "template",
+        "empty-cells",
         "flex-flow",
-        "source",
-        "mut",
-        "hgroup",
-        "clear",
+        "font-weight",
+        "strictfp",
+        "transient",
+        "implements",
+        "transitive",
+        "list-style",
+        "text-overflow",
+        "text-align",
+        "flex-direction",
+        "noscript",
+        "mix-blend-mode",
+        "colgroup",
+        "constexpr",
+        "datalist",
+        "object-position",
+        "animation",
+        "aspect-ratio",
+        "translate",
+        "pointer-events",
+        "align-items",
+        "table-layout",
+        "function",
+        "line-height",
+        "text-shadow",
+        "white-space",
+        "volatile",
+        "background",
+        "abstract",
+        "word-break",
+        "multicol",
+        "background-image",
+        "transition",
+        "position",
+        "requires",
+        "thread_local",
+        "flex-grow",
+        "min-width",
+        "grid-area",
+        "grid-template",
+        "restrict",
+        "text-transform",
+        "blockquote",
+        "tab-size",
+        "appearance",
+        "figcaption",
+        "border-radius",
+        "register",
+        "border-spacing",
+        "continue",
+        "protected",
+        "direction",
+        "counter-reset",
+        "optgroup",
+        "debugger",
+        "provides",
+        "letter-spacing",
+        "unsigned",
+        "override",
+        "place-content",
+        "grid-column",
         "vertical-align",
+        "word-spacing",
+        "text-indent",
+        "background-color",
+        "column-rule",
+        "instanceof",
+        "max-height",
+        "basefont",
+        "interface",
+        "counter-increment",
+        "flex-basis",
+        "caret-color",
+        "column-count",
+        "justify-content",
+        "frameset",
+        "visibility",
+        "unicode-bidi",
+        "justify-items",
+        "nonlocal",
+        "clip-path",
+        "font-size",
+        "text-decoration",
+        "menuitem",
+        "overflow",
+        "perspective",
+        "font-family",
+        "box-shadow",
+        "static_assert",
+        "typeof_unqual",
+        "plaintext",
+        "object-fit",
+        "column-gap",
+        "max-width",
+        "writing-mode",
+        "font-variant",
+        "box-sizing",
+        "undefined",
+        "scroll-behavior",
+        "synchronized",
+        "transform",
+        "noframes",
+        "progress",
+        "font-style",
+        "flex-shrink",
+        "min-height",
+        "arguments",
+        "isolation",
     ],
     hashes: &[
-        0xc263_0c5f_84a2_e2cb,
-        0x65ac_33ac_c0f5_072e,
-        0x77c4_7c1f_8046_79b9,
-        0x95e7_d63a_6335_dfd9,
-        0x0ccd_a95b_919a_5e9c,
-        0x012d_f963_1419_2f34,
-        0x47db_a99e_717d_b66d,
-        0xfb09_4175_46e2_6a33,
-        0x0284_f636_6c70_3ba1,
-        0x4011_d0f6_38d9_46c9,
-        0xf4e5_9290_1fdb_2d4b,
-        0xfe8e_a144_fd65_76c8,
-        0x9329_0810_6d83_06c5,
-        0x284c_4171_1636_637d,
-        0x9411_bace_222d_969e,
-        0x7a7b_d7c4_6c6c_4c5b,
-        0x2f9a_8341_83c9_4246,
-        0x2363_4134_9d38_f6dd,
-        0x64f1_d675_b7f2_11fc,
-        0x67f8_4493_ba2f_ce76,
-        0xf641_4500_8be3_1e9c,
-        0x741c_0cbc_3e67_6507,
-        0x8f18_97a5_fa51_ac31,
-        0x5289_8085_0e6b_9e85,
-        0x0f7f_9652_4fd9_17e0,
-        0x5e69_ed67_d5dd_e700,
-        0x7c1e_de1b_b926_f24b,
-        0x0715_d34b_7770_9866,
-        0xa907_5753_0bfe_80e5,
-        0xd42a_90d0_8c93_3bde,
-        0x4637_ef02_2f3e_6f46,
-        0xc1d5_b996_c901_584a,
-        0x54ba_f4df_8348_c37b,
-        0xa01b_e2fc_e5b6_8d59,
-        0x24aa_d32e_822d_040a,
-        0x17c2_ab6f_d371_5978,
-        0xbda9_7b68_dd35_5189,
-        0x4fb5_2e68_a215_d1ec,
-        0x6dd7_2380_2a74_826c,
-        0xff29_1ea9_c4fb_6f0c,
-        0xc63a_6cc0_70a9_8822,
-        0xaea9_5ffa_c5ce_b40b,
-        0xe19b_9780_ab67_2419,
-        0xa474_f0dc_52c1_a95d,
-        0xd120_2927_0374_5879,
-        0x79a9_4462_0e91_90ba,
-        0x06c6_c3a5_2fab_9853,
-        0xfb96_7309_ceb3_3682,
-        0xfc9b_ba0e_ffd9_537b,
-        0xf282_7146_15ac_16b5,
-        0x0763_6269_3b3f_ea97,
-        0x6323_e09f_83f1_3905,
-        0x5e6f_8769_d3a6_74db,
-        0xad57_689a_a3f7_5b6b,
-        0xd623_2b2e_f57e_a40f,
-        0x54ab_8d1a_4992_aa3c,
-        0x20c9_45b4_f161_cd07,
-        0x11ad_fd78_4592_c872,
-        0xff1e_ed13_7a02_f6e1,
-        0x5e6a_3a6c_d679_6162,
-        0x2f41_2c4b_c5a5_ad22,
-        0x79fc_9862_ab13_96c2,
-        0xfe25_771f_82a2_86ca,
-        0xedbc_8b1d_e34c_704f,
-        0xc212_cb28_033e_5d8c,
-        0x447a_6b42_8089_ae9f,
-        0x8071_741a_eca9_34b0,
-        0xc23e_441c_dc31_5a97,
-        0x3c14_ad14_9a98_dfcb,
-        0x4ccf_88a8_258a_4097,
-        0x5345_c1c1_568f_94ca,
-        0xfcd0_7905_5437_c321,
-        0xd18d_c731_ffbc_dd86,
-        0x68ea_c510_0250_06a5,
-        0x6267_802a_1b82_8b49,
-        0xae6c_be88_5c03_1eff,
-        0xf8a6_b282_3844_db22,
-        0xb500_fee8_afc8_178f,
-        0xc864_a048_a605_0d03,
-        0x173c_9d01_de88_5932,
-        0x8ede_e802_542e_e972,
-        0x76ed_ed8b_a08f_57c6,
-        0xd1f1_3bfa_c0ba_e710,
-        0x2aa7_d330_ca8f_a570,
-        0x2a48_572a_26f3_ec3e,
-        0x732a_e855_ac0e_c595,
-        0x3f99_4c96_27c0_6b20,
-        0xaf44_208f_5457_9fda,
-        0x7121_ec50_c335_7608,
-        0x653c_61d0_95a5_483d,
-        0x6606_6f02_1ee1_33f7,
-        0x74f3_67be_24ce_3263,
-        0x2207_06d1_520c_f5e6,
-        0xcc5b_fbc4_343e_7afe,
-        0xf071_1c43_b36c_015c,
-        0x53d8_a335_7364_1692,
-        0xa46d_2f7c_7265_7d1b,
-        0x1883_1d8c_109b_138c,
-        0xf3f9_5dd7_d571_55c6,
-        0x9cb8_2070_f38a_3a73,
-        0xa5db_cc9b_a532_0347,
-        0xe535_c5c4_b5c2_3011,
-        0x9b6c_820d_2cc2_f65a,
-        0xa271_246d_2ba1_0cc4,
-        0x9993_e6f6_0217_3740,
-        0x47fa_177a_e0e8_ea06,
-        0xe55b_86d0_ba20_ddb7,
-        0xddf2_4040_fbf5_6ba3,
-        0x1a39_2f97_9994_0cb9,
-        0xcfdf_b32b_72e3_d566,
-        0x5d24_4c5e_4668_4957,
-        0x721c_338f_61d1_a83a,
-        0x9a61_39ec_c175_ff4a,
-        0x9a3f_1201_106b_eb95,
-        0x3e4c_e9e9_a2f8_2e43,
-        0xdd07_f904_5487_4a91,
-        0x037c_5cbe_da1f_19f6,
-        0xd932_a4cb_06b6_bcdf,
-        0xcbcd_e17a_fe4d_eaac,
-        0x9250_0e26_2c9a_53de,
-        0x0620_5e1b_6577_5538,
-        0x5054_c34c_5d6d_19b9,
-        0xbea6_b5c7_f47a_cade,
-        0x42c9_7634_bcbd_0b71,
-        0x7d6d_0dd7_8570_73f1,
-        0x2da2_86f6_43f1_df21,
-        0xa427_8399_a0f8_0293,
-        0xb88a_0b50_9be2_0985,
-        0x5154_5163_3d49_58cd,
-        0x85da_ba52_7374_ecea,
-        0x408c_cd7a_3f50_9799,
-        0x833b_3d88_125e_6f91,
-        0xcd34_25d2_78c7_c372,
-        0x3e14_dbca_ea48_7371,
-        0xdfdd_8e9f_dbbb_8456,
-        0xe986_cb3f_26dc_16c5,
-        0xd271_3b88_765f_54b7,
-        0xb27f_f766_db36_8b8a,
-        0x808d_e802_c12d_0e66,
-        0xc945_531b_4808_b1af,
-        0x5a1f_cdb4_2ba3_625f,
-        0x6a82_da7f_803c_05d6,
-        0x751c_e3ac_0c22_d403,
-        0x203b_4f33_54f7_9941,
-        0x3549_d98f_a327_744b,
-        0x3c07_4ae2_c1c9_f84f,
-        0x4515_9c43_18c6_db58,
-        0x4788_3d77_0801_202a,
-        0xa155_59de_8efb_630b,
-        0xd3bc_3779_32f4_2043,
-        0x6a18_74eb_1982_a8b2,
-        0x26e2_77c2_1824_6d8f,
-        0x16fb_ebf1_0ec4_5dd4,
-        0x3710_b5e8_72fb_f647,
-        0xb554_ee29_49a7_4b91,
-        0x93b7_4ffd_6c9e_2801,
-        0xbd4c_580b_4bea_bd1c,
-        0x5f8b_4d4e_7d6f_00b6,
-        0x8a0e_5c43_0db6_74b2,
-        0x9e18_fedc_7e37_445e,
-        0x9c2e_4453_fb4d_76b9,
-        0x35d6_a057_a5eb_0199,
-        0x8d4c_82bf_3e63_79c1,
-        0xef2f_c60d_10f2_c7b7,
-        0x5f85_44b1_944b_0edc,
-        0x7762_45ef_f530_5624,
-        0x209f_7be8_98a3_b0c4,
-        0xb1dd_9f12_c68c_57d4,
-        0xfc27_868b_210f_2a88,
-        0x7bf6_23de_3a4c_07a1,
-        0xc866_3707_f6d7_29d7,
-        0x40e0_5bb6_75e8_4abb,
-        0xad2c_c9a0_3efc_fce6,
-        0x03db_8b6a_82d4_ff4e,
-        0x7428_a76c_6f77_3a87,
-        0x2e37_228f_9b67_a8e0,
-        0x4aaf_377d_0ff1_4b47,
-        0x693f_059d_94f6_e778,
-        0x1a76_8535_f0cc_a984,
-        0xe885_d74e_e5ee_cb15,
-        0xa651_9ffa_cd5d_81cc,
-        0x9451_2ef3_9539_d8d5,
-        0xc2c4_64f9_75c2_f531,
-        0x4024_a909_d17b_4c5b,
-        0x5e0a_cb0e_ceba_53d0,
-        0x30a3_50ed_f21f_bd95,
-        0x7a53_a8e3_c7bb_7f6f,
-        0xcbf2_86aa_176f_4420,
-        0x8692_583d_512e_65a1,
-        0x3875_d896_3708_3aa5,
-        0x3ebc_cdb8_906b_6d0a,
-        0x6f6f_4882_730c_304c,
-        0xa8f4_a367_3e30_5848,
-        0xe9e4_a071_0620_52ac,
-        0x0a54_aa83_01d9_f4cb,
-        0x7500_ec85_28e1_1cf6,
-        0x85cd_4e44_07c2_4caf,
-        0x56e7_1be2_009c_a2bc,
-        0xd441_31af_85c5_63f4,
-        0xa8df_5356_30d7_5dbb,
-        0x5616_a906_20da_9c0a,
-        0xfaf8_bdfc_4506_fdbb,
-        0x6dc4_9a72_1e66_bcdc,
-        0xe158_6573_03c7_f328,
-        0x4d55_2050_cdf8_22a4,
-        0x157f_7e30_9ad5_bb80,
-        0xf43e_6b72_6a06_bf33,
-        0x8285_5000_0a8b_45c8,
-        0x8cbe_ad51_bce8_3ad8,
-        0xc281_5787_e45c_3912,
-        0xb942_419a_d1c0_e27a,
-        0x83bc_88e6_1a32_4035,
-        0x9dbb_1d45_9a93_a7c1,
-        0x5c30_bc4a_0c8c_f500,
-        0x93b0_84ae_7173_278e,
-        0x71a4_c2ac_d2c2_af84,
-        0x8c9d_4c63_6b38_d44d,
-        0x9e08_68cf_1ae8_5c0c,
-        0x17ec_91a5_855c_f01b,
-        0x1315_46e1_572d_6999,
-        0xa384_0329_0883_23c3,
-        0x8254_f919_4257_8e6f,
-        0x564d_2a67_f7ca_c0f8,
-        0xda48_6287_5f38_d47e,
-        0xb5e2_3a80_b706_ba90,
-        0x9a9e_1e67_99ea_2f3d,
-        0xdcb5_e8b8_4327_70fe,
-        0x93e3_62ed_379e_3316,
-        0x782e_2fdb_3d02_ec0c,
-        0x8f21_20c5_2fad_f020,
-        0xa5d4_1c4b_8ec6_9e20,
-        0x0243_41b2_2abd_1e4d,
-        0x5083_f794_76e2_d47d,
-        0xa002_1d80_b5ca_3031,
-        0xe72f_91fb_5ffe_b5bf,
-        0xbcc1_cbfd_ef67_609c,
-        0xccef_e87f_6edb_61cb,
-        0xd2c1_cd75_6819_03e0,
-        0x023f_acff_08de_5e18,
-        0xe33e_dbfe_a400_729c,
-        0xf763_1751_8fcb_7f38,
-        0xf345_519a_8972_4ca5,
-        0xee8d_cada_783d_b9f3,
-        0x28eb_577a_0424_6c01,
-        0x18af_81e6_c783_203d,
-        0x72e4_56b4_3945_3a21,
-        0xb4be_7cb5_6aa9_a3f0,
-        0xa689_a781_3d21_31c0,
-        0xa1ea_34e4_794b_7176,
-        0x3f22_9029_b4b7_bf99,
-        0xd208_2fe3_f4f9_24ec,
-        0x895d_64b4_a5b9_abce,
-        0x666b_cc71_ca3f_a35f,
-        0x6279_568c_b5de_95c1,
-        0x42b2_e175_4378_5e7d,
-        0xf5cc_e08f_8516_979c,
-        0x5814_6962_bb2b_0bfc,
-        0x56f1_a256_d723_9bf6,
-        0xf300_02e6_c08f_48f2,
-        0xe30c_b4f2_f478_f150,
-        0x2abc_9147_c53a_6b45,
-        0x3200_7168_4f89_2d05,
-        0xf318_2292_926b_369d,
-        0xd144_83bd_5ba2_ce6a,
-        0xa682_f791_8714_d0f9,
-        0x5d21_ae15_3abe_f697,
-        0x4590_3d5b_feb5_9281,
-        0xf74f_a4c9_f1b5_bbf9,
-        0xd43a_71db_11dd_85f1,
-        0x9928_1300_3a60_2b68,
-        0x727c_78af_33c4_9e5e,
-        0x64a7_1aa2_5151_85c8,
-        0x0f17_d935_61ad_d9bb,
-        0xe7d5_17c2_a9b7_c4cd,
-        0x3315_26ba_888f_4a6f,
-        0xf092_5b5f_9ef7_07d4,
-        0xf691_1815_f58d_ef21,
-        0xd80f_ce90_0d14_cd08,
-        0x1fcf_df3e_f0b8_b00f,
-        0x5680_0cb9_c63c_32af,
-        0x8636_cbe6_0186_a80f,
-        0x4486_bf35_4057_a6cd,
-        0x73be_85f7_a4bc_a200,
-        0xb39c_3914_1489_8209,
-        0x8ea4_3963_4a6a_bc2d,
-        0xd61d_a9e1_1a8d_4412,
-        0xa23d_e243_484a_94c1,
-        0xb8cf_3368_4808_74f0,
-        0xef4b_b39d_7b78_cf5b,
-        0xef77_6b58_dc51_462d,
-        0xbb85_544e_0f2d_4acf,
-        0xf85d_fc46_9b64_8b83,
-        0x3f3c_1411_1395_418f,
-        0x3693_e59f_4a9f_835a,
-        0x78c9_708b_adc9_1b2b,
-        0xfdbb_64a6_5de3_2816,
-        0xf884_9859_6136_7f31,
-        0x1b9d_8dfc_f27b_6508,
-        0xa043_a5a8_6c45_94ce,
-        0xc422_eb9e_796d_2103,
-        0xb81c_cc6d_d592_ed54,
-        0x3518_1823_c589_9b8a,
-        0xc001_68df_5250_8a81,
-        0x9289_7d00_7002_3128,
-        0xb8ba_4106_c37b_9f6d,
-        0x6e92_b397_7272_e6e9,
-        0xf127_17fb_ace3_34ce,
-        0x13a6_d044_0916_f14e,
-        0xf50d_b3d0_c04b_0e2c,
-        0xf8ff_8531_4cc2_fcbe,
-        0x0d32_8539_a71a_e119,
-        0xcaad_6f33_3755_240c,
-        0xed3b_cc25_7aa6_f2ee,
-        0xee48_967b_e607_569a,
-        0x6e66_e2d1_4610_243e,
-        0x6fb6_abeb_1a46_a49a,
-        0xceba_eb79_31f8_5b7d,
-        0x4810_0410_e2b1_2d21,
-        0xe8d4_66b0_e9a5_9f0f,
-        0x4e4c_e49e_3cfc_dcbe,
         0xfe68_4350_3634_3759,
-        0x5e2c_512e_67f5_c0b3,
-        0x7693_8d0c_e1e5_047a,
-        0xcb2e_15c6_bbce_8e84,
-        0x946d_00a4_f319_ac6a,
-        0x5631_2f39_15d7_7b9f,
-        0x5f8f_1cd3_eb63_cc9d,
-        0xe442_3521_4426_e5ed,
-        0x6499_af7b_8654_f40f,
-        0x2425_d8f5_c54b_798d,
-        0x7516_8a7c_fab4_a78e,
-        0x32e0_4be9_b96c_4a0b,
-        0x7231_da0e_b161_372d,
-        0xa582_eb8c_2ae9_bb2d,
-        0x022a_d0f8_9333_f086,
-        0x6473_6463_e8ec_0093,
-        0x9f70_a38a_1ae2_c438,
-        0x940c_3a08_76e3_93f7,
-        0xf94b_5aa1_5d5b_bdb3,
-        0xba22_1bd6_f54c_bc2d,
-        0x78d6_e1e9_4cee_fc61,
-        0xc624_1e32_c779_dbb6,
-        0x8fa3_b217_1668_aeb3,
-        0xe2cd_41d8_1dd2_6e89,
-        0xe2d7_ca3f_9ec8_7cb2,
-        0x79ea_04ec_8998_915c,
-        0x9300_508b_1a47_6b32,
-        0x8fff_1e22_aa1b_8ca4,
-        0xb661_3a19_3814_aff2,
-        0x6385_d032_79e5_1cce,
-        0x62f8_722c_2f49_f519,
-        0x99fb_effa_eae3_8b25,
-        0x8814_cb7b_c337_898f,
-        0xa057_bd79_c76d_77bc,
-        0x7fd5_d3f6_7795_1276,
-        0x3090_fada_1d49_5ce3,
-        0x0fbb_a358_d938_a951,
-        0x4b97_825c_cd1d_6306,
-        0x84cd_e12e_82ca_8766,
-        0xc0b0_fe8d_c28a_4726,
-        0xdd68_d30c_b847_0e97,
-        0xf52b_24a2_3217_1bbb,
-        0xc681_7dd2_b1bb_55d1,
-        0xe82e_99a7_950f_0b13,
-        0x656c_e039_2157_7769,
-        0x4380_1832_d64e_06cc,
-        0x5e28_cef6_f93f_f14f,
-        0x8dcd_ba2c_9281_ac2b,
-        0x2d95_1636_297a_9b81,
-        0x386a_0b30_4b68_e6fd,
-        0xfe9e_beff_0f11_3f40,
-        0x8337_afbe_a77a_7de0,
-        0xea67_1628_6f0e_cc19,
-        0x97e7_3c03_81ad_5254,
-        0x7859_bc83_64f3_0db7,
-        0x9ce0_bdb9_a41c_4141,
-        0xcd06_c34c_2505_93be,
-        0x02ba_9b31_149b_0796,
-        0x4a5a_26dc_7842_3819,
-        0xc4c6_8277_0f15_152f,
-        0x018c_32e5_5a1f_59fd,
-        0x8b4d_df43_9650_ac27,
-        0x5ab5_16e5_1461_0f19,
-        0xfdbf_18e5_3c86_bc1f,
-        0xeef7_5d33_308d_7b0e,
-        0xe06e_326c_ad51_2861,
-        0xbcfa_a3b8_1d89_99fc,
+        0x9a61_39ec_c175_ff4a,
+        0x3c07_4ae2_c1c9_f84f,
+        0x1883_1d8c_109b_138c,
+        0x0ccd_a95b_919a_5e9c,
+        0xf50d_b3d0_c04b_0e2c,
+        0xa682_f791_8714_d0f9,
         0x6f32_fd6f_44a2_24a8,
-        0x45bf_ad46_d5f0_45e0,
-        0xabee_762a_30f2_75d5,
-        0xdb71_ebc3_2cf2_7608,
-        0xc9af_24a7_67fe_9ed3,
+        0x782e_2fdb_3d02_ec0c,
+        0x8d4c_82bf_3e63_79c1,
+        0xf127_17fb_ace3_34ce,
+        0x18af_81e6_c783_203d,
+        0x30a3_50ed_f21f_bd95,
+        0x741c_0cbc_3e67_6507,
+        0x666b_cc71_ca3f_a35f,
+        0x8814_cb7b_c337_898f,
+        0xb88a_0b50_9be2_0985,
+        0x940c_3a08_76e3_93f7,
+        0x65ac_33ac_c0f5_072e,
+        0xc212_cb28_033e_5d8c,
+        0xd1f1_3bfa_c0ba_e710,
+        0x6267_802a_1b82_8b49,
+        0x5e6f_8769_d3a6_74db,
+        0x93b7_4ffd_6c9e_2801,
+        0x4d55_2050_cdf8_22a4,
+        0x6dd7_2380_2a74_826c,
+        0xcc5b_fbc4_343e_7afe,
+        0x2a48_572a_26f3_ec3e,
+        0xf43e_6b72_6a06_bf33,
+        0x76ed_ed8b_a08f_57c6,
+        0x8285_5000_0a8b_45c8,
+        0x2207_06d1_520c_f5e6,
+        0xfcd0_7905_5437_c321,
+        0xe19b_9780_ab67_2419,
+        0x8636_cbe6_0186_a80f,
+        0xaf44_208f_5457_9fda,
+        0xd208_2fe3_f4f9_24ec,
+        0xbda9_7b68_dd35_5189,
+        0xa46d_2f7c_7265_7d1b,
+        0xb8ba_4106_c37b_9f6d,
+        0xd271_3b88_765f_54b7,
+        0x8b4d_df43_9650_ac27,
+        0x13a6_d044_0916_f14e,
+        0x751c_e3ac_0c22_d403,
+        0x9c2e_4453_fb4d_76b9,
+        0xf691_1815_f58d_ef21,
+        0x022a_d0f8_9333_f086,
+        0xf763_1751_8fcb_7f38,
+        0xccef_e87f_6edb_61cb,
+        0xfe8e_a144_fd65_76c8,
+        0xf5cc_e08f_8516_979c,
+        0xdfdd_8e9f_dbbb_8456,
+        0x5083_f794_76e2_d47d,
+        0x5e2c_512e_67f5_c0b3,
+        0xef4b_b39d_7b78_cf5b,
+        0x77c4_7c1f_8046_79b9,
+        0x1fcf_df3e_f0b8_b00f,
+        0xd120_2927_0374_5879,
+        0xed3b_cc25_7aa6_f2ee,
+        0xef2f_c60d_10f2_c7b7,
+        0xfdbf_18e5_3c86_bc1f,
+        0x0fbb_a358_d938_a951,
+        0xc866_3707_f6d7_29d7,
+        0x9dbb_1d45_9a93_a7c1,
+        0x9a3f_1201_106b_eb95,
+        0x9f70_a38a_1ae2_c438,
+        0x3f99_4c96_27c0_6b20,
+        0xee8d_cada_783d_b9f3,
         0x7e6b_abe7_be44_2a68,
+        0x16fb_ebf1_0ec4_5dd4,
+        0x5e28_cef6_f93f_f14f,
+        0x0763_6269_3b3f_ea97,
+        0x4b97_825c_cd1d_6306,
+        0xfb96_7309_ceb3_3682,
+        0x6a18_74eb_1982_a8b2,
+        0x0d32_8539_a71a_e119,
+        0x71a4_c2ac_d2c2_af84,
+        0xc001_68df_5250_8a81,
+        0xa5db_cc9b_a532_0347,
+        0x895d_64b4_a5b9_abce,
+        0xb500_fee8_afc8_178f,
+        0x1315_46e1_572d_6999,
+        0xfc27_868b_210f_2a88,
+        0x2363_4134_9d38_f6dd,
+        0xc263_0c5f_84a2_e2cb,
+        0x7428_a76c_6f77_3a87,
+        0x32e0_4be9_b96c_4a0b,
+        0x4810_0410_e2b1_2d21,
+        0xae6c_be88_5c03_1eff,
+        0xa651_9ffa_cd5d_81cc,
+        0x3693_e59f_4a9f_835a,
+        0xbcfa_a3b8_1d89_99fc,
+        0x3f3c_1411_1395_418f,
+        0x95e7_d63a_6335_dfd9,
+        0x42b2_e175_4378_5e7d,
+        0x653c_61d0_95a5_483d,
+        0x0715_d34b_7770_9866,
+        0x2f41_2c4b_c5a5_ad22,
+        0xa23d_e243_484a_94c1,
+        0xfb09_4175_46e2_6a33,
+        0x3e4c_e9e9_a2f8_2e43,
+        0xe9e4_a071_0620_52ac,
+        0xa1ea_34e4_794b_7176,
+        0x0a54_aa83_01d9_f4cb,
+        0xb5e2_3a80_b706_ba90,
+        0xb27f_f766_db36_8b8a,
+        0x9451_2ef3_9539_d8d5,
+        0xe72f_91fb_5ffe_b5bf,
+        0xc422_eb9e_796d_2103,
+        0x0f7f_9652_4fd9_17e0,
+        0x3c14_ad14_9a98_dfcb,
+        0x9e08_68cf_1ae8_5c0c,
+        0x7693_8d0c_e1e5_047a,
+        0x79ea_04ec_8998_915c,
+        0xb4be_7cb5_6aa9_a3f0,
     ],
 };
 
-/// The static type of the names.
+/// The static type of these texts.
 #[derive(PartialEq, Eq, PartialOrd, Ord)]
 pub struct Names;
+
+/// An atom of it.
+pub type Name<'s> = Atom<'s, Names>;
+
+/// The word of each name, which an atom's `unsafe_data` can be matched with.
+impl Names {
+    /// Of "a".
+    pub const A: u64 = 0x0000_0000_0000_6111;
+    /// Of "abbr".
+    pub const ABBR: u64 = 0x0000_0072_6262_6141;
+    /// Of "acronym".
+    pub const ACRONYM: u64 = 0x6d79_6e6f_7263_6171;
+    /// Of "address".
+    pub const ADDRESS: u64 = 0x7373_6572_6464_6171;
+    /// Of "applet".
+    pub const APPLET: u64 = 0x0074_656c_7070_6161;
+    /// Of "area".
+    pub const AREA: u64 = 0x0000_0061_6572_6141;
+    /// Of "article".
+    pub const ARTICLE: u64 = 0x656c_6369_7472_6171;
+    /// Of "aside".
+    pub const ASIDE: u64 = 0x0000_6564_6973_6151;
+    /// Of "audio".
+    pub const AUDIO: u64 = 0x0000_6f69_6475_6151;
+    /// Of "b".
+    pub const B: u64 = 0x0000_0000_0000_6211;
+    /// Of "base".
+    pub const BASE: u64 = 0x0000_0065_7361_6241;
+    /// Of "basefont".
+    pub const BASEFONT: u64 = 0x0000_004b_0000_0002;
+    /// Of "bdi".
+    pub const BDI: u64 = 0x0000_0000_6964_6231;
+    /// Of "bdo".
+    pub const BDO: u64 = 0x0000_0000_6f64_6231;
+    /// Of "bgsound".
+    pub const BGSOUND: u64 = 0x646e_756f_7367_6271;
+    /// Of "big".
+    pub const BIG: u64 = 0x0000_0000_6769_6231;
+    /// Of "blink".
+    pub const BLINK: u64 = 0x0000_6b6e_696c_6251;
+    /// Of "blockquote".
+    pub const BLOCKQUOTE: u64 = 0x0000_0031_0000_0002;
+    /// Of "body".
+    pub const BODY: u64 = 0x0000_0079_646f_6241;
+    /// Of "br".
+    pub const BR: u64 = 0x0000_0000_0072_6221;
+    /// Of "button".
+    pub const BUTTON: u64 = 0x006e_6f74_7475_6261;
+    /// Of "canvas".
+    pub const CANVAS: u64 = 0x0073_6176_6e61_6361;
+    /// Of "caption".
+    pub const CAPTION: u64 = 0x6e6f_6974_7061_6371;
+    /// Of "center".
+    pub const CENTER: u64 = 0x0072_6574_6e65_6361;
+    /// Of "cite".
+    pub const CITE: u64 = 0x0000_0065_7469_6341;
+    /// Of "code".
+    pub const CODE: u64 = 0x0000_0065_646f_6341;
+    /// Of "col".
+    pub const COL: u64 = 0x0000_0000_6c6f_6331;
+    /// Of "colgroup".
+    pub const COLGROUP: u64 = 0x0000_0013_0000_0002;
+    /// Of "command".
+    pub const COMMAND: u64 = 0x646e_616d_6d6f_6371;
+    /// Of "content".
+    pub const CONTENT: u64 = 0x746e_6574_6e6f_6371;
+    /// Of "data".
+    pub const DATA: u64 = 0x0000_0061_7461_6441;
+    /// Of "datalist".
+    pub const DATALIST: u64 = 0x0000_0015_0000_0002;
+    /// Of "dd".
+    pub const DD: u64 = 0x0000_0000_0064_6421;
+    /// Of "del".
+    pub const DEL: u64 = 0x0000_0000_6c65_6431;
+    /// Of "details".
+    pub const DETAILS: u64 = 0x736c_6961_7465_6471;
+    /// Of "dfn".
+    pub const DFN: u64 = 0x0000_0000_6e66_6431;
+    /// Of "dialog".
+    pub const DIALOG: u64 = 0x0067_6f6c_6169_6461;
+    /// Of "dir".
+    pub const DIR: u64 = 0x0000_0000_7269_6431;
+    /// Of "div".
+    pub const DIV: u64 = 0x0000_0000_7669_6431;
+    /// Of "dl".
+    pub const DL: u64 = 0x0000_0000_006c_6421;
+    /// Of "dt".
+    pub const DT: u64 = 0x0000_0000_0074_6421;
+    /// Of "element".
+    pub const ELEMENT: u64 = 0x746e_656d_656c_6571;
+    /// Of "em".
+    pub const EM: u64 = 0x0000_0000_006d_6521;
+    /// Of "embed".
+    pub const EMBED: u64 = 0x0000_6465_626d_6551;
+    /// Of "fieldset".
+    pub const FIELDSET: u64 = 0x0000_0002_0000_0002;
+    /// Of "figcaption".
+    pub const FIGCAPTION: u64 = 0x0000_0034_0000_0002;
+    /// Of "figure".
+    pub const FIGURE: u64 = 0x0065_7275_6769_6661;
+    /// Of "font".
+    pub const FONT: u64 = 0x0000_0074_6e6f_6641;
+    /// Of "footer".
+    pub const FOOTER: u64 = 0x0072_6574_6f6f_6661;
+    /// Of "form".
+    pub const FORM: u64 = 0x0000_006d_726f_6641;
+    /// Of "frame".
+    pub const FRAME: u64 = 0x0000_656d_6172_6651;
+    /// Of "frameset".
+    pub const FRAMESET: u64 = 0x0000_0052_0000_0002;
+    /// Of "h1".
+    pub const H1: u64 = 0x0000_0000_0031_6821;
+    /// Of "h2".
+    pub const H2: u64 = 0x0000_0000_0032_6821;
+    /// Of "h3".
+    pub const H3: u64 = 0x0000_0000_0033_6821;
+    /// Of "h4".
+    pub const H4: u64 = 0x0000_0000_0034_6821;
+    /// Of "h5".
+    pub const H5: u64 = 0x0000_0000_0035_6821;
+    /// Of "h6".
+    pub const H6: u64 = 0x0000_0000_0036_6821;
+    /// Of "head".
+    pub const HEAD: u64 = 0x0000_0064_6165_6841;
+    /// Of "header".
+    pub const HEADER: u64 = 0x0072_6564_6165_6861;
+    /// Of "hgroup".
+    pub const HGROUP: u64 = 0x0070_756f_7267_6861;
+    /// Of "hr".
+    pub const HR: u64 = 0x0000_0000_0072_6821;
+    /// Of "html".
+    pub const HTML: u64 = 0x0000_006c_6d74_6841;
+    /// Of "i".
+    pub const I: u64 = 0x0000_0000_0000_6911;
+    /// Of "iframe".
+    pub const IFRAME: u64 = 0x0065_6d61_7266_6961;
+    /// Of "image".
+    pub const IMAGE: u64 = 0x0000_6567_616d_6951;
+    /// Of "img".
+    pub const IMG: u64 = 0x0000_0000_676d_6931;
+    /// Of "input".
+    pub const INPUT: u64 = 0x0000_7475_706e_6951;
+    /// Of "ins".
+    pub const INS: u64 = 0x0000_0000_736e_6931;
+    /// Of "isindex".
+    pub const ISINDEX: u64 = 0x7865_646e_6973_6971;
+    /// Of "kbd".
+    pub const KBD: u64 = 0x0000_0000_6462_6b31;
+    /// Of "keygen".
+    pub const KEYGEN: u64 = 0x006e_6567_7965_6b61;
+    /// Of "label".
+    pub const LABEL: u64 = 0x0000_6c65_6261_6c51;
+    /// Of "legend".
+    pub const LEGEND: u64 = 0x0064_6e65_6765_6c61;
+    /// Of "li".
+    pub const LI: u64 = 0x0000_0000_0069_6c21;
+    /// Of "link".
+    pub const LINK: u64 = 0x0000_006b_6e69_6c41;
+    /// Of "listing".
+    pub const LISTING: u64 = 0x676e_6974_7369_6c71;
+    /// Of "main".
+    pub const MAIN: u64 = 0x0000_006e_6961_6d41;
+    /// Of "map".
+    pub const MAP: u64 = 0x0000_0000_7061_6d31;
+    /// Of "mark".
+    pub const MARK: u64 = 0x0000_006b_7261_6d41;
+    /// Of "marquee".
+    pub const MARQUEE: u64 = 0x6565_7571_7261_6d71;
+    /// Of "math".
+    pub const MATH: u64 = 0x0000_0068_7461_6d41;
+    /// Of "menu".
+    pub const MENU: u64 = 0x0000_0075_6e65_6d41;
+    /// Of "menuitem".
+    pub const MENUITEM: u64 = 0x0000_005a_0000_0002;
+    /// Of "meta".
+    pub const META: u64 = 0x0000_0061_7465_6d41;
+    /// Of "meter".
+    pub const METER: u64 = 0x0000_7265_7465_6d51;
+    /// Of "multicol".
+    pub const MULTICOL: u64 = 0x0000_0025_0000_0002;
+    /// Of "nav".
+    pub const NAV: u64 = 0x0000_0000_7661_6e31;
+    /// Of "nextid".
+    pub const NEXTID: u64 = 0x0064_6974_7865_6e61;
+    /// Of "nobr".
+    pub const NOBR: u64 = 0x0000_0072_626f_6e41;
+    /// Of "noembed".
+    pub const NOEMBED: u64 = 0x6465_626d_656f_6e71;
+    /// Of "noframes".
+    pub const NOFRAMES: u64 = 0x0000_006c_0000_0002;
+    /// Of "noscript".
+    pub const NOSCRIPT: u64 = 0x0000_0011_0000_0002;
+    /// Of "object".
+    pub const OBJECT: u64 = 0x0074_6365_6a62_6f61;
+    /// Of "ol".
+    pub const OL: u64 = 0x0000_0000_006c_6f21;
+    /// Of "optgroup".
+    pub const OPTGROUP: u64 = 0x0000_003c_0000_0002;
+    /// Of "option".
+    pub const OPTION: u64 = 0x006e_6f69_7470_6f61;
+    /// Of "output".
+    pub const OUTPUT: u64 = 0x0074_7570_7475_6f61;
+    /// Of "p".
+    pub const P: u64 = 0x0000_0000_0000_7011;
+    /// Of "param".
+    pub const PARAM: u64 = 0x0000_6d61_7261_7051;
+    /// Of "picture".
+    pub const PICTURE: u64 = 0x6572_7574_6369_7071;
+    /// Of "plaintext".
+    pub const PLAINTEXT: u64 = 0x0000_0061_0000_0002;
+    /// Of "portal".
+    pub const PORTAL: u64 = 0x006c_6174_726f_7061;
+    /// Of "pre".
+    pub const PRE: u64 = 0x0000_0000_6572_7031;
+    /// Of "progress".
+    pub const PROGRESS: u64 = 0x0000_006d_0000_0002;
+    /// Of "q".
+    pub const Q: u64 = 0x0000_0000_0000_7111;
+    /// Of "rb".
+    pub const RB: u64 = 0x0000_0000_0062_7221;
+    /// Of "rp".
+    pub const RP: u64 = 0x0000_0000_0070_7221;
+    /// Of "rt".
+    pub const RT: u64 = 0x0000_0000_0074_7221;
+    /// Of "rtc".
+    pub const RTC: u64 = 0x0000_0000_6374_7231;
+    /// Of "ruby".
+    pub const RUBY: u64 = 0x0000_0079_6275_7241;
+    /// Of "s".
+    pub const S: u64 = 0x0000_0000_0000_7311;
+    /// Of "samp".
+    pub const SAMP: u64 = 0x0000_0070_6d61_7341;
+    /// Of "script".
+    pub const SCRIPT: u64 = 0x0074_7069_7263_7361;
+    /// Of "search".
+    pub const SEARCH: u64 = 0x0068_6372_6165_7361;
+    /// Of "section".
+    pub const SECTION: u64 = 0x6e6f_6974_6365_7371;
+    /// Of "select".
+    pub const SELECT: u64 = 0x0074_6365_6c65_7361;
+    /// Of "shadow".
+    pub const SHADOW: u64 = 0x0077_6f64_6168_7361;
+    /// Of "slot".
+    pub const SLOT: u64 = 0x0000_0074_6f6c_7341;
+    /// Of "small".
+    pub const SMALL: u64 = 0x0000_6c6c_616d_7351;
+    /// Of "source".
+    pub const SOURCE: u64 = 0x0065_6372_756f_7361;
+    /// Of "spacer".
+    pub const SPACER: u64 = 0x0072_6563_6170_7361;
+    /// Of "span".
+    pub const SPAN: u64 = 0x0000_006e_6170_7341;
+    /// Of "strike".
+    pub const STRIKE: u64 = 0x0065_6b69_7274_7361;
+    /// Of "strong".
+    pub const STRONG: u64 = 0x0067_6e6f_7274_7361;
+    /// Of "style".
+    pub const STYLE: u64 = 0x0000_656c_7974_7351;
+    /// Of "sub".
+    pub const SUB: u64 = 0x0000_0000_6275_7331;
+    /// Of "summary".
+    pub const SUMMARY: u64 = 0x7972_616d_6d75_7371;
+    /// Of "sup".
+    pub const SUP: u64 = 0x0000_0000_7075_7331;
+    /// Of "svg".
+    pub const SVG: u64 = 0x0000_0000_6776_7331;
+    /// Of "table".
+    pub const TABLE: u64 = 0x0000_656c_6261_7451;
+    /// Of "tbody".
+    pub const TBODY: u64 = 0x0000_7964_6f62_7451;
+    /// Of "td".
+    pub const TD: u64 = 0x0000_0000_0064_7421;
+    /// Of "template".
+    pub const TEMPLATE: u64 = 0x0000_0005_0000_0002;
+    /// Of "textarea".
+    pub const TEXTAREA: u64 = 0x0000_0004_0000_0002;
+    /// Of "tfoot".
+    pub const TFOOT: u64 = 0x0000_746f_6f66_7451;
+    /// Of "th".
+    pub const TH: u64 = 0x0000_0000_0068_7421;
+    /// Of "thead".
+    pub const THEAD: u64 = 0x0000_6461_6568_7451;
+    /// Of "time".
+    pub const TIME: u64 = 0x0000_0065_6d69_7441;
+    /// Of "title".
+    pub const TITLE: u64 = 0x0000_656c_7469_7451;
+    /// Of "tr".
+    pub const TR: u64 = 0x0000_0000_0072_7421;
+    /// Of "track".
+    pub const TRACK: u64 = 0x0000_6b63_6172_7451;
+    /// Of "tt".
+    pub const TT: u64 = 0x0000_0000_0074_7421;
+    /// Of "u".
+    pub const U: u64 = 0x0000_0000_0000_7511;
+    /// Of "ul".
+    pub const UL: u64 = 0x0000_0000_006c_7521;
+    /// Of "var".
+    pub const VAR: u64 = 0x0000_0000_7261_7631;
+    /// Of "video".
+    pub const VIDEO: u64 = 0x0000_6f65_6469_7651;
+    /// Of "wbr".
+    pub const WBR: u64 = 0x0000_0000_7262_7731;
+    /// Of "xmp".
+    pub const XMP: u64 = 0x0000_0000_706d_7831;
+    /// Of "as".
+    pub const AS: u64 = 0x0000_0000_0073_6121;
+    /// Of "break".
+    pub const BREAK: u64 = 0x0000_6b61_6572_6251;
+    /// Of "const".
+    pub const CONST: u64 = 0x0000_7473_6e6f_6351;
+    /// Of "continue".
+    pub const CONTINUE: u64 = 0x0000_0038_0000_0002;
+    /// Of "crate".
+    pub const CRATE: u64 = 0x0000_6574_6172_6351;
+    /// Of "else".
+    pub const ELSE: u64 = 0x0000_0065_736c_6541;
+    /// Of "enum".
+    pub const ENUM: u64 = 0x0000_006d_756e_6541;
+    /// Of "extern".
+    pub const EXTERN: u64 = 0x006e_7265_7478_6561;
+    /// Of "false".
+    pub const FALSE: u64 = 0x0000_6573_6c61_6651;
+    /// Of "fn".
+    pub const FN: u64 = 0x0000_0000_006e_6621;
+    /// Of "for".
+    pub const FOR: u64 = 0x0000_0000_726f_6631;
+    /// Of "if".
+    pub const IF: u64 = 0x0000_0000_0066_6921;
+    /// Of "impl".
+    pub const IMPL: u64 = 0x0000_006c_706d_6941;
+    /// Of "in".
+    pub const IN: u64 = 0x0000_0000_006e_6921;
+    /// Of "let".
+    pub const LET: u64 = 0x0000_0000_7465_6c31;
+    /// Of "loop".
+    pub const LOOP: u64 = 0x0000_0070_6f6f_6c41;
+    /// Of "match".
+    pub const MATCH: u64 = 0x0000_6863_7461_6d51;
+    /// Of "mod".
+    pub const MOD: u64 = 0x0000_0000_646f_6d31;
+    /// Of "move".
+    pub const MOVE: u64 = 0x0000_0065_766f_6d41;
+    /// Of "mut".
+    pub const MUT: u64 = 0x0000_0000_7475_6d31;
+    /// Of "pub".
+    pub const PUB: u64 = 0x0000_0000_6275_7031;
+    /// Of "ref".
+    pub const REF: u64 = 0x0000_0000_6665_7231;
+    /// Of "return".
+    pub const RETURN: u64 = 0x006e_7275_7465_7261;
+    /// Of "self".
+    pub const SELF: u64 = 0x0000_0066_6c65_7341;
+    /// Of "static".
+    pub const STATIC: u64 = 0x0063_6974_6174_7361;
+    /// Of "struct".
+    pub const STRUCT: u64 = 0x0074_6375_7274_7361;
+    /// Of "super".
+    pub const SUPER: u64 = 0x0000_7265_7075_7351;
+    /// Of "trait".
+    pub const TRAIT: u64 = 0x0000_7469_6172_7451;
+    /// Of "true".
+    pub const TRUE: u64 = 0x0000_0065_7572_7441;
+    /// Of "type".
+    pub const TYPE: u64 = 0x0000_0065_7079_7441;
+    /// Of "unsafe".
+    pub const UNSAFE: u64 = 0x0065_6661_736e_7561;
+    /// Of "use".
+    pub const USE: u64 = 0x0000_0000_6573_7531;
+    /// Of "where".
+    pub const WHERE: u64 = 0x0000_6572_6568_7751;
+    /// Of "while".
+    pub const WHILE: u64 = 0x0000_656c_6968_7751;
+    /// Of "async".
+    pub const ASYNC: u64 = 0x0000_636e_7973_6151;
+    /// Of "await".
+    pub const AWAIT: u64 = 0x0000_7469_6177_6151;
+    /// Of "dyn".
+    pub const DYN: u64 = 0x0000_0000_6e79_6431;
+    /// Of "abstract".
+    pub const ABSTRACT: u64 = 0x0000_0023_0000_0002;
+    /// Of "become".
+    pub const BECOME: u64 = 0x0065_6d6f_6365_6261;
+    /// Of "box".
+    pub const BOX: u64 = 0x0000_0000_786f_6231;
+    /// Of "do".
+    pub const DO: u64 = 0x0000_0000_006f_6421;
+    /// Of "final".
+    pub const FINAL: u64 = 0x0000_6c61_6e69_6651;
+    /// Of "macro".
+    pub const MACRO: u64 = 0x0000_6f72_6361_6d51;
+    /// Of "override".
+    pub const OVERRIDE: u64 = 0x0000_0041_0000_0002;
+    /// Of "priv".
+    pub const PRIV: u64 = 0x0000_0076_6972_7041;
+    /// Of "typeof".
+    pub const TYPEOF: u64 = 0x0066_6f65_7079_7461;
+    /// Of "unsized".
+    pub const UNSIZED: u64 = 0x6465_7a69_736e_7571;
+    /// Of "virtual".
+    pub const VIRTUAL: u64 = 0x6c61_7574_7269_7671;
+    /// Of "yield".
+    pub const YIELD: u64 = 0x0000_646c_6569_7951;
+    /// Of "try".
+    pub const TRY: u64 = 0x0000_0000_7972_7431;
+    /// Of "union".
+    pub const UNION: u64 = 0x0000_6e6f_696e_7551;
+    /// Of "auto".
+    pub const AUTO: u64 = 0x0000_006f_7475_6141;
+    /// Of "case".
+    pub const CASE: u64 = 0x0000_0065_7361_6341;
+    /// Of "char".
+    pub const CHAR: u64 = 0x0000_0072_6168_6341;
+    /// Of "default".
+    pub const DEFAULT: u64 = 0x746c_7561_6665_6471;
+    /// Of "double".
+    pub const DOUBLE: u64 = 0x0065_6c62_756f_6461;
+    /// Of "float".
+    pub const FLOAT: u64 = 0x0000_7461_6f6c_6651;
+    /// Of "goto".
+    pub const GOTO: u64 = 0x0000_006f_746f_6741;
+    /// Of "inline".
+    pub const INLINE: u64 = 0x0065_6e69_6c6e_6961;
+    /// Of "int".
+    pub const INT: u64 = 0x0000_0000_746e_6931;
+    /// Of "long".
+    pub const LONG: u64 = 0x0000_0067_6e6f_6c41;
+    /// Of "register".
+    pub const REGISTER: u64 = 0x0000_0036_0000_0002;
+    /// Of "restrict".
+    pub const RESTRICT: u64 = 0x0000_002f_0000_0002;
+    /// Of "short".
+    pub const SHORT: u64 = 0x0000_7472_6f68_7351;
+    /// Of "signed".
+    pub const SIGNED: u64 = 0x0064_656e_6769_7361;
+    /// Of "sizeof".
+    pub const SIZEOF: u64 = 0x0066_6f65_7a69_7361;
+    /// Of "switch".
+    pub const SWITCH: u64 = 0x0068_6374_6977_7361;
+    /// Of "typedef".
+    pub const TYPEDEF: u64 = 0x6665_6465_7079_7471;
+    /// Of "unsigned".
+    pub const UNSIGNED: u64 = 0x0000_0040_0000_0002;
+    /// Of "void".
+    pub const VOID: u64 = 0x0000_0064_696f_7641;
+    /// Of "volatile".
+    pub const VOLATILE: u64 = 0x0000_0021_0000_0002;
+    /// Of "alignas".
+    pub const ALIGNAS: u64 = 0x7361_6e67_696c_6171;
+    /// Of "alignof".
+    pub const ALIGNOF: u64 = 0x666f_6e67_696c_6171;
+    /// Of "bool".
+    pub const BOOL: u64 = 0x0000_006c_6f6f_6241;
+    /// Of "constexpr".
+    pub const CONSTEXPR: u64 = 0x0000_0014_0000_0002;
+    /// Of "nullptr".
+    pub const NULLPTR: u64 = 0x7274_706c_6c75_6e71;
+    /// Of "static_assert".
+    pub const STATIC_ASSERT: u64 = 0x0000_005f_0000_0002;
+    /// Of "thread_local".
+    pub const THREAD_LOCAL: u64 = 0x0000_002a_0000_0002;
+    /// Of "typeof_unqual".
+    pub const TYPEOF_UNQUAL: u64 = 0x0000_0060_0000_0002;
+    /// Of "assert".
+    pub const ASSERT: u64 = 0x0074_7265_7373_6161;
+    /// Of "boolean".
+    pub const BOOLEAN: u64 = 0x6e61_656c_6f6f_6271;
+    /// Of "byte".
+    pub const BYTE: u64 = 0x0000_0065_7479_6241;
+    /// Of "catch".
+    pub const CATCH: u64 = 0x0000_6863_7461_6351;
+    /// Of "class".
+    pub const CLASS: u64 = 0x0000_7373_616c_6351;
+    /// Of "extends".
+    pub const EXTENDS: u64 = 0x7364_6e65_7478_6571;
+    /// Of "finally".
+    pub const FINALLY: u64 = 0x796c_6c61_6e69_6671;
+    /// Of "implements".
+    pub const IMPLEMENTS: u64 = 0x0000_000b_0000_0002;
+    /// Of "import".
+    pub const IMPORT: u64 = 0x0074_726f_706d_6961;
+    /// Of "instanceof".
+    pub const INSTANCEOF: u64 = 0x0000_0049_0000_0002;
+    /// Of "interface".
+    pub const INTERFACE: u64 = 0x0000_004c_0000_0002;
+    /// Of "native".
+    pub const NATIVE: u64 = 0x0065_7669_7461_6e61;
+    /// Of "new".
+    pub const NEW: u64 = 0x0000_0000_7765_6e31;
+    /// Of "package".
+    pub const PACKAGE: u64 = 0x6567_616b_6361_7071;
+    /// Of "private".
+    pub const PRIVATE: u64 = 0x6574_6176_6972_7071;
+    /// Of "protected".
+    pub const PROTECTED: u64 = 0x0000_0039_0000_0002;
+    /// Of "public".
+    pub const PUBLIC: u64 = 0x0063_696c_6275_7061;
+    /// Of "strictfp".
+    pub const STRICTFP: u64 = 0x0000_0009_0000_0002;
+    /// Of "synchronized".
+    pub const SYNCHRONIZED: u64 = 0x0000_006a_0000_0002;
+    /// Of "this".
+    pub const THIS: u64 = 0x0000_0073_6968_7441;
+    /// Of "throw".
+    pub const THROW: u64 = 0x0000_776f_7268_7451;
+    /// Of "throws".
+    pub const THROWS: u64 = 0x0073_776f_7268_7461;
+    /// Of "transient".
+    pub const TRANSIENT: u64 = 0x0000_000a_0000_0002;
+    /// Of "exports".
+    pub const EXPORTS: u64 = 0x7374_726f_7078_6571;
+    /// Of "module".
+    pub const MODULE: u64 = 0x0065_6c75_646f_6d61;
+    /// Of "opens".
+    pub const OPENS: u64 = 0x0000_736e_6570_6f51;
+    /// Of "permits".
+    pub const PERMITS: u64 = 0x7374_696d_7265_7071;
+    /// Of "provides".
+    pub const PROVIDES: u64 = 0x0000_003e_0000_0002;
+    /// Of "record".
+    pub const RECORD: u64 = 0x0064_726f_6365_7261;
+    /// Of "requires".
+    pub const REQUIRES: u64 = 0x0000_0029_0000_0002;
+    /// Of "sealed".
+    pub const SEALED: u64 = 0x0064_656c_6165_7361;
+    /// Of "transitive".
+    pub const TRANSITIVE: u64 = 0x0000_000c_0000_0002;
+    /// Of "when".
+    pub const WHEN: u64 = 0x0000_006e_6568_7741;
+    /// Of "with".
+    pub const WITH: u64 = 0x0000_0068_7469_7741;
+    /// Of "arguments".
+    pub const ARGUMENTS: u64 = 0x0000_0071_0000_0002;
+    /// Of "debugger".
+    pub const DEBUGGER: u64 = 0x0000_003d_0000_0002;
+    /// Of "delete".
+    pub const DELETE: u64 = 0x0065_7465_6c65_6461;
+    /// Of "eval".
+    pub const EVAL: u64 = 0x0000_006c_6176_6541;
+    /// Of "export".
+    pub const EXPORT: u64 = 0x0074_726f_7078_6561;
+    /// Of "function".
+    pub const FUNCTION: u64 = 0x0000_001d_0000_0002;
+    /// Of "get".
+    pub const GET: u64 = 0x0000_0000_7465_6731;
+    /// Of "null".
+    pub const NULL: u64 = 0x0000_006c_6c75_6e41;
+    /// Of "of".
+    pub const OF: u64 = 0x0000_0000_0066_6f21;
+    /// Of "set".
+    pub const SET: u64 = 0x0000_0000_7465_7331;
+    /// Of "undefined".
+    pub const UNDEFINED: u64 = 0x0000_0068_0000_0002;
+    /// Of "and".
+    pub const AND: u64 = 0x0000_0000_646e_6131;
+    /// Of "def".
+    pub const DEF: u64 = 0x0000_0000_6665_6431;
+    /// Of "elif".
+    pub const ELIF: u64 = 0x0000_0066_696c_6541;
+    /// Of "except".
+    pub const EXCEPT: u64 = 0x0074_7065_6378_6561;
+    /// Of "from".
+    pub const FROM: u64 = 0x0000_006d_6f72_6641;
+    /// Of "global".
+    pub const GLOBAL: u64 = 0x006c_6162_6f6c_6761;
+    /// Of "is".
+    pub const IS: u64 = 0x0000_0000_0073_6921;
+    /// Of "lambda".
+    pub const LAMBDA: u64 = 0x0061_6462_6d61_6c61;
+    /// Of "nonlocal".
+    pub const NONLOCAL: u64 = 0x0000_0056_0000_0002;
+    /// Of "not".
+    pub const NOT: u64 = 0x0000_0000_746f_6e31;
+    /// Of "or".
+    pub const OR: u64 = 0x0000_0000_0072_6f21;
+    /// Of "pass".
+    pub const PASS: u64 = 0x0000_0073_7361_7041;
+    /// Of "raise".
+    pub const RAISE: u64 = 0x0000_6573_6961_7251;
+    /// Of "None".
+    pub const NONE: u64 = 0x0000_0065_6e6f_4e41;
+    /// Of "True".
+    pub const PYTHON_TRUE: u64 = 0x0000_0065_7572_5441;
+    /// Of "False".
+    pub const PYTHON_FALSE: u64 = 0x0000_6573_6c61_4651;
+    /// Of "align-content".
+    pub const ALIGN_CONTENT: u64 = 0x0000_0003_0000_0002;
+    /// Of "align-items".
+    pub const ALIGN_ITEMS: u64 = 0x0000_001b_0000_0002;
+    /// Of "animation".
+    pub const ANIMATION: u64 = 0x0000_0017_0000_0002;
+    /// Of "appearance".
+    pub const APPEARANCE: u64 = 0x0000_0033_0000_0002;
+    /// Of "aspect-ratio".
+    pub const ASPECT_RATIO: u64 = 0x0000_0018_0000_0002;
+    /// Of "background".
+    pub const BACKGROUND: u64 = 0x0000_0022_0000_0002;
+    /// Of "background-color".
+    pub const BACKGROUND_COLOR: u64 = 0x0000_0047_0000_0002;
+    /// Of "background-image".
+    pub const BACKGROUND_IMAGE: u64 = 0x0000_0026_0000_0002;
+    /// Of "border".
+    pub const BORDER: u64 = 0x0072_6564_726f_6261;
+    /// Of "border-radius".
+    pub const BORDER_RADIUS: u64 = 0x0000_0035_0000_0002;
+    /// Of "border-spacing".
+    pub const BORDER_SPACING: u64 = 0x0000_0037_0000_0002;
+    /// Of "box-shadow".
+    pub const BOX_SHADOW: u64 = 0x0000_005e_0000_0002;
+    /// Of "box-sizing".
+    pub const BOX_SIZING: u64 = 0x0000_0067_0000_0002;
+    /// Of "caret-color".
+    pub const CARET_COLOR: u64 = 0x0000_004f_0000_0002;
+    /// Of "clear".
+    pub const CLEAR: u64 = 0x0000_7261_656c_6351;
+    /// Of "clip-path".
+    pub const CLIP_PATH: u64 = 0x0000_0057_0000_0002;
+    /// Of "color".
+    pub const COLOR: u64 = 0x0000_726f_6c6f_6351;
+    /// Of "column-count".
+    pub const COLUMN_COUNT: u64 = 0x0000_0050_0000_0002;
+    /// Of "column-gap".
+    pub const COLUMN_GAP: u64 = 0x0000_0063_0000_0002;
+    /// Of "column-rule".
+    pub const COLUMN_RULE: u64 = 0x0000_0048_0000_0002;
+    /// Of "columns".
+    pub const COLUMNS: u64 = 0x736e_6d75_6c6f_6371;
+    /// Of "contain".
+    pub const CONTAIN: u64 = 0x6e69_6174_6e6f_6371;
+    /// Of "counter-increment".
+    pub const COUNTER_INCREMENT: u64 = 0x0000_004d_0000_0002;
+    /// Of "counter-reset".
+    pub const COUNTER_RESET: u64 = 0x0000_003b_0000_0002;
+    /// Of "cursor".
+    pub const CURSOR: u64 = 0x0072_6f73_7275_6361;
+    /// Of "direction".
+    pub const DIRECTION: u64 = 0x0000_003a_0000_0002;
+    /// Of "display".
+    pub const DISPLAY: u64 = 0x7961_6c70_7369_6471;
+    /// Of "empty-cells".
+    pub const EMPTY_CELLS: u64 = 0x0000_0006_0000_0002;
+    /// Of "filter".
+    pub const FILTER: u64 = 0x0072_6574_6c69_6661;
+    /// Of "flex".
+    pub const FLEX: u64 = 0x0000_0078_656c_6641;
+    /// Of "flex-basis".
+    pub const FLEX_BASIS: u64 = 0x0000_004e_0000_0002;
+    /// Of "flex-direction".
+    pub const FLEX_DIRECTION: u64 = 0x0000_0010_0000_0002;
+    /// Of "flex-flow".
+    pub const FLEX_FLOW: u64 = 0x0000_0007_0000_0002;
+    /// Of "flex-grow".
+    pub const FLEX_GROW: u64 = 0x0000_002b_0000_0002;
+    /// Of "flex-shrink".
+    pub const FLEX_SHRINK: u64 = 0x0000_006f_0000_0002;
+    /// Of "flex-wrap".
+    pub const FLEX_WRAP: u64 = 0x0000_0000_0000_0002;
+    /// Of "font-family".
+    pub const FONT_FAMILY: u64 = 0x0000_005d_0000_0002;
+    /// Of "font-size".
+    pub const FONT_SIZE: u64 = 0x0000_0058_0000_0002;
+    /// Of "font-style".
+    pub const FONT_STYLE: u64 = 0x0000_006e_0000_0002;
+    /// Of "font-variant".
+    pub const FONT_VARIANT: u64 = 0x0000_0066_0000_0002;
+    /// Of "font-weight".
+    pub const FONT_WEIGHT: u64 = 0x0000_0008_0000_0002;
+    /// Of "gap".
+    pub const GAP: u64 = 0x0000_0000_7061_6731;
+    /// Of "grid".
+    pub const GRID: u64 = 0x0000_0064_6972_6741;
+    /// Of "grid-area".
+    pub const GRID_AREA: u64 = 0x0000_002d_0000_0002;
+    /// Of "grid-column".
+    pub const GRID_COLUMN: u64 = 0x0000_0043_0000_0002;
+    /// Of "grid-row".
+    pub const GRID_ROW: u64 = 0x0000_0001_0000_0002;
+    /// Of "grid-template".
+    pub const GRID_TEMPLATE: u64 = 0x0000_002e_0000_0002;
+    /// Of "height".
+    pub const HEIGHT: u64 = 0x0074_6867_6965_6861;
+    /// Of "hyphens".
+    pub const HYPHENS: u64 = 0x736e_6568_7079_6871;
+    /// Of "isolation".
+    pub const ISOLATION: u64 = 0x0000_0072_0000_0002;
+    /// Of "justify-content".
+    pub const JUSTIFY_CONTENT: u64 = 0x0000_0051_0000_0002;
+    /// Of "justify-items".
+    pub const JUSTIFY_ITEMS: u64 = 0x0000_0055_0000_0002;
+    /// Of "left".
+    pub const LEFT: u64 = 0x0000_0074_6665_6c41;
+    /// Of "letter-spacing".
+    pub const LETTER_SPACING: u64 = 0x0000_003f_0000_0002;
+    /// Of "line-height".
+    pub const LINE_HEIGHT: u64 = 0x0000_001e_0000_0002;
+    /// Of "list-style".
+    pub const LIST_STYLE: u64 = 0x0000_000d_0000_0002;
+    /// Of "margin".
+    pub const MARGIN: u64 = 0x006e_6967_7261_6d61;
+    /// Of "max-height".
+    pub const MAX_HEIGHT: u64 = 0x0000_004a_0000_0002;
+    /// Of "max-width".
+    pub const MAX_WIDTH: u64 = 0x0000_0064_0000_0002;
+    /// Of "min-height".
+    pub const MIN_HEIGHT: u64 = 0x0000_0070_0000_0002;
+    /// Of "min-width".
+    pub const MIN_WIDTH: u64 = 0x0000_002c_0000_0002;
+    /// Of "mix-blend-mode".
+    pub const MIX_BLEND_MODE: u64 = 0x0000_0012_0000_0002;
+    /// Of "object-fit".
+    pub const OBJECT_FIT: u64 = 0x0000_0062_0000_0002;
+    /// Of "object-position".
+    pub const OBJECT_POSITION: u64 = 0x0000_0016_0000_0002;
+    /// Of "opacity".
+    pub const OPACITY: u64 = 0x7974_6963_6170_6f71;
+    /// Of "order".
+    pub const ORDER: u64 = 0x0000_7265_6472_6f51;
+    /// Of "orphans".
+    pub const ORPHANS: u64 = 0x736e_6168_7072_6f71;
+    /// Of "outline".
+    pub const OUTLINE: u64 = 0x656e_696c_7475_6f71;
+    /// Of "overflow".
+    pub const OVERFLOW: u64 = 0x0000_005b_0000_0002;
+    /// Of "padding".
+    pub const PADDING: u64 = 0x676e_6964_6461_7071;
+    /// Of "page".
+    pub const PAGE: u64 = 0x0000_0065_6761_7041;
+    /// Of "perspective".
+    pub const PERSPECTIVE: u64 = 0x0000_005c_0000_0002;
+    /// Of "place-content".
+    pub const PLACE_CONTENT: u64 = 0x0000_0042_0000_0002;
+    /// Of "pointer-events".
+    pub const POINTER_EVENTS: u64 = 0x0000_001a_0000_0002;
+    /// Of "position".
+    pub const POSITION: u64 = 0x0000_0028_0000_0002;
+    /// Of "quotes".
+    pub const QUOTES: u64 = 0x0073_6574_6f75_7161;
+    /// Of "resize".
+    pub const RESIZE: u64 = 0x0065_7a69_7365_7261;
+    /// Of "right".
+    pub const RIGHT: u64 = 0x0000_7468_6769_7251;
+    /// Of "rotate".
+    pub const ROTATE: u64 = 0x0065_7461_746f_7261;
+    /// Of "row-gap".
+    pub const ROW_GAP: u64 = 0x7061_672d_776f_7271;
+    /// Of "scale".
+    pub const SCALE: u64 = 0x0000_656c_6163_7351;
+    /// Of "scroll-behavior".
+    pub const SCROLL_BEHAVIOR: u64 = 0x0000_0069_0000_0002;
+    /// Of "tab-size".
+    pub const TAB_SIZE: u64 = 0x0000_0032_0000_0002;
+    /// Of "table-layout".
+    pub const TABLE_LAYOUT: u64 = 0x0000_001c_0000_0002;
+    /// Of "text-align".
+    pub const TEXT_ALIGN: u64 = 0x0000_000f_0000_0002;
+    /// Of "text-decoration".
+    pub const TEXT_DECORATION: u64 = 0x0000_0059_0000_0002;
+    /// Of "text-indent".
+    pub const TEXT_INDENT: u64 = 0x0000_0046_0000_0002;
+    /// Of "text-overflow".
+    pub const TEXT_OVERFLOW: u64 = 0x0000_000e_0000_0002;
+    /// Of "text-shadow".
+    pub const TEXT_SHADOW: u64 = 0x0000_001f_0000_0002;
+    /// Of "text-transform".
+    pub const TEXT_TRANSFORM: u64 = 0x0000_0030_0000_0002;
+    /// Of "top".
+    pub const TOP: u64 = 0x0000_0000_706f_7431;
+    /// Of "transform".
+    pub const TRANSFORM: u64 = 0x0000_006b_0000_0002;
+    /// Of "transition".
+    pub const TRANSITION: u64 = 0x0000_0027_0000_0002;
+    /// Of "translate".
+    pub const TRANSLATE: u64 = 0x0000_0019_0000_0002;
+    /// Of "unicode-bidi".
+    pub const UNICODE_BIDI: u64 = 0x0000_0054_0000_0002;
+    /// Of "vertical-align".
+    pub const VERTICAL_ALIGN: u64 = 0x0000_0044_0000_0002;
+    /// Of "visibility".
+    pub const VISIBILITY: u64 = 0x0000_0053_0000_0002;
+    /// Of "white-space".
+    pub const WHITE_SPACE: u64 = 0x0000_0020_0000_0002;
+    /// Of "widows".
+    pub const WIDOWS: u64 = 0x0073_776f_6469_7761;
+    /// Of "width".
+    pub const WIDTH: u64 = 0x0000_6874_6469_7751;
+    /// Of "word-break".
+    pub const WORD_BREAK: u64 = 0x0000_0024_0000_0002;
+    /// Of "word-spacing".
+    pub const WORD_SPACING: u64 = 0x0000_0045_0000_0002;
+    /// Of "writing-mode".
+    pub const WRITING_MODE: u64 = 0x0000_0065_0000_0002;
+    /// Of "z-index".
+    pub const Z_INDEX: u64 = 0x7865_646e_692d_7a71;
+}
 
 impl StaticAtomSet for Names {
     ghost use Rattle.std.proofs.Common.{lit<, refl};
     ghost use Rattle.std.specs.Prelude.{[], ◌∷◌, codes};
-    ghost use Rattle.string_cache.specs.Tables.{Tables};
 
-    ghost tables = { record { key = 0; disps = (0, 242) ∷ (0, 1) ∷ (0, 6) ∷ (0, 0) ∷ (0, 22) ∷ (0, 21) ∷ (0, 4) ∷ (0, 2) ∷ (0, 0) ∷ (0, 22) ∷ (8, 268) ∷ (2, 262) ∷ (0, 11) ∷ (1, 351) ∷ (0, 40) ∷ (0, 9) ∷ (0, 239) ∷ (0, 90) ∷ (0, 0) ∷ (0, 156) ∷ (0, 100) ∷ (0, 18) ∷ (0, 26) ∷ (0, 64) ∷ (0, 102) ∷ (3, 4) ∷ (0, 254) ∷ (0, 272) ∷ (0, 8) ∷ (0, 21) ∷ (0, 25) ∷ (0, 304) ∷ (1, 142) ∷ (0, 0) ∷ (9, 158) ∷ (0, 36) ∷ (0, 3) ∷ (0, 61) ∷ (0, 0) ∷ (0, 2) ∷ (1, 313) ∷ (0, 0) ∷ (0, 6) ∷ (0, 5) ∷ (4, 185) ∷ (2, 0) ∷ (2, 275) ∷ (0, 269) ∷ (0, 18) ∷ (0, 6) ∷ (0, 0) ∷ (0, 124) ∷ (0, 145) ∷ (0, 282) ∷ (3, 74) ∷ (0, 26) ∷ (0, 137) ∷ (0, 51) ∷ (0, 12) ∷ (3, 82) ∷ (0, 86) ∷ (14, 184) ∷ (0, 0) ∷ (2, 253) ∷ (3, 161) ∷ (4, 157) ∷ (1, 6) ∷ (0, 254) ∷ (66, 179) ∷ (0, 273) ∷ (0, 2) ∷ (1, 237) ∷ (0, 242) ∷ (29, 374) ∷ (0, 24) ∷ (11, 286) ∷ (8, 1) ∷ (0, 335) ∷ (0, 82) ∷ []; atoms = codes "unicode-bidi" ∷ codes "mix-blend-mode" ∷ codes "border-spacing" ∷ codes "font-family" ∷ codes "textarea" ∷ codes "resize" ∷ codes "class" ∷ codes "column-gap" ∷ codes "of" ∷ codes "await" ∷ codes "meta" ∷ codes "blockquote" ∷ codes "extern" ∷ codes "in" ∷ codes "head" ∷ codes "ref" ∷ codes "while" ∷ codes "visibility" ∷ codes "rb" ∷ codes "object" ∷ codes "marquee" ∷ codes "list-style" ∷ codes "h6" ∷ codes "opens" ∷ codes "progress" ∷ codes "article" ∷ codes "hr" ∷ codes "typeof_unqual" ∷ codes "audio" ∷ codes "signed" ∷ codes "link" ∷ codes "span" ∷ codes "grid" ∷ codes "left" ∷ codes "rtc" ∷ codes "set" ∷ codes "multicol" ∷ codes "dt" ∷ codes "translate" ∷ codes "footer" ∷ codes "inline" ∷ codes "void" ∷ codes "volatile" ∷ codes "address" ∷ codes "protected" ∷ codes "img" ∷ codes "char" ∷ codes "instanceof" ∷ codes "crate" ∷ codes "tbody" ∷ codes "background-color" ∷ codes "area" ∷ codes "object-position" ∷ codes "if" ∷ codes "data" ∷ codes "sealed" ∷ codes "gap" ∷ codes "int" ∷ codes "def" ∷ codes "border" ∷ codes "plaintext" ∷ codes "contain" ∷ codes "blink" ∷ codes "page" ∷ codes "colgroup" ∷ codes "search" ∷ codes "menu" ∷ codes "box" ∷ codes "font-style" ∷ codes "dl" ∷ codes "mark" ∷ codes "white-space" ∷ codes "this" ∷ codes "short" ∷ codes "datalist" ∷ codes "font-size" ∷ codes "eval" ∷ codes "column-count" ∷ codes "table" ∷ codes "image" ∷ codes "width" ∷ codes "function" ∷ codes "constexpr" ∷ codes "nav" ∷ codes "align-items" ∷ codes "portal" ∷ codes "place-content" ∷ codes "abstract" ∷ codes "bool" ∷ codes "static_assert" ∷ codes "null" ∷ codes "element" ∷ codes "text-shadow" ∷ codes "pointer-events" ∷ codes "columns" ∷ codes "q" ∷ codes "background-image" ∷ codes "align-content" ∷ codes "typeof" ∷ codes "with" ∷ codes "flex-basis" ∷ codes "div" ∷ codes "nobr" ∷ codes "dyn" ∷ codes "big" ∷ codes "exports" ∷ codes "picture" ∷ codes "button" ∷ codes "input" ∷ codes "throws" ∷ codes "yield" ∷ codes "True" ∷ codes "grid-row" ∷ codes "unsigned" ∷ codes "max-width" ∷ codes "ul" ∷ codes "time" ∷ codes "del" ∷ codes "double" ∷ codes "raise" ∷ codes "kbd" ∷ codes "struct" ∷ codes "height" ∷ codes "else" ∷ codes "record" ∷ codes "bgsound" ∷ codes "aside" ∷ codes "flex-direction" ∷ codes "tt" ∷ codes "h3" ∷ codes "s" ∷ codes "try" ∷ codes "ruby" ∷ codes "iframe" ∷ codes "appearance" ∷ codes "break" ∷ codes "position" ∷ codes "scroll-behavior" ∷ codes "dfn" ∷ codes "final" ∷ codes "noembed" ∷ codes "b" ∷ codes "flex-grow" ∷ codes "nullptr" ∷ codes "spacer" ∷ codes "fieldset" ∷ codes "frame" ∷ codes "move" ∷ codes "applet" ∷ codes "or" ∷ codes "max-height" ∷ codes "loop" ∷ codes "word-spacing" ∷ codes "a" ∷ codes "None" ∷ codes "animation" ∷ codes "mod" ∷ codes "dir" ∷ codes "tr" ∷ codes "color" ∷ codes "min-width" ∷ codes "isindex" ∷ codes "strictfp" ∷ codes "counter-reset" ∷ codes "true" ∷ codes "widows" ∷ codes "keygen" ∷ codes "top" ∷ codes "frameset" ∷ codes "tfoot" ∷ codes "provides" ∷ codes "style" ∷ codes "dialog" ∷ codes "body" ∷ codes "justify-items" ∷ codes "code" ∷ codes "native" ∷ codes "h2" ∷ codes "rp" ∷ codes "match" ∷ codes "text-decoration" ∷ codes "synchronized" ∷ codes "float" ∷ codes "delete" ∷ codes "small" ∷ codes "transitive" ∷ codes "pass" ∷ codes "z-index" ∷ codes "canvas" ∷ codes "main" ∷ codes "li" ∷ codes "boolean" ∷ codes "quotes" ∷ codes "writing-mode" ∷ codes "box-sizing" ∷ codes "var" ∷ codes "self" ∷ codes "ins" ∷ codes "row-gap" ∷ codes "header" ∷ codes "shadow" ∷ codes "byte" ∷ codes "throw" ∷ codes "em" ∷ codes "aspect-ratio" ∷ codes "unsafe" ∷ codes "table-layout" ∷ codes "line-height" ∷ codes "center" ∷ codes "hyphens" ∷ codes "select" ∷ codes "export" ∷ codes "letter-spacing" ∷ codes "scale" ∷ codes "finally" ∷ codes "interface" ∷ codes "sizeof" ∷ codes "flex-shrink" ∷ codes "details" ∷ codes "justify-content" ∷ codes "package" ∷ codes "new" ∷ codes "i" ∷ codes "xmp" ∷ codes "undefined" ∷ codes "samp" ∷ codes "public" ∷ codes "union" ∷ codes "font-weight" ∷ codes "filter" ∷ codes "and" ∷ codes "nextid" ∷ codes "figcaption" ∷ codes "as" ∷ codes "transform" ∷ codes "private" ∷ codes "text-transform" ∷ codes "ol" ∷ codes "from" ∷ codes "fn" ∷ codes "restrict" ∷ codes "do" ∷ codes "grid-column" ∷ codes "import" ∷ codes "implements" ∷ codes "summary" ∷ codes "isolation" ∷ codes "become" ∷ codes "font-variant" ∷ codes "thead" ∷ codes "word-break" ∷ codes "caret-color" ∷ codes "text-overflow" ∷ codes "static" ∷ codes "box-shadow" ∷ codes "tab-size" ∷ codes "p" ∷ codes "for" ∷ codes "module" ∷ codes "section" ∷ codes "font" ∷ codes "acronym" ∷ codes "display" ∷ codes "svg" ∷ codes "empty-cells" ∷ codes "type" ∷ codes "abbr" ∷ codes "param" ∷ codes "strike" ∷ codes "not" ∷ codes "return" ∷ codes "trait" ∷ codes "figure" ∷ codes "flex" ∷ codes "priv" ∷ codes "bdo" ∷ codes "grid-area" ∷ codes "cite" ∷ codes "continue" ∷ codes "title" ∷ codes "background" ∷ codes "bdi" ∷ codes "script" ∷ codes "output" ∷ codes "u" ∷ codes "pub" ∷ codes "object-fit" ∷ codes "html" ∷ codes "register" ∷ codes "False" ∷ codes "h4" ∷ codes "h1" ∷ codes "perspective" ∷ codes "menuitem" ∷ codes "use" ∷ codes "permits" ∷ codes "padding" ∷ codes "elif" ∷ codes "content" ∷ codes "noframes" ∷ codes "lambda" ∷ codes "assert" ∷ codes "counter-increment" ∷ codes "th" ∷ codes "transition" ∷ codes "track" ∷ codes "transient" ∷ codes "thread_local" ∷ codes "template" ∷ codes "right" ∷ codes "basefont" ∷ codes "strong" ∷ codes "direction" ∷ codes "sup" ∷ codes "cursor" ∷ codes "rt" ∷ codes "unsized" ∷ codes "clip-path" ∷ codes "h5" ∷ codes "opacity" ∷ codes "flex-wrap" ∷ codes "border-radius" ∷ codes "min-height" ∷ codes "except" ∷ codes "math" ∷ codes "virtual" ∷ codes "base" ∷ codes "label" ∷ codes "pre" ∷ codes "where" ∷ codes "br" ∷ codes "nonlocal" ∷ codes "switch" ∷ codes "legend" ∷ codes "grid-template" ∷ codes "is" ∷ codes "override" ∷ codes "noscript" ∷ codes "catch" ∷ codes "caption" ∷ codes "meter" ∷ codes "command" ∷ codes "col" ∷ codes "when" ∷ codes "orphans" ∷ codes "arguments" ∷ codes "const" ∷ codes "listing" ∷ codes "dd" ∷ codes "macro" ∷ codes "get" ∷ codes "margin" ∷ codes "text-align" ∷ codes "enum" ∷ codes "let" ∷ codes "long" ∷ codes "debugger" ∷ codes "column-rule" ∷ codes "goto" ∷ codes "auto" ∷ codes "false" ∷ codes "alignas" ∷ codes "impl" ∷ codes "order" ∷ codes "rotate" ∷ codes "extends" ∷ codes "text-indent" ∷ codes "video" ∷ codes "typedef" ∷ codes "form" ∷ codes "global" ∷ codes "async" ∷ codes "option" ∷ codes "wbr" ∷ codes "map" ∷ codes "outline" ∷ codes "alignof" ∷ codes "sub" ∷ codes "embed" ∷ codes "default" ∷ codes "case" ∷ codes "requires" ∷ codes "super" ∷ codes "optgroup" ∷ codes "slot" ∷ codes "td" ∷ codes "overflow" ∷ codes "flex-flow" ∷ codes "source" ∷ codes "mut" ∷ codes "hgroup" ∷ codes "clear" ∷ codes "vertical-align" ∷ []; hashes = 0xc263_0c5f_84a2_e2cb ∷ 0x65ac_33ac_c0f5_072e ∷ 0x77c4_7c1f_8046_79b9 ∷ 0x95e7_d63a_6335_dfd9 ∷ 0x0ccd_a95b_919a_5e9c ∷ 0x012d_f963_1419_2f34 ∷ 0x47db_a99e_717d_b66d ∷ 0xfb09_4175_46e2_6a33 ∷ 0x0284_f636_6c70_3ba1 ∷ 0x4011_d0f6_38d9_46c9 ∷ 0xf4e5_9290_1fdb_2d4b ∷ 0xfe8e_a144_fd65_76c8 ∷ 0x9329_0810_6d83_06c5 ∷ 0x284c_4171_1636_637d ∷ 0x9411_bace_222d_969e ∷ 0x7a7b_d7c4_6c6c_4c5b ∷ 0x2f9a_8341_83c9_4246 ∷ 0x2363_4134_9d38_f6dd ∷ 0x64f1_d675_b7f2_11fc ∷ 0x67f8_4493_ba2f_ce76 ∷ 0xf641_4500_8be3_1e9c ∷ 0x741c_0cbc_3e67_6507 ∷ 0x8f18_97a5_fa51_ac31 ∷ 0x5289_8085_0e6b_9e85 ∷ 0x0f7f_9652_4fd9_17e0 ∷ 0x5e69_ed67_d5dd_e700 ∷ 0x7c1e_de1b_b926_f24b ∷ 0x0715_d34b_7770_9866 ∷ 0xa907_5753_0bfe_80e5 ∷ 0xd42a_90d0_8c93_3bde ∷ 0x4637_ef02_2f3e_6f46 ∷ 0xc1d5_b996_c901_584a ∷ 0x54ba_f4df_8348_c37b ∷ 0xa01b_e2fc_e5b6_8d59 ∷ 0x24aa_d32e_822d_040a ∷ 0x17c2_ab6f_d371_5978 ∷ 0xbda9_7b68_dd35_5189 ∷ 0x4fb5_2e68_a215_d1ec ∷ 0x6dd7_2380_2a74_826c ∷ 0xff29_1ea9_c4fb_6f0c ∷ 0xc63a_6cc0_70a9_8822 ∷ 0xaea9_5ffa_c5ce_b40b ∷ 0xe19b_9780_ab67_2419 ∷ 0xa474_f0dc_52c1_a95d ∷ 0xd120_2927_0374_5879 ∷ 0x79a9_4462_0e91_90ba ∷ 0x06c6_c3a5_2fab_9853 ∷ 0xfb96_7309_ceb3_3682 ∷ 0xfc9b_ba0e_ffd9_537b ∷ 0xf282_7146_15ac_16b5 ∷ 0x0763_6269_3b3f_ea97 ∷ 0x6323_e09f_83f1_3905 ∷ 0x5e6f_8769_d3a6_74db ∷ 0xad57_689a_a3f7_5b6b ∷ 0xd623_2b2e_f57e_a40f ∷ 0x54ab_8d1a_4992_aa3c ∷ 0x20c9_45b4_f161_cd07 ∷ 0x11ad_fd78_4592_c872 ∷ 0xff1e_ed13_7a02_f6e1 ∷ 0x5e6a_3a6c_d679_6162 ∷ 0x2f41_2c4b_c5a5_ad22 ∷ 0x79fc_9862_ab13_96c2 ∷ 0xfe25_771f_82a2_86ca ∷ 0xedbc_8b1d_e34c_704f ∷ 0xc212_cb28_033e_5d8c ∷ 0x447a_6b42_8089_ae9f ∷ 0x8071_741a_eca9_34b0 ∷ 0xc23e_441c_dc31_5a97 ∷ 0x3c14_ad14_9a98_dfcb ∷ 0x4ccf_88a8_258a_4097 ∷ 0x5345_c1c1_568f_94ca ∷ 0xfcd0_7905_5437_c321 ∷ 0xd18d_c731_ffbc_dd86 ∷ 0x68ea_c510_0250_06a5 ∷ 0x6267_802a_1b82_8b49 ∷ 0xae6c_be88_5c03_1eff ∷ 0xf8a6_b282_3844_db22 ∷ 0xb500_fee8_afc8_178f ∷ 0xc864_a048_a605_0d03 ∷ 0x173c_9d01_de88_5932 ∷ 0x8ede_e802_542e_e972 ∷ 0x76ed_ed8b_a08f_57c6 ∷ 0xd1f1_3bfa_c0ba_e710 ∷ 0x2aa7_d330_ca8f_a570 ∷ 0x2a48_572a_26f3_ec3e ∷ 0x732a_e855_ac0e_c595 ∷ 0x3f99_4c96_27c0_6b20 ∷ 0xaf44_208f_5457_9fda ∷ 0x7121_ec50_c335_7608 ∷ 0x653c_61d0_95a5_483d ∷ 0x6606_6f02_1ee1_33f7 ∷ 0x74f3_67be_24ce_3263 ∷ 0x2207_06d1_520c_f5e6 ∷ 0xcc5b_fbc4_343e_7afe ∷ 0xf071_1c43_b36c_015c ∷ 0x53d8_a335_7364_1692 ∷ 0xa46d_2f7c_7265_7d1b ∷ 0x1883_1d8c_109b_138c ∷ 0xf3f9_5dd7_d571_55c6 ∷ 0x9cb8_2070_f38a_3a73 ∷ 0xa5db_cc9b_a532_0347 ∷ 0xe535_c5c4_b5c2_3011 ∷ 0x9b6c_820d_2cc2_f65a ∷ 0xa271_246d_2ba1_0cc4 ∷ 0x9993_e6f6_0217_3740 ∷ 0x47fa_177a_e0e8_ea06 ∷ 0xe55b_86d0_ba20_ddb7 ∷ 0xddf2_4040_fbf5_6ba3 ∷ 0x1a39_2f97_9994_0cb9 ∷ 0xcfdf_b32b_72e3_d566 ∷ 0x5d24_4c5e_4668_4957 ∷ 0x721c_338f_61d1_a83a ∷ 0x9a61_39ec_c175_ff4a ∷ 0x9a3f_1201_106b_eb95 ∷ 0x3e4c_e9e9_a2f8_2e43 ∷ 0xdd07_f904_5487_4a91 ∷ 0x037c_5cbe_da1f_19f6 ∷ 0xd932_a4cb_06b6_bcdf ∷ 0xcbcd_e17a_fe4d_eaac ∷ 0x9250_0e26_2c9a_53de ∷ 0x0620_5e1b_6577_5538 ∷ 0x5054_c34c_5d6d_19b9 ∷ 0xbea6_b5c7_f47a_cade ∷ 0x42c9_7634_bcbd_0b71 ∷ 0x7d6d_0dd7_8570_73f1 ∷ 0x2da2_86f6_43f1_df21 ∷ 0xa427_8399_a0f8_0293 ∷ 0xb88a_0b50_9be2_0985 ∷ 0x5154_5163_3d49_58cd ∷ 0x85da_ba52_7374_ecea ∷ 0x408c_cd7a_3f50_9799 ∷ 0x833b_3d88_125e_6f91 ∷ 0xcd34_25d2_78c7_c372 ∷ 0x3e14_dbca_ea48_7371 ∷ 0xdfdd_8e9f_dbbb_8456 ∷ 0xe986_cb3f_26dc_16c5 ∷ 0xd271_3b88_765f_54b7 ∷ 0xb27f_f766_db36_8b8a ∷ 0x808d_e802_c12d_0e66 ∷ 0xc945_531b_4808_b1af ∷ 0x5a1f_cdb4_2ba3_625f ∷ 0x6a82_da7f_803c_05d6 ∷ 0x751c_e3ac_0c22_d403 ∷ 0x203b_4f33_54f7_9941 ∷ 0x3549_d98f_a327_744b ∷ 0x3c07_4ae2_c1c9_f84f ∷ 0x4515_9c43_18c6_db58 ∷ 0x4788_3d77_0801_202a ∷ 0xa155_59de_8efb_630b ∷ 0xd3bc_3779_32f4_2043 ∷ 0x6a18_74eb_1982_a8b2 ∷ 0x26e2_77c2_1824_6d8f ∷ 0x16fb_ebf1_0ec4_5dd4 ∷ 0x3710_b5e8_72fb_f647 ∷ 0xb554_ee29_49a7_4b91 ∷ 0x93b7_4ffd_6c9e_2801 ∷ 0xbd4c_580b_4bea_bd1c ∷ 0x5f8b_4d4e_7d6f_00b6 ∷ 0x8a0e_5c43_0db6_74b2 ∷ 0x9e18_fedc_7e37_445e ∷ 0x9c2e_4453_fb4d_76b9 ∷ 0x35d6_a057_a5eb_0199 ∷ 0x8d4c_82bf_3e63_79c1 ∷ 0xef2f_c60d_10f2_c7b7 ∷ 0x5f85_44b1_944b_0edc ∷ 0x7762_45ef_f530_5624 ∷ 0x209f_7be8_98a3_b0c4 ∷ 0xb1dd_9f12_c68c_57d4 ∷ 0xfc27_868b_210f_2a88 ∷ 0x7bf6_23de_3a4c_07a1 ∷ 0xc866_3707_f6d7_29d7 ∷ 0x40e0_5bb6_75e8_4abb ∷ 0xad2c_c9a0_3efc_fce6 ∷ 0x03db_8b6a_82d4_ff4e ∷ 0x7428_a76c_6f77_3a87 ∷ 0x2e37_228f_9b67_a8e0 ∷ 0x4aaf_377d_0ff1_4b47 ∷ 0x693f_059d_94f6_e778 ∷ 0x1a76_8535_f0cc_a984 ∷ 0xe885_d74e_e5ee_cb15 ∷ 0xa651_9ffa_cd5d_81cc ∷ 0x9451_2ef3_9539_d8d5 ∷ 0xc2c4_64f9_75c2_f531 ∷ 0x4024_a909_d17b_4c5b ∷ 0x5e0a_cb0e_ceba_53d0 ∷ 0x30a3_50ed_f21f_bd95 ∷ 0x7a53_a8e3_c7bb_7f6f ∷ 0xcbf2_86aa_176f_4420 ∷ 0x8692_583d_512e_65a1 ∷ 0x3875_d896_3708_3aa5 ∷ 0x3ebc_cdb8_906b_6d0a ∷ 0x6f6f_4882_730c_304c ∷ 0xa8f4_a367_3e30_5848 ∷ 0xe9e4_a071_0620_52ac ∷ 0x0a54_aa83_01d9_f4cb ∷ 0x7500_ec85_28e1_1cf6 ∷ 0x85cd_4e44_07c2_4caf ∷ 0x56e7_1be2_009c_a2bc ∷ 0xd441_31af_85c5_63f4 ∷ 0xa8df_5356_30d7_5dbb ∷ 0x5616_a906_20da_9c0a ∷ 0xfaf8_bdfc_4506_fdbb ∷ 0x6dc4_9a72_1e66_bcdc ∷ 0xe158_6573_03c7_f328 ∷ 0x4d55_2050_cdf8_22a4 ∷ 0x157f_7e30_9ad5_bb80 ∷ 0xf43e_6b72_6a06_bf33 ∷ 0x8285_5000_0a8b_45c8 ∷ 0x8cbe_ad51_bce8_3ad8 ∷ 0xc281_5787_e45c_3912 ∷ 0xb942_419a_d1c0_e27a ∷ 0x83bc_88e6_1a32_4035 ∷ 0x9dbb_1d45_9a93_a7c1 ∷ 0x5c30_bc4a_0c8c_f500 ∷ 0x93b0_84ae_7173_278e ∷ 0x71a4_c2ac_d2c2_af84 ∷ 0x8c9d_4c63_6b38_d44d ∷ 0x9e08_68cf_1ae8_5c0c ∷ 0x17ec_91a5_855c_f01b ∷ 0x1315_46e1_572d_6999 ∷ 0xa384_0329_0883_23c3 ∷ 0x8254_f919_4257_8e6f ∷ 0x564d_2a67_f7ca_c0f8 ∷ 0xda48_6287_5f38_d47e ∷ 0xb5e2_3a80_b706_ba90 ∷ 0x9a9e_1e67_99ea_2f3d ∷ 0xdcb5_e8b8_4327_70fe ∷ 0x93e3_62ed_379e_3316 ∷ 0x782e_2fdb_3d02_ec0c ∷ 0x8f21_20c5_2fad_f020 ∷ 0xa5d4_1c4b_8ec6_9e20 ∷ 0x0243_41b2_2abd_1e4d ∷ 0x5083_f794_76e2_d47d ∷ 0xa002_1d80_b5ca_3031 ∷ 0xe72f_91fb_5ffe_b5bf ∷ 0xbcc1_cbfd_ef67_609c ∷ 0xccef_e87f_6edb_61cb ∷ 0xd2c1_cd75_6819_03e0 ∷ 0x023f_acff_08de_5e18 ∷ 0xe33e_dbfe_a400_729c ∷ 0xf763_1751_8fcb_7f38 ∷ 0xf345_519a_8972_4ca5 ∷ 0xee8d_cada_783d_b9f3 ∷ 0x28eb_577a_0424_6c01 ∷ 0x18af_81e6_c783_203d ∷ 0x72e4_56b4_3945_3a21 ∷ 0xb4be_7cb5_6aa9_a3f0 ∷ 0xa689_a781_3d21_31c0 ∷ 0xa1ea_34e4_794b_7176 ∷ 0x3f22_9029_b4b7_bf99 ∷ 0xd208_2fe3_f4f9_24ec ∷ 0x895d_64b4_a5b9_abce ∷ 0x666b_cc71_ca3f_a35f ∷ 0x6279_568c_b5de_95c1 ∷ 0x42b2_e175_4378_5e7d ∷ 0xf5cc_e08f_8516_979c ∷ 0x5814_6962_bb2b_0bfc ∷ 0x56f1_a256_d723_9bf6 ∷ 0xf300_02e6_c08f_48f2 ∷ 0xe30c_b4f2_f478_f150 ∷ 0x2abc_9147_c53a_6b45 ∷ 0x3200_7168_4f89_2d05 ∷ 0xf318_2292_926b_369d ∷ 0xd144_83bd_5ba2_ce6a ∷ 0xa682_f791_8714_d0f9 ∷ 0x5d21_ae15_3abe_f697 ∷ 0x4590_3d5b_feb5_9281 ∷ 0xf74f_a4c9_f1b5_bbf9 ∷ 0xd43a_71db_11dd_85f1 ∷ 0x9928_1300_3a60_2b68 ∷ 0x727c_78af_33c4_9e5e ∷ 0x64a7_1aa2_5151_85c8 ∷ 0x0f17_d935_61ad_d9bb ∷ 0xe7d5_17c2_a9b7_c4cd ∷ 0x3315_26ba_888f_4a6f ∷ 0xf092_5b5f_9ef7_07d4 ∷ 0xf691_1815_f58d_ef21 ∷ 0xd80f_ce90_0d14_cd08 ∷ 0x1fcf_df3e_f0b8_b00f ∷ 0x5680_0cb9_c63c_32af ∷ 0x8636_cbe6_0186_a80f ∷ 0x4486_bf35_4057_a6cd ∷ 0x73be_85f7_a4bc_a200 ∷ 0xb39c_3914_1489_8209 ∷ 0x8ea4_3963_4a6a_bc2d ∷ 0xd61d_a9e1_1a8d_4412 ∷ 0xa23d_e243_484a_94c1 ∷ 0xb8cf_3368_4808_74f0 ∷ 0xef4b_b39d_7b78_cf5b ∷ 0xef77_6b58_dc51_462d ∷ 0xbb85_544e_0f2d_4acf ∷ 0xf85d_fc46_9b64_8b83 ∷ 0x3f3c_1411_1395_418f ∷ 0x3693_e59f_4a9f_835a ∷ 0x78c9_708b_adc9_1b2b ∷ 0xfdbb_64a6_5de3_2816 ∷ 0xf884_9859_6136_7f31 ∷ 0x1b9d_8dfc_f27b_6508 ∷ 0xa043_a5a8_6c45_94ce ∷ 0xc422_eb9e_796d_2103 ∷ 0xb81c_cc6d_d592_ed54 ∷ 0x3518_1823_c589_9b8a ∷ 0xc001_68df_5250_8a81 ∷ 0x9289_7d00_7002_3128 ∷ 0xb8ba_4106_c37b_9f6d ∷ 0x6e92_b397_7272_e6e9 ∷ 0xf127_17fb_ace3_34ce ∷ 0x13a6_d044_0916_f14e ∷ 0xf50d_b3d0_c04b_0e2c ∷ 0xf8ff_8531_4cc2_fcbe ∷ 0x0d32_8539_a71a_e119 ∷ 0xcaad_6f33_3755_240c ∷ 0xed3b_cc25_7aa6_f2ee ∷ 0xee48_967b_e607_569a ∷ 0x6e66_e2d1_4610_243e ∷ 0x6fb6_abeb_1a46_a49a ∷ 0xceba_eb79_31f8_5b7d ∷ 0x4810_0410_e2b1_2d21 ∷ 0xe8d4_66b0_e9a5_9f0f ∷ 0x4e4c_e49e_3cfc_dcbe ∷ 0xfe68_4350_3634_3759 ∷ 0x5e2c_512e_67f5_c0b3 ∷ 0x7693_8d0c_e1e5_047a ∷ 0xcb2e_15c6_bbce_8e84 ∷ 0x946d_00a4_f319_ac6a ∷ 0x5631_2f39_15d7_7b9f ∷ 0x5f8f_1cd3_eb63_cc9d ∷ 0xe442_3521_4426_e5ed ∷ 0x6499_af7b_8654_f40f ∷ 0x2425_d8f5_c54b_798d ∷ 0x7516_8a7c_fab4_a78e ∷ 0x32e0_4be9_b96c_4a0b ∷ 0x7231_da0e_b161_372d ∷ 0xa582_eb8c_2ae9_bb2d ∷ 0x022a_d0f8_9333_f086 ∷ 0x6473_6463_e8ec_0093 ∷ 0x9f70_a38a_1ae2_c438 ∷ 0x940c_3a08_76e3_93f7 ∷ 0xf94b_5aa1_5d5b_bdb3 ∷ 0xba22_1bd6_f54c_bc2d ∷ 0x78d6_e1e9_4cee_fc61 ∷ 0xc624_1e32_c779_dbb6 ∷ 0x8fa3_b217_1668_aeb3 ∷ 0xe2cd_41d8_1dd2_6e89 ∷ 0xe2d7_ca3f_9ec8_7cb2 ∷ 0x79ea_04ec_8998_915c ∷ 0x9300_508b_1a47_6b32 ∷ 0x8fff_1e22_aa1b_8ca4 ∷ 0xb661_3a19_3814_aff2 ∷ 0x6385_d032_79e5_1cce ∷ 0x62f8_722c_2f49_f519 ∷ 0x99fb_effa_eae3_8b25 ∷ 0x8814_cb7b_c337_898f ∷ 0xa057_bd79_c76d_77bc ∷ 0x7fd5_d3f6_7795_1276 ∷ 0x3090_fada_1d49_5ce3 ∷ 0x0fbb_a358_d938_a951 ∷ 0x4b97_825c_cd1d_6306 ∷ 0x84cd_e12e_82ca_8766 ∷ 0xc0b0_fe8d_c28a_4726 ∷ 0xdd68_d30c_b847_0e97 ∷ 0xf52b_24a2_3217_1bbb ∷ 0xc681_7dd2_b1bb_55d1 ∷ 0xe82e_99a7_950f_0b13 ∷ 0x656c_e039_2157_7769 ∷ 0x4380_1832_d64e_06cc ∷ 0x5e28_cef6_f93f_f14f ∷ 0x8dcd_ba2c_9281_ac2b ∷ 0x2d95_1636_297a_9b81 ∷ 0x386a_0b30_4b68_e6fd ∷ 0xfe9e_beff_0f11_3f40 ∷ 0x8337_afbe_a77a_7de0 ∷ 0xea67_1628_6f0e_cc19 ∷ 0x97e7_3c03_81ad_5254 ∷ 0x7859_bc83_64f3_0db7 ∷ 0x9ce0_bdb9_a41c_4141 ∷ 0xcd06_c34c_2505_93be ∷ 0x02ba_9b31_149b_0796 ∷ 0x4a5a_26dc_7842_3819 ∷ 0xc4c6_8277_0f15_152f ∷ 0x018c_32e5_5a1f_59fd ∷ 0x8b4d_df43_9650_ac27 ∷ 0x5ab5_16e5_1461_0f19 ∷ 0xfdbf_18e5_3c86_bc1f ∷ 0xeef7_5d33_308d_7b0e ∷ 0xe06e_326c_ad51_2861 ∷ 0xbcfa_a3b8_1d89_99fc ∷ 0x6f32_fd6f_44a2_24a8 ∷ 0x45bf_ad46_d5f0_45e0 ∷ 0xabee_762a_30f2_75d5 ∷ 0xdb71_ebc3_2cf2_7608 ∷ 0xc9af_24a7_67fe_9ed3 ∷ 0x7e6b_abe7_be44_2a68 ∷ [] } };
+    ghost tables = { record { key = 0; disps = (0, 113) ∷ (4, 98) ∷ (0, 2) ∷ (5, 28) ∷ (0, 3) ∷ (1, 12) ∷ (0, 14) ∷ (0, 0) ∷ (1, 1) ∷ (7, 5) ∷ (0, 109) ∷ (9, 111) ∷ (0, 19) ∷ (1, 22) ∷ (0, 18) ∷ (21, 79) ∷ (2, 0) ∷ (0, 6) ∷ (22, 93) ∷ (232, 103) ∷ (1, 102) ∷ (11, 56) ∷ (94, 55) ∷ []; atoms = codes "flex-wrap" ∷ codes "grid-row" ∷ codes "fieldset" ∷ codes "align-content" ∷ codes "textarea" ∷ codes "template" ∷ codes "empty-cells" ∷ codes "flex-flow" ∷ codes "font-weight" ∷ codes "strictfp" ∷ codes "transient" ∷ codes "implements" ∷ codes "transitive" ∷ codes "list-style" ∷ codes "text-overflow" ∷ codes "text-align" ∷ codes "flex-direction" ∷ codes "noscript" ∷ codes "mix-blend-mode" ∷ codes "colgroup" ∷ codes "constexpr" ∷ codes "datalist" ∷ codes "object-position" ∷ codes "animation" ∷ codes "aspect-ratio" ∷ codes "translate" ∷ codes "pointer-events" ∷ codes "align-items" ∷ codes "table-layout" ∷ codes "function" ∷ codes "line-height" ∷ codes "text-shadow" ∷ codes "white-space" ∷ codes "volatile" ∷ codes "background" ∷ codes "abstract" ∷ codes "word-break" ∷ codes "multicol" ∷ codes "background-image" ∷ codes "transition" ∷ codes "position" ∷ codes "requires" ∷ codes "thread_local" ∷ codes "flex-grow" ∷ codes "min-width" ∷ codes "grid-area" ∷ codes "grid-template" ∷ codes "restrict" ∷ codes "text-transform" ∷ codes "blockquote" ∷ codes "tab-size" ∷ codes "appearance" ∷ codes "figcaption" ∷ codes "border-radius" ∷ codes "register" ∷ codes "border-spacing" ∷ codes "continue" ∷ codes "protected" ∷ codes "direction" ∷ codes "counter-reset" ∷ codes "optgroup" ∷ codes "debugger" ∷ codes "provides" ∷ codes "letter-spacing" ∷ codes "unsigned" ∷ codes "override" ∷ codes "place-content" ∷ codes "grid-column" ∷ codes "vertical-align" ∷ codes "word-spacing" ∷ codes "text-indent" ∷ codes "background-color" ∷ codes "column-rule" ∷ codes "instanceof" ∷ codes "max-height" ∷ codes "basefont" ∷ codes "interface" ∷ codes "counter-increment" ∷ codes "flex-basis" ∷ codes "caret-color" ∷ codes "column-count" ∷ codes "justify-content" ∷ codes "frameset" ∷ codes "visibility" ∷ codes "unicode-bidi" ∷ codes "justify-items" ∷ codes "nonlocal" ∷ codes "clip-path" ∷ codes "font-size" ∷ codes "text-decoration" ∷ codes "menuitem" ∷ codes "overflow" ∷ codes "perspective" ∷ codes "font-family" ∷ codes "box-shadow" ∷ codes "static_assert" ∷ codes "typeof_unqual" ∷ codes "plaintext" ∷ codes "object-fit" ∷ codes "column-gap" ∷ codes "max-width" ∷ codes "writing-mode" ∷ codes "font-variant" ∷ codes "box-sizing" ∷ codes "undefined" ∷ codes "scroll-behavior" ∷ codes "synchronized" ∷ codes "transform" ∷ codes "noframes" ∷ codes "progress" ∷ codes "font-style" ∷ codes "flex-shrink" ∷ codes "min-height" ∷ codes "arguments" ∷ codes "isolation" ∷ []; hashes = 0xfe68_4350_3634_3759 ∷ 0x9a61_39ec_c175_ff4a ∷ 0x3c07_4ae2_c1c9_f84f ∷ 0x1883_1d8c_109b_138c ∷ 0x0ccd_a95b_919a_5e9c ∷ 0xf50d_b3d0_c04b_0e2c ∷ 0xa682_f791_8714_d0f9 ∷ 0x6f32_fd6f_44a2_24a8 ∷ 0x782e_2fdb_3d02_ec0c ∷ 0x8d4c_82bf_3e63_79c1 ∷ 0xf127_17fb_ace3_34ce ∷ 0x18af_81e6_c783_203d ∷ 0x30a3_50ed_f21f_bd95 ∷ 0x741c_0cbc_3e67_6507 ∷ 0x666b_cc71_ca3f_a35f ∷ 0x8814_cb7b_c337_898f ∷ 0xb88a_0b50_9be2_0985 ∷ 0x940c_3a08_76e3_93f7 ∷ 0x65ac_33ac_c0f5_072e ∷ 0xc212_cb28_033e_5d8c ∷ 0xd1f1_3bfa_c0ba_e710 ∷ 0x6267_802a_1b82_8b49 ∷ 0x5e6f_8769_d3a6_74db ∷ 0x93b7_4ffd_6c9e_2801 ∷ 0x4d55_2050_cdf8_22a4 ∷ 0x6dd7_2380_2a74_826c ∷ 0xcc5b_fbc4_343e_7afe ∷ 0x2a48_572a_26f3_ec3e ∷ 0xf43e_6b72_6a06_bf33 ∷ 0x76ed_ed8b_a08f_57c6 ∷ 0x8285_5000_0a8b_45c8 ∷ 0x2207_06d1_520c_f5e6 ∷ 0xfcd0_7905_5437_c321 ∷ 0xe19b_9780_ab67_2419 ∷ 0x8636_cbe6_0186_a80f ∷ 0xaf44_208f_5457_9fda ∷ 0xd208_2fe3_f4f9_24ec ∷ 0xbda9_7b68_dd35_5189 ∷ 0xa46d_2f7c_7265_7d1b ∷ 0xb8ba_4106_c37b_9f6d ∷ 0xd271_3b88_765f_54b7 ∷ 0x8b4d_df43_9650_ac27 ∷ 0x13a6_d044_0916_f14e ∷ 0x751c_e3ac_0c22_d403 ∷ 0x9c2e_4453_fb4d_76b9 ∷ 0xf691_1815_f58d_ef21 ∷ 0x022a_d0f8_9333_f086 ∷ 0xf763_1751_8fcb_7f38 ∷ 0xccef_e87f_6edb_61cb ∷ 0xfe8e_a144_fd65_76c8 ∷ 0xf5cc_e08f_8516_979c ∷ 0xdfdd_8e9f_dbbb_8456 ∷ 0x5083_f794_76e2_d47d ∷ 0x5e2c_512e_67f5_c0b3 ∷ 0xef4b_b39d_7b78_cf5b ∷ 0x77c4_7c1f_8046_79b9 ∷ 0x1fcf_df3e_f0b8_b00f ∷ 0xd120_2927_0374_5879 ∷ 0xed3b_cc25_7aa6_f2ee ∷ 0xef2f_c60d_10f2_c7b7 ∷ 0xfdbf_18e5_3c86_bc1f ∷ 0x0fbb_a358_d938_a951 ∷ 0xc866_3707_f6d7_29d7 ∷ 0x9dbb_1d45_9a93_a7c1 ∷ 0x9a3f_1201_106b_eb95 ∷ 0x9f70_a38a_1ae2_c438 ∷ 0x3f99_4c96_27c0_6b20 ∷ 0xee8d_cada_783d_b9f3 ∷ 0x7e6b_abe7_be44_2a68 ∷ 0x16fb_ebf1_0ec4_5dd4 ∷ 0x5e28_cef6_f93f_f14f ∷ 0x0763_6269_3b3f_ea97 ∷ 0x4b97_825c_cd1d_6306 ∷ 0xfb96_7309_ceb3_3682 ∷ 0x6a18_74eb_1982_a8b2 ∷ 0x0d32_8539_a71a_e119 ∷ 0x71a4_c2ac_d2c2_af84 ∷ 0xc001_68df_5250_8a81 ∷ 0xa5db_cc9b_a532_0347 ∷ 0x895d_64b4_a5b9_abce ∷ 0xb500_fee8_afc8_178f ∷ 0x1315_46e1_572d_6999 ∷ 0xfc27_868b_210f_2a88 ∷ 0x2363_4134_9d38_f6dd ∷ 0xc263_0c5f_84a2_e2cb ∷ 0x7428_a76c_6f77_3a87 ∷ 0x32e0_4be9_b96c_4a0b ∷ 0x4810_0410_e2b1_2d21 ∷ 0xae6c_be88_5c03_1eff ∷ 0xa651_9ffa_cd5d_81cc ∷ 0x3693_e59f_4a9f_835a ∷ 0xbcfa_a3b8_1d89_99fc ∷ 0x3f3c_1411_1395_418f ∷ 0x95e7_d63a_6335_dfd9 ∷ 0x42b2_e175_4378_5e7d ∷ 0x653c_61d0_95a5_483d ∷ 0x0715_d34b_7770_9866 ∷ 0x2f41_2c4b_c5a5_ad22 ∷ 0xa23d_e243_484a_94c1 ∷ 0xfb09_4175_46e2_6a33 ∷ 0x3e4c_e9e9_a2f8_2e43 ∷ 0xe9e4_a071_0620_52ac ∷ 0xa1ea_34e4_794b_7176 ∷ 0x0a54_aa83_01d9_f4cb ∷ 0xb5e2_3a80_b706_ba90 ∷ 0xb27f_f766_db36_8b8a ∷ 0x9451_2ef3_9539_d8d5 ∷ 0xe72f_91fb_5ffe_b5bf ∷ 0xc422_eb9e_796d_2103 ∷ 0x0f7f_9652_4fd9_17e0 ∷ 0x3c14_ad14_9a98_dfcb ∷ 0x9e08_68cf_1ae8_5c0c ∷ 0x7693_8d0c_e1e5_047a ∷ 0x79ea_04ec_8998_915c ∷ 0xb4be_7cb5_6aa9_a3f0 ∷ [] } };
 
     ghost usable = { record { displaced = lit< tt; listed = lit< tt; few_disps = lit< tt; few_atoms = lit< tt; hashed = refl } };
 
     fn get() -> &'static PhfStrSet {
         &NAMES_TABLES
+    }
+}
+
+#[cfg(test)]
+static NAMES_WORDS: [(&str, u64); 393] = [
+    ("a", Names::A),
+    ("abbr", Names::ABBR),
+    ("acronym", Names::ACRONYM),
+    ("address", Names::ADDRESS),
+    ("applet", Names::APPLET),
+    ("area", Names::AREA),
+    ("article", Names::ARTICLE),
+    ("aside", Names::ASIDE),
+    ("audio", Names::AUDIO),
+    ("b", Names::B),
+    ("base", Names::BASE),
+    ("basefont", Names::BASEFONT),
+    ("bdi", Names::BDI),
+    ("bdo", Names::BDO),
+    ("bgsound", Names::BGSOUND),
+    ("big", Names::BIG),
+    ("blink", Names::BLINK),
+    ("blockquote", Names::BLOCKQUOTE),
+    ("body", Names::BODY),
+    ("br", Names::BR),
+    ("button", Names::BUTTON),
+    ("canvas", Names::CANVAS),
+    ("caption", Names::CAPTION),
+    ("center", Names::CENTER),
+    ("cite", Names::CITE),
+    ("code", Names::CODE),
+    ("col", Names::COL),
+    ("colgroup", Names::COLGROUP),
+    ("command", Names::COMMAND),
+    ("content", Names::CONTENT),
+    ("data", Names::DATA),
+    ("datalist", Names::DATALIST),
+    ("dd", Names::DD),
+    ("del", Names::DEL),
+    ("details", Names::DETAILS),
+    ("dfn", Names::DFN),
+    ("dialog", Names::DIALOG),
+    ("dir", Names::DIR),
+    ("div", Names::DIV),
+    ("dl", Names::DL),
+    ("dt", Names::DT),
+    ("element", Names::ELEMENT),
+    ("em", Names::EM),
+    ("embed", Names::EMBED),
+    ("fieldset", Names::FIELDSET),
+    ("figcaption", Names::FIGCAPTION),
+    ("figure", Names::FIGURE),
+    ("font", Names::FONT),
+    ("footer", Names::FOOTER),
+    ("form", Names::FORM),
+    ("frame", Names::FRAME),
+    ("frameset", Names::FRAMESET),
+    ("h1", Names::H1),
+    ("h2", Names::H2),
+    ("h3", Names::H3),
+    ("h4", Names::H4),
+    ("h5", Names::H5),
+    ("h6", Names::H6),
+    ("head", Names::HEAD),
+    ("header", Names::HEADER),
+    ("hgroup", Names::HGROUP),
+    ("hr", Names::HR),
+    ("html", Names::HTML),
+    ("i", Names::I),
+    ("iframe", Names::IFRAME),
+    ("image", Names::IMAGE),
+    ("img", Names::IMG),
+    ("input", Names::INPUT),
+    ("ins", Names::INS),
+    ("isindex", Names::ISINDEX),
+    ("kbd", Names::KBD),
+    ("keygen", Names::KEYGEN),
+    ("label", Names::LABEL),
+    ("legend", Names::LEGEND),
+    ("li", Names::LI),
+    ("link", Names::LINK),
+    ("listing", Names::LISTING),
+    ("main", Names::MAIN),
+    ("map", Names::MAP),
+    ("mark", Names::MARK),
+    ("marquee", Names::MARQUEE),
+    ("math", Names::MATH),
+    ("menu", Names::MENU),
+    ("menuitem", Names::MENUITEM),
+    ("meta", Names::META),
+    ("meter", Names::METER),
+    ("multicol", Names::MULTICOL),
+    ("nav", Names::NAV),
+    ("nextid", Names::NEXTID),
+    ("nobr", Names::NOBR),
+    ("noembed", Names::NOEMBED),
+    ("noframes", Names::NOFRAMES),
+    ("noscript", Names::NOSCRIPT),
+    ("object", Names::OBJECT),
+    ("ol", Names::OL),
+    ("optgroup", Names::OPTGROUP),
+    ("option", Names::OPTION),
+    ("output", Names::OUTPUT),
+    ("p", Names::P),
+    ("param", Names::PARAM),
+    ("picture", Names::PICTURE),
+    ("plaintext", Names::PLAINTEXT),
+    ("portal", Names::PORTAL),
+    ("pre", Names::PRE),
+    ("progress", Names::PROGRESS),
+    ("q", Names::Q),
+    ("rb", Names::RB),
+    ("rp", Names::RP),
+    ("rt", Names::RT),
+    ("rtc", Names::RTC),
+    ("ruby", Names::RUBY),
+    ("s", Names::S),
+    ("samp", Names::SAMP),
+    ("script", Names::SCRIPT),
+    ("search", Names::SEARCH),
+    ("section", Names::SECTION),
+    ("select", Names::SELECT),
+    ("shadow", Names::SHADOW),
+    ("slot", Names::SLOT),
+    ("small", Names::SMALL),
+    ("source", Names::SOURCE),
+    ("spacer", Names::SPACER),
+    ("span", Names::SPAN),
+    ("strike", Names::STRIKE),
+    ("strong", Names::STRONG),
+    ("style", Names::STYLE),
+    ("sub", Names::SUB),
+    ("summary", Names::SUMMARY),
+    ("sup", Names::SUP),
+    ("svg", Names::SVG),
+    ("table", Names::TABLE),
+    ("tbody", Names::TBODY),
+    ("td", Names::TD),
+    ("template", Names::TEMPLATE),
+    ("textarea", Names::TEXTAREA),
+    ("tfoot", Names::TFOOT),
+    ("th", Names::TH),
+    ("thead", Names::THEAD),
+    ("time", Names::TIME),
+    ("title", Names::TITLE),
+    ("tr", Names::TR),
+    ("track", Names::TRACK),
+    ("tt", Names::TT),
+    ("u", Names::U),
+    ("ul", Names::UL),
+    ("var", Names::VAR),
+    ("video", Names::VIDEO),
+    ("wbr", Names::WBR),
+    ("xmp", Names::XMP),
+    ("as", Names::AS),
+    ("break", Names::BREAK),
+    ("const", Names::CONST),
+    ("continue", Names::CONTINUE),
+    ("crate", Names::CRATE),
+    ("else", Names::ELSE),
+    ("enum", Names::ENUM),
+    ("extern", Names::EXTERN),
+    ("false", Names::FALSE),
+    ("fn", Names::FN),
+    ("for", Names::FOR),
+    ("if", Names::IF),
+    ("impl", Names::IMPL),
+    ("in", Names::IN),
+    ("let", Names::LET),
+    ("loop", Names::LOOP),
+    ("match", Names::MATCH),
+    ("mod", Names::MOD),
+    ("move", Names::MOVE),
+    ("mut", Names::MUT),
+    ("pub", Names::PUB),
+    ("ref", Names::REF),
+    ("return", Names::RETURN),
+    ("self", Names::SELF),
+    ("static", Names::STATIC),
+    ("struct", Names::STRUCT),
+    ("super", Names::SUPER),
+    ("trait", Names::TRAIT),
+    ("true", Names::TRUE),
+    ("type", Names::TYPE),
+    ("unsafe", Names::UNSAFE),
+    ("use", Names::USE),
+    ("where", Names::WHERE),
+    ("while", Names::WHILE),
+    ("async", Names::ASYNC),
+    ("await", Names::AWAIT),
+    ("dyn", Names::DYN),
+    ("abstract", Names::ABSTRACT),
+    ("become", Names::BECOME),
+    ("box", Names::BOX),
+    ("do", Names::DO),
+    ("final", Names::FINAL),
+    ("macro", Names::MACRO),
+    ("override", Names::OVERRIDE),
+    ("priv", Names::PRIV),
+    ("typeof", Names::TYPEOF),
+    ("unsized", Names::UNSIZED),
+    ("virtual", Names::VIRTUAL),
+    ("yield", Names::YIELD),
+    ("try", Names::TRY),
+    ("union", Names::UNION),
+    ("auto", Names::AUTO),
+    ("case", Names::CASE),
+    ("char", Names::CHAR),
+    ("default", Names::DEFAULT),
+    ("double", Names::DOUBLE),
+    ("float", Names::FLOAT),
+    ("goto", Names::GOTO),
+    ("inline", Names::INLINE),
+    ("int", Names::INT),
+    ("long", Names::LONG),
+    ("register", Names::REGISTER),
+    ("restrict", Names::RESTRICT),
+    ("short", Names::SHORT),
+    ("signed", Names::SIGNED),
+    ("sizeof", Names::SIZEOF),
+    ("switch", Names::SWITCH),
+    ("typedef", Names::TYPEDEF),
+    ("unsigned", Names::UNSIGNED),
+    ("void", Names::VOID),
+    ("volatile", Names::VOLATILE),
+    ("alignas", Names::ALIGNAS),
+    ("alignof", Names::ALIGNOF),
+    ("bool", Names::BOOL),
+    ("constexpr", Names::CONSTEXPR),
+    ("nullptr", Names::NULLPTR),
+    ("static_assert", Names::STATIC_ASSERT),
+    ("thread_local", Names::THREAD_LOCAL),
+    ("typeof_unqual", Names::TYPEOF_UNQUAL),
+    ("assert", Names::ASSERT),
+    ("boolean", Names::BOOLEAN),
+    ("byte", Names::BYTE),
+    ("catch", Names::CATCH),
+    ("class", Names::CLASS),
+    ("extends", Names::EXTENDS),
+    ("finally", Names::FINALLY),
+    ("implements", Names::IMPLEMENTS),
+    ("import", Names::IMPORT),
+    ("instanceof", Names::INSTANCEOF),
+    ("interface", Names::INTERFACE),
+    ("native", Names::NATIVE),
+    ("new", Names::NEW),
+    ("package", Names::PACKAGE),
+    ("private", Names::PRIVATE),
+    ("protected", Names::PROTECTED),
+    ("public", Names::PUBLIC),
+    ("strictfp", Names::STRICTFP),
+    ("synchronized", Names::SYNCHRONIZED),
+    ("this", Names::THIS),
+    ("throw", Names::THROW),
+    ("throws", Names::THROWS),
+    ("transient", Names::TRANSIENT),
+    ("exports", Names::EXPORTS),
+    ("module", Names::MODULE),
+    ("opens", Names::OPENS),
+    ("permits", Names::PERMITS),
+    ("provides", Names::PROVIDES),
+    ("record", Names::RECORD),
+    ("requires", Names::REQUIRES),
+    ("sealed", Names::SEALED),
+    ("transitive", Names::TRANSITIVE),
+    ("when", Names::WHEN),
+    ("with", Names::WITH),
+    ("arguments", Names::ARGUMENTS),
+    ("debugger", Names::DEBUGGER),
+    ("delete", Names::DELETE),
+    ("eval", Names::EVAL),
+    ("export", Names::EXPORT),
+    ("function", Names::FUNCTION),
+    ("get", Names::GET),
+    ("null", Names::NULL),
+    ("of", Names::OF),
+    ("set", Names::SET),
+    ("undefined", Names::UNDEFINED),
+    ("and", Names::AND),
+    ("def", Names::DEF),
+    ("elif", Names::ELIF),
+    ("except", Names::EXCEPT),
+    ("from", Names::FROM),
+    ("global", Names::GLOBAL),
+    ("is", Names::IS),
+    ("lambda", Names::LAMBDA),
+    ("nonlocal", Names::NONLOCAL),
+    ("not", Names::NOT),
+    ("or", Names::OR),
+    ("pass", Names::PASS),
+    ("raise", Names::RAISE),
+    ("None", Names::NONE),
+    ("True", Names::PYTHON_TRUE),
+    ("False", Names::PYTHON_FALSE),
+    ("align-content", Names::ALIGN_CONTENT),
+    ("align-items", Names::ALIGN_ITEMS),
+    ("animation", Names::ANIMATION),
+    ("appearance", Names::APPEARANCE),
+    ("aspect-ratio", Names::ASPECT_RATIO),
+    ("background", Names::BACKGROUND),
+    ("background-color", Names::BACKGROUND_COLOR),
+    ("background-image", Names::BACKGROUND_IMAGE),
+    ("border", Names::BORDER),
+    ("border-radius", Names::BORDER_RADIUS),
+    ("border-spacing", Names::BORDER_SPACING),
+    ("box-shadow", Names::BOX_SHADOW),
+    ("box-sizing", Names::BOX_SIZING),
+    ("caret-color", Names::CARET_COLOR),
+    ("clear", Names::CLEAR),
+    ("clip-path", Names::CLIP_PATH),
+    ("color", Names::COLOR),
+    ("column-count", Names::COLUMN_COUNT),
+    ("column-gap", Names::COLUMN_GAP),
+    ("column-rule", Names::COLUMN_RULE),
+    ("columns", Names::COLUMNS),
+    ("contain", Names::CONTAIN),
+    ("counter-increment", Names::COUNTER_INCREMENT),
+    ("counter-reset", Names::COUNTER_RESET),
+    ("cursor", Names::CURSOR),
+    ("direction", Names::DIRECTION),
+    ("display", Names::DISPLAY),
+    ("empty-cells", Names::EMPTY_CELLS),
+    ("filter", Names::FILTER),
+    ("flex", Names::FLEX),
+    ("flex-basis", Names::FLEX_BASIS),
+    ("flex-direction", Names::FLEX_DIRECTION),
+    ("flex-flow", Names::FLEX_FLOW),
+    ("flex-grow", Names::FLEX_GROW),
+    ("flex-shrink", Names::FLEX_SHRINK),
+    ("flex-wrap", Names::FLEX_WRAP),
+    ("font-family", Names::FONT_FAMILY),
+    ("font-size", Names::FONT_SIZE),
+    ("font-style", Names::FONT_STYLE),
+    ("font-variant", Names::FONT_VARIANT),
+    ("font-weight", Names::FONT_WEIGHT),
+    ("gap", Names::GAP),
+    ("grid", Names::GRID),
+    ("grid-area", Names::GRID_AREA),
+    ("grid-column", Names::GRID_COLUMN),
+    ("grid-row", Names::GRID_ROW),
+    ("grid-template", Names::GRID_TEMPLATE),
+    ("height", Names::HEIGHT),
+    ("hyphens", Names::HYPHENS),
+    ("isolation", Names::ISOLATION),
+    ("justify-content", Names::JUSTIFY_CONTENT),
+    ("justify-items", Names::JUSTIFY_ITEMS),
+    ("left", Names::LEFT),
+    ("letter-spacing", Names::LETTER_SPACING),
+    ("line-height", Names::LINE_HEIGHT),
+    ("list-style", Names::LIST_STYLE),
+    ("margin", Names::MARGIN),
+    ("max-height", Names::MAX_HEIGHT),
+    ("max-width", Names::MAX_WIDTH),
+    ("min-height", Names::MIN_HEIGHT),
+    ("min-width", Names::MIN_WIDTH),
+    ("mix-blend-mode", Names::MIX_BLEND_MODE),
+    ("object-fit", Names::OBJECT_FIT),
+    ("object-position", Names::OBJECT_POSITION),
+    ("opacity", Names::OPACITY),
+    ("order", Names::ORDER),
+    ("orphans", Names::ORPHANS),
+    ("outline", Names::OUTLINE),
+    ("overflow", Names::OVERFLOW),
+    ("padding", Names::PADDING),
+    ("page", Names::PAGE),
+    ("perspective", Names::PERSPECTIVE),
+    ("place-content", Names::PLACE_CONTENT),
+    ("pointer-events", Names::POINTER_EVENTS),
+    ("position", Names::POSITION),
+    ("quotes", Names::QUOTES),
+    ("resize", Names::RESIZE),
+    ("right", Names::RIGHT),
+    ("rotate", Names::ROTATE),
+    ("row-gap", Names::ROW_GAP),
+    ("scale", Names::SCALE),
+    ("scroll-behavior", Names::SCROLL_BEHAVIOR),
+    ("tab-size", Names::TAB_SIZE),
+    ("table-layout", Names::TABLE_LAYOUT),
+    ("text-align", Names::TEXT_ALIGN),
+    ("text-decoration", Names::TEXT_DECORATION),
+    ("text-indent", Names::TEXT_INDENT),
+    ("text-overflow", Names::TEXT_OVERFLOW),
+    ("text-shadow", Names::TEXT_SHADOW),
+    ("text-transform", Names::TEXT_TRANSFORM),
+    ("top", Names::TOP),
+    ("transform", Names::TRANSFORM),
+    ("transition", Names::TRANSITION),
+    ("translate", Names::TRANSLATE),
+    ("unicode-bidi", Names::UNICODE_BIDI),
+    ("vertical-align", Names::VERTICAL_ALIGN),
+    ("visibility", Names::VISIBILITY),
+    ("white-space", Names::WHITE_SPACE),
+    ("widows", Names::WIDOWS),
+    ("width", Names::WIDTH),
+    ("word-break", Names::WORD_BREAK),
+    ("word-spacing", Names::WORD_SPACING),
+    ("writing-mode", Names::WRITING_MODE),
+    ("z-index", Names::Z_INDEX),
+];
+
+/// The word of a text that is inline or static.
+#[cfg(test)]
+fn word_of(text: &str) -> Option<u64> {
+    match pack_inline_word(text) {
+        Some(word) => Some(word),
+        None => Some(Name::try_static(text)?.unsafe_data()),
+    }
+}
+
+/// Each text is at its place, and each name is found and has its word.
+#[test]
+fn names_are_found(rt: HostRuntime) {
+    assert!(rt; NAMES_TABLES.check());
+    for (text, word) in &NAMES_WORDS {
+        assert!(rt; word_of(text) == Some(*word), "of {text}");
     }
 }

@@ -2,6 +2,7 @@
 
 use table_generator::check::check_tables;
 use table_generator::generate::generate;
+use table_generator::tables::GenFault;
 use text_streams::samples::at_last;
 
 /// More than five texts: where a search of so few finds no tables, it has to show that there are none.
@@ -25,6 +26,24 @@ fn tables_are_made(rt: HostRuntime) {
     let printed_again = format!(in alloc; "{again}").expect(&rt, "a text");
     assert!(rt; printed == printed_again);
     assert!(rt; check_tables(alloc, &printed).expect(&rt, "an answer"));
+}
+
+/// Two texts are equal: that is told whatever request is refused.
+const DOUBLED: [&str; 7] = [
+    "here",
+    "sentence",
+    "text",
+    "tokenised",
+    "interned",
+    "sentence",
+    "tokens",
+];
+
+#[test]
+fn doubles_are_told(rt: HostRuntime) {
+    let alloc = rt.alloc();
+    let answer = at_last(&rt, || generate(alloc, DOUBLED.as_slice(), 1, 64));
+    assert!(rt; answer.err() == Some(GenFault::Doubled));
 }
 
 /// By OpenSSL's SipHash the places of the two among two are 0 and 1.

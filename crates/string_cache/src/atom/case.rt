@@ -9,7 +9,7 @@ use std::alloc::{AllocError, Global};
 use std::str;
 use std::sync::Wait;
 use string_cache_core::Fault;
-use string_cache_core::static_sets::StaticAtomSet;
+use string_cache_core::static_sets::StaticTables;
 
 /// The most bytes of a text that is changed without memory.
 const BUFFER: usize = 64;
@@ -65,7 +65,7 @@ impl Case {
     }
 }
 
-impl<'s, Static: StaticAtomSet> Atom<'s, Static> {
+impl<'s, Static: StaticTables> Atom<'s, Static> {
     ghost use Rattle.string_cache.specs.Case.{in_case, IsCaseFault};
 
     /// The atom of the text with each letter a to z changed to A to Z and every other byte as it was, as `from_str_in` of

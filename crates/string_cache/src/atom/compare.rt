@@ -13,9 +13,9 @@ ghost use Rattle.string_cache_core.specs.Tables.{hash_number};
 use super::Atom;
 use std::cmp::Ordering;
 use std::hash::{Hash, Hasher};
-use string_cache_core::static_sets::StaticAtomSet;
+use string_cache_core::static_sets::StaticTables;
 
-impl<'s, Static: StaticAtomSet> Atom<'s, Static> {
+impl<'s, Static: StaticTables> Atom<'s, Static> {
     /// Whether the atom's text is this one.
     pub fn eq_str(&self, other: &str) -> bool
         ensures { IsTrue result ↔ (self.now.text ≡ other.now) }
@@ -39,7 +39,7 @@ impl<'s, Static: StaticAtomSet> Atom<'s, Static> {
 }
 
 /// Atoms stand in the order of their texts' bytes, whichever sets they borrow.
-impl<'s, Static: StaticAtomSet> PartialOrd for Atom<'s, Static> {
+impl<'s, Static: StaticTables> PartialOrd for Atom<'s, Static> {
     ghost partial_cmp = { λ a b. Some (slice_cmp nat_cmp a.text b.text) };
 
     ghost laws = { on_po (λ a. a.text) texts_po };
@@ -49,7 +49,7 @@ impl<'s, Static: StaticAtomSet> PartialOrd for Atom<'s, Static> {
     }
 }
 
-impl<'s, Static: StaticAtomSet> Ord for Atom<'s, Static> {
+impl<'s, Static: StaticTables> Ord for Atom<'s, Static> {
     ghost cmp = { λ a b. slice_cmp nat_cmp a.text b.text };
 
     ghost total = { on_total (λ a. a.text) nat_list_cmp_total };
@@ -64,7 +64,7 @@ impl<'s, Static: StaticAtomSet> Ord for Atom<'s, Static> {
 }
 
 /// An atom writes one number, that of `get_hash`.
-impl<'s, Static: StaticAtomSet> Hash for Atom<'s, Static> {
+impl<'s, Static: StaticTables> Hash for Atom<'s, Static> {
     ghost hash_input = { λ a. fed.u64 (hash_number Static.tables a.text) };
 
     ghost respects_eq = { Prim.search (hashing, rules) };

@@ -160,6 +160,7 @@ fixed-if-static t word index is test exactly = (λ yes. inr (index, exactly.0 ye
 -- any other word is held exactly if it has a place
 pub held-if-placed : (t : Tables) (kept : Kept) (word : ℕ) → ¬ (IsFixedWord t word) → (place : Option ℕ)
     → MatchOption place (¬ (IsHeldTicket (map_of kept) word)) (λ at. IsPlace kept word at) → (test : Bool) → test ≡ is_some place → IsTrue test ↔ IsHeld t (map_of kept) word
+unfolding IsHeld
 held-if-placed t kept word fixed (Some at) p test e =
     (λ _. inr (record { text = p.text; holders = p.holders; held = p.found.held }), λ _. e)
 held-if-placed t kept word fixed None none test e = (λ yes. absurd (false≢true (sym e ∙ yes)), back)
@@ -170,16 +171,19 @@ held-if-placed t kept word fixed None none test e = (λ yes. absurd (false≢tru
 
 -- a word that is held, and is no ticket that is, is one that a text's form fixes
 pub fixed-unless-ticket : (t : Tables) (m : InternMap) (word : ℕ) → IsHeld t m word → ¬ (IsHeldTicket m word) → IsFixedWord t word
+unfolding IsHeld
 fixed-unless-ticket t m word (inl fixed) none = fixed
 fixed-unless-ticket t m word (inr h) none = absurd (none h)
 
 -- a word that lends a text is held
 pub text-held : (t : Tables) (m : InternMap) (word : ℕ) (text : List ℕ) → IsTextOf t m word text → IsHeld t m word
+unfolding IsHeld
 text-held t m word text (inl s) = inl (inr (s.0, ap (form_of_text t) (static-text t text s.0 s.1) ∙ s.1, sym s.2))
 text-held t m word text (inr h) = inr (record { text = text; holders = h.0; held = h.1 })
 
 -- a word that is held is inline, or lends a text
 pub not-held-without-text : (t : Tables) (m : InternMap) (word : ℕ) → ¬ (IsInlineWord word) → ((text : List ℕ) → ¬ (IsTextOf t m word text)) → IsHeld t m word → ⊥
+unfolding IsHeld
 not-held-without-text t m word inline none (inl (inl i)) = inline i
 not-held-without-text t m word inline none (inl (inr s)) = none (text_at t s.0) (inl (s.0, s.1, sym s.2))
 not-held-without-text t m word inline none (inr k) = none k.text (inr (k.holders, k.held))

@@ -42,6 +42,7 @@ fixed_if_static t text index word e is = inr (index, ap (form_of_text t) (static
 module _ (t : Tables) (m : InternMap) (text : List ℕ) (word : ℕ) (utf8 : IsUtf8 text) (owned : HasWord t m text word) where
   -- a text's word is held
   pub owned-held : IsHeld t m word
+  unfolding IsHeld
   owned-held = elim (has t m text word utf8 owned) [
     | inl i ↦ inl (inl (text, i.0, sym i.1))
     | inr (inl s) ↦ inl (fixed_if_static t text s.0 word s.1 s.2)
@@ -135,6 +136,7 @@ HasStill m new ticket = (text : List ℕ) (holders : ℕ) → m.held text ≡ he
 
 module _ (t : Tables) (m new : InternMap) (word : ℕ) (still : HasStill m new word) where
   still-held : IsHeld t m word → IsHeld t new word
+  unfolding IsHeld
   still-held (inl fixed) = inl fixed
   still-held (inr k) = let s = still k.text k.holders k.held in inr (record { text = k.text; holders = s.0; held = s.1 })
 
@@ -183,6 +185,7 @@ module _ (t : Tables) (m new : InternMap) (word : ℕ) (before after : List ℕ)
 
   -- a listed word is held
   pub listed-held : AreHeld t m (before ++ word ∷ after) → IsHeld t m word
+  unfolding IsHeld
   listed-held all = elim (subst (IsHeldBy t m word) (sym (times-same word before after)) (all word)) [
     | inl zeroed ↦ absurd (omega (arith, zeroed))
     | inr (inl fixed) ↦ inl fixed
@@ -390,6 +393,7 @@ module _ (t : Tables) (limits : Bounds) (m new : InternMap) (word : ℕ) where
 
   -- a word that is still held once it was given was a ticket with more holders than one, or is one that a form fixes
   given-still : Gives t limits m word new → IsSoundMap t m → IsHeld t new word → KeepsWord t m new word
+  unfolding IsHeld
   given-still (inl x) sound held = grows-keeps t m new word (grows-same m new word x.1)
   given-still (inr x) sound (inl fixed) =
       let k = x.1.0 in

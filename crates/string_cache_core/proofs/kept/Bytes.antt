@@ -24,6 +24,10 @@ bytes-fit (x ∷ xs) short =
     let sum = sum_by-cons (λ (pair : Pair). length pair.0) x xs in
     omega (arith, more, own, sum)
 
+-- below 2^63 texts have fewer than 2^127 bytes
+pub bytes-few : (pairs : List Pair) → ((at : ℕ) (pair : Pair) → slice_get pairs at ≡ Some pair → length pair.0 < 2 ^ 64) → length pairs < 2 ^ 63 → sum_by (λ (pair : Pair). length pair.0) pairs < 2 ^ 127
+bytes-few pairs short few = let fit = bytes-fit pairs short in omega (arith, fit, few)
+
 module _ {Y : Type 0} where
   -- a write of a value leaves the texts
   pub bytes-set : (es : List (String Y × Holding)) (at : ℕ) (w : Holding) → sum_by (λ (pair : Pair). length pair.0) (pairs_of (set_value_at es at w)) ≡ sum_by (λ (pair : Pair). length pair.0) (pairs_of es)

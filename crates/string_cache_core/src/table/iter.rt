@@ -1,6 +1,6 @@
 //! The texts that a table holds, one after another.
 
-ghost use Rattle.std.specs.Prelude.{◌≡◌, ℕ, List, Some, length, slice_get, ⊤};
+ghost use Rattle.std.specs.Prelude.{◌≡◌, ℕ, List, MatchOption, None, Some, length, slice_get, ⊤};
 ghost use Rattle.std.specs.Iterator.{at_most};
 ghost use Rattle.std.specs.List.{IsDistinct};
 ghost use Rattle.std.specs.Map.{keys_of};
@@ -9,7 +9,7 @@ ghost use Rattle.std.specs.Str.{bytes_eq};
 
 use super::Table;
 use super::holding::Holding;
-use crate::static_sets::StaticAtomSet;
+use crate::static_sets::StaticTables;
 use indexmap::map;
 use std::alloc::AllocError;
 use std::iter::FusedIterator;
@@ -85,7 +85,8 @@ impl<'t> Clone for Iter<'t> {
     }
 }
 
-impl<S: StaticAtomSet> Table<S> {
+impl<S: StaticTables> Table<S> {
+    ghost use Rattle.string_cache_core.specs.HeldText.{pair_of};
     ghost use Rattle.string_cache_core.specs.Kept.{Pair, map_of};
 
     /// The dynamic texts that are held, each once, with its word and its holders. They come in the order in which they were
@@ -99,9 +100,22 @@ impl<S: StaticAtomSet> Table<S> {
             entries: self.entries.iter(),
         }
     }
+
+    /// The dynamic text at a place of that order, from 0 on. `None` past the last.
+    pub fn nth(&self, at: usize) -> Option<HeldText<'_>>
+        ensures { MatchOption result (slice_get self.now.pairs at ≡ None) (λ held. slice_get self.now.pairs at ≡ Some (pair_of held)) }
+    {
+        let (text, held) = self.entries.get_index(at)?;
+        let (word, holders) = (held.ticket(), held.holders());
+        Some(HeldText {
+            text: text.as_str(),
+            word,
+            holders,
+        })
+    }
 }
 
-impl<'t, S: StaticAtomSet> IntoIterator for &'t Table<S> {
+impl<'t, S: StaticTables> IntoIterator for &'t Table<S> {
     type Item = HeldText<'t>;
 
     type IntoIter = Iter<'t>;

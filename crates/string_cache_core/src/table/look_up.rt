@@ -9,15 +9,16 @@ ghost use Rattle.string_cache_core.specs.Table.{HasWord, IsHeld, IsTextOf};
 
 use super::word_text::WordText;
 use super::{Table, is_fixed};
-use crate::static_sets::{StaticAtomSet, TextForm, form_of_text, static_text};
+use crate::static_sets::{StaticTables, TextForm, form_of_text, static_text};
 use crate::word::{Form, form_of, static_word, unpack_inline};
 
-impl<S: StaticAtomSet> Table<S> {
+impl<S: StaticTables> Table<S> {
     ghost use Rattle.string_cache_core.specs.Kept.{Pair, map_of, IsSoundMap};
     ghost use Rattle.string_cache_core.specs.WordText.{text_in};
 
     /// The word of a text that has one: that of an inline or a static text, or the ticket of a dynamic text that is held. `None`
     /// exactly where the text is dynamic and isn't held. No holder is added.
+    #[tactic(auto, unfolding(crate::specs::Table::IsHeld))]
     pub fn get(&self, text: &str) -> Option<u64>
         ensures word { MatchOption result ((word : ℕ) → ¬ (HasWord S.tables (map_of self.now) text.now word)) (λ word. HasWord S.tables (map_of self.now) text.now word) }
         ensures held { IfSome result (λ word. IsHeld S.tables (map_of self.now) word) }
@@ -35,6 +36,7 @@ impl<S: StaticAtomSet> Table<S> {
     }
 
     /// The text of a word that is held: an inline word's own, and else one that is lent. `None` for any other number.
+    #[tactic(auto, unfolding(crate::specs::Table::IsHeld))]
     pub fn text_of(&self, word: u64) -> Option<WordText<'_>>
         ensures held { IsSome result ↔ IsHeld S.tables (map_of self.now) word }
         ensures word { IfSome result (λ lent. HasWord S.tables (map_of self.now) (text_in lent) word) }

@@ -10,19 +10,19 @@ ghost use Rattle.string_cache_core.specs.Table.{AreHeld, ClonesIfHeld, GivesIfHe
 
 use super::{Name, Table, WordText};
 use crate::Fault;
-use crate::static_sets::{EmptyStaticAtomSet, StaticAtomSet};
+use crate::static_sets::{EmptyStaticAtomSet, StaticTables};
 use std::alloc::Global;
 use std::marker::PhantomData;
 
 /// The names of one kind, as a table keeps them: their words are `Name<K>`. Where two tables are at hand, as one of files and one of
 /// functions, the name of one can't be handed to the other.
 #[derive(Drop)]
-pub struct Names<K, S: StaticAtomSet = EmptyStaticAtomSet> {
+pub struct Names<K, S: StaticTables = EmptyStaticAtomSet> {
     table: Table<S>,
     kind: PhantomData<K>,
 }
 
-impl<K, S: StaticAtomSet> Names<K, S> {
+impl<K, S: StaticTables> Names<K, S> {
     ghost use Rattle.string_cache_core.specs.Kept.{map_of};
     ghost use Rattle.string_cache_core.specs.Name.{word_in, word_in_some};
     ghost use Rattle.string_cache_core.specs.WordText.{text_in};

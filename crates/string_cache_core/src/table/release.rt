@@ -3,13 +3,13 @@
 ghost use Rattle.std.specs.Prelude.{IsTrue, ◌≡◌, ◌≢◌, ℕ, [], ◌∷◌, ◌++◌, ◌⊎◌, ◌↔◌, IfErr, IfOk, IfSome, IsSome, OnErr, List};
 ghost use Rattle.string_cache_core.specs.declared.faults.Fault.TheVariants.{FullCount};
 ghost use Rattle.string_cache_core.specs.Order.{GoesFrom};
-ghost use Rattle.string_cache_core.specs.Table.{AreHeld, Clones, ClonesIfHeld, Gives, GivesIfHeld, HasOneTextEach, IsHeld, KeepsWord};
+ghost use Rattle.string_cache_core.specs.Table.{AreBothHeld, AreHeld, Clones, ClonesIfHeld, Gives, GivesIfHeld, HasOneTextEach, IsHeld, IsWordOf, KeepsWord};
 
 use super::{Table, is_fixed};
 use crate::Fault;
-use crate::static_sets::StaticAtomSet;
+use crate::static_sets::StaticTables;
 
-impl<S: StaticAtomSet> Table<S> {
+impl<S: StaticTables> Table<S> {
     ghost use Rattle.string_cache_core.specs.Kept.{map_of, tickets_of};
 
     /// One holder more of a word that is held. An inline word and a static word have no number of holders: nothing changes.
@@ -25,9 +25,14 @@ impl<S: StaticAtomSet> Table<S> {
         ensures keeps { (other : ℕ) → KeepsWord S.tables (map_of self.old) (map_of self.new) other }
         ensures apart { HasOneTextEach S.tables (map_of self.new) }
         ensures order { tickets_of self.new.pairs ≡ tickets_of self.old.pairs }
+        // The same once more, as a caller's proof finds it by itself.
+        ensures owned { (other : ℕ) (text : List ℕ) → IsWordOf S.tables (map_of self.old) text other → IsWordOf S.tables (map_of self.new) text other }
+        ensures still { (other : ℕ) → IsHeld S.tables (map_of self.old) other → IsHeld S.tables (map_of self.new) other }
+        ensures both { IfOk result (λ clone. (other : ℕ) → IsHeld S.tables (map_of self.old) other → AreBothHeld S.tables (map_of self.new) clone other) }
         ensures fault { IfErr result (λ fault. fault ≡ FullCount) }
         ensures err { OnErr result (self.new ≡ self.old) }
     {
+        self.is_sound(); // as `both` says
         match self.clone_held(word)? {
             Some(clone) => Ok(clone),
             None => unreachable!(),
@@ -37,6 +42,7 @@ impl<S: StaticAtomSet> Table<S> {
     /// One holder more of a word, as `clone_word` says, where it is held. `None`, and nothing changes, for any other number.
     ///
     /// `FullCount` where the ticket's text has as many holders as the limits allow. A refusal changes nothing.
+    #[tactic(auto, unfolding(crate::specs::Table::IsHeld))]
     pub fn clone_held(&mut self, word: u64) -> Result<Option<u64>, Fault>
         ensures limits { self.new.limits ≡ self.old.limits }
         ensures held { IfOk result (λ clone. IsSome clone ↔ IsHeld S.tables (map_of self.old) word) }
@@ -75,6 +81,9 @@ impl<S: StaticAtomSet> Table<S> {
         ensures keeps { (other : ℕ) → (other ≢ word) ⊎ IsHeld S.tables (map_of self.new) other → KeepsWord S.tables (map_of self.old) (map_of self.new) other }
         ensures apart { HasOneTextEach S.tables (map_of self.new) }
         ensures order { GoesFrom self.old word self.new }
+        // As a caller's proof finds it by itself.
+        ensures left { (other : ℕ) → AreBothHeld S.tables (map_of self.old) other word → IsHeld S.tables (map_of self.new) other }
+        ensures right { (other : ℕ) → AreBothHeld S.tables (map_of self.old) word other → IsHeld S.tables (map_of self.new) other }
     {
         let _ = self.release(word);
     }

@@ -7,10 +7,10 @@ ghost use Rattle.string_cache_core.specs.Map.{empty_map};
 
 use super::Table;
 use crate::Fault;
-use crate::static_sets::StaticAtomSet;
+use crate::static_sets::StaticTables;
 use std::alloc::Global;
 
-impl<S: StaticAtomSet> Table<S> {
+impl<S: StaticTables> Table<S> {
     ghost use Rattle.string_cache_core.specs.Kept.{map_of};
 
     /// A table as `new` makes it, with room for this number of dynamic texts. `Memory` where it finds none.

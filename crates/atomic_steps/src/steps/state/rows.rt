@@ -10,10 +10,10 @@ ghost use Rattle.atomic_steps.specs.Steps.{IsStep};
 use super::State;
 use crate::steps::{Step, StepReply};
 use string_cache_core::Fault;
-use string_cache_core::static_sets::{StaticAtomSet, TextForm, form_of_text};
+use string_cache_core::static_sets::{StaticTables, TextForm, form_of_text};
 
 impl State {
-    fn take_intern<S: StaticAtomSet>(
+    fn take_intern<S: StaticTables>(
         &mut self,
         party: u32,
         text: &String,
@@ -74,7 +74,7 @@ impl State {
         Ok(StepReply::Added { ticket, holders })
     }
 
-    fn link<S: StaticAtomSet>(&mut self, party: u32, room: bool) -> Result<StepReply, Fault>
+    fn link<S: StaticTables>(&mut self, party: u32, room: bool) -> Result<StepReply, Fault>
         requires { SoundWorld S.tables self.old }
         ensures ok { IfOk result (λ reply. (t : Tables) → IsStep t self.old party (Step.Link room) reply self.new) }
         ensures err { RefusesUnchanged self.old result self.new }
@@ -181,7 +181,7 @@ impl State {
     }
 
     /// One step of a party. An `Err` changes nothing.
-    pub fn apply<S: StaticAtomSet>(&mut self, party: u32, step: &Step) -> Result<StepReply, Fault>
+    pub fn apply<S: StaticTables>(&mut self, party: u32, step: &Step) -> Result<StepReply, Fault>
         requires { SoundWorld S.tables self.old }
         ensures ok { IfOk result (λ reply. IsStep S.tables self.old party step.now reply self.new) }
         ensures err { RefusesUnchanged self.old result self.new }

@@ -10,4 +10,4 @@ returns-clause-unlinked g c = λ x there gone.
     let w = c.self.inside.state in
     let here : entry_at w.entries c.args.entry ≡ Some x = ap (λ (w : World). entry_at w.entries c.args.entry) c.self.view_is ∙ there in
     c.count.ensures ∙ ap (option_map (λ (e : WorldEntry). e.count)) here
-    ∙ ap (λ (n : ℕ). Some n) (unlinked_zero g.S.StaticAtomSet.tables w c.self.invariant c.args.entry x here gone)
+    ∙ ap (λ (n : ℕ). Some n) (unlinked_zero g.S.StaticTables.tables w c.self.invariant c.args.entry x here gone)

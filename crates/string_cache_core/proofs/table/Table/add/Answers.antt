@@ -17,17 +17,17 @@ use Rattle.string_cache_core.proofs.table.Table.add.Goals as goal
 
 pub invariant_of-self-in_err-reserve-2 : goal.invariant_of-self-in_err-reserve-2
 invariant_of-self-in_err-reserve-2 g c =
-    kept-moved g.S.StaticAtomSet.tables c.self.inside.lasts.items (pairs_of c.self.inside.entries.entries) (pairs_of c.reserve.new.self.entries) c.self.inside.tickets.keys c.reserve-2.new.self.keys c.self.inside.bytes
+    kept-moved g.S.StaticTables.tables c.self.inside.lasts.items (pairs_of c.self.inside.entries.entries) (pairs_of c.reserve.new.self.entries) c.self.inside.tickets.keys c.reserve-2.new.self.keys c.self.inside.bytes
     (ap pairs_of c.in_ok-reserve.ensures.entries) c.in_err-reserve-2.ensures.keys c.self.invariant
 
 pub invariant_of-self-in_err-key : goal.invariant_of-self-in_err-key
 invariant_of-self-in_err-key g c =
-    kept-moved g.S.StaticAtomSet.tables c.self.inside.lasts.items (pairs_of c.self.inside.entries.entries) (pairs_of c.reserve.new.self.entries) c.self.inside.tickets.keys c.reserve-2.new.self.keys c.self.inside.bytes
+    kept-moved g.S.StaticTables.tables c.self.inside.lasts.items (pairs_of c.self.inside.entries.entries) (pairs_of c.reserve.new.self.entries) c.self.inside.tickets.keys c.reserve-2.new.self.keys c.self.inside.bytes
     (ap pairs_of c.in_ok-reserve.ensures.entries) c.in_ok-reserve-2.ensures.keys c.self.invariant
 
 pub ticket_word-ticket-requires : goal.ticket_word-ticket-requires
 ticket_word-ticket-requires g c =
-    let hash = entry_hash g.S.StaticAtomSet.tables c.args.text.now in
+    let hash = entry_hash g.S.StaticTables.tables c.args.text.now in
     let bucket : c.args.bucket ≡ hash % length c.self.inside.lasts.items = c.requires.bucket ∙ ap (λ (kept : Kept). hash % length kept.lasts) (sym c.self.view_is) in
     let below = bucket-below hash _ (length c.self.inside.lasts.items) c.self.invariant.buckets c.self.invariant.few in
     let next = c.requires.serial in
@@ -36,7 +36,7 @@ ticket_word-ticket-requires g c =
 
 pub invariant_of-self-2 : goal.invariant_of-self-2
 invariant_of-self-2 g c =
-    let t = g.S.StaticAtomSet.tables in
+    let t = g.S.StaticTables.tables in
     let first : Holding = record { ticket = ticket_of c.args.serial c.args.bucket; holders = 1 } in
     let is : c.new.result ≡ first = c.new.ensures ∙ ap (λ (t : ℕ). let h : Holding = record { ticket = t; holders = 1 } in h) c.ticket_word-ticket.ensures in
     let absent = ap (λ (kept : Kept). lookup (bytes_eq c.args.text.now) kept.pairs) c.self.view_is ∙ c.requires.absent in
@@ -68,7 +68,7 @@ overflow_add-self g c =
 
 pub returns-clause-ok : goal.returns-clause-ok
 returns-clause-ok g c =
-    let t = g.S.StaticAtomSet.tables in
+    let t = g.S.StaticTables.tables in
     let first : Holding = record { ticket = ticket_of c.args.serial c.args.bucket; holders = 1 } in
     let is : c.new.result ≡ first = c.new.ensures ∙ ap (λ (t : ℕ). let h : Holding = record { ticket = t; holders = 1 } in h) c.ticket_word-ticket.ensures in
     let within = bucket-within (entry_hash t c.args.text.now) _ (length c.self.inside.lasts.items) c.self.invariant.buckets in

@@ -16,46 +16,46 @@ pub returns-then-is_fixed-clause-clones : goal.returns-then-is_fixed-clause-clon
 returns-then-is_fixed-clause-clones g c = inl (Ok c.args.word, inl (c.is_fixed.ensures.0 c.if-is_fixed.true, refl, refl), refl)
 
 pub returns-then-is_fixed-clause-listed : goal.returns-then-is_fixed-clause-listed
-returns-then-is_fixed-clause-listed g c = cloned-listed g.S.StaticAtomSet.tables c.args.self.now.limits (map_of c.args.self.now) (map_of c.args.self.now) c.args.word (Ok c.args.word) (inl (c.is_fixed.ensures.0 c.if-is_fixed.true, refl, refl)) c.is_sound.ensures
+returns-then-is_fixed-clause-listed g c = cloned-listed g.S.StaticTables.tables c.args.self.now.limits (map_of c.args.self.now) (map_of c.args.self.now) c.args.word (Ok c.args.word) (inl (c.is_fixed.ensures.0 c.if-is_fixed.true, refl, refl)) c.is_sound.ensures
 
 pub returns-then-is_fixed-clause-apart : goal.returns-then-is_fixed-clause-apart
-returns-then-is_fixed-clause-apart g c = one-text-each g.S.StaticAtomSet.tables (map_of c.args.self.now) c.is_sound.ensures
+returns-then-is_fixed-clause-apart g c = one-text-each g.S.StaticTables.tables (map_of c.args.self.now) c.is_sound.ensures
 
 pub returns-else-is_fixed-clause-apart : goal.returns-else-is_fixed-clause-apart
-returns-else-is_fixed-clause-apart g c = one-text-each g.S.StaticAtomSet.tables (map_of c.args.self.now) c.is_sound.ensures
+returns-else-is_fixed-clause-apart g c = one-text-each g.S.StaticTables.tables (map_of c.args.self.now) c.is_sound.ensures
 
 pub returns-in-Err-clause-clones : goal.returns-in-Err-clause-clones
 returns-in-Err-clause-clones g c =
     let p = c.in-Some.ensures in
-    let clones = cloned-ticket g.S.StaticAtomSet.tables c.args.self.now.limits (map_of c.args.self.now) (map_of c.add_holder-outcome.new.self) c.args.word (as_held (map_of c.args.self.now) c.args.word p.text p.holders p.found.held) c.add_holder-outcome.result
+    let clones = cloned-ticket g.S.StaticTables.tables c.args.self.now.limits (map_of c.args.self.now) (map_of c.add_holder-outcome.new.self) c.args.word (as_held (map_of c.args.self.now) c.args.word p.text p.holders p.found.held) c.add_holder-outcome.result
     (c.add_holder-outcome.ensures.adds p.text (record { ticket = c.args.word; holders = p.holders }) p.found.there) in
     inl (c.add_holder-outcome.result, clones, ap in_some (sym c.in-Err.is))
 
 pub returns-in-Err-clause-apart : goal.returns-in-Err-clause-apart
-returns-in-Err-clause-apart g c = one-text-each g.S.StaticAtomSet.tables (map_of c.add_holder-outcome.new.self) c.is_sound-2.ensures
+returns-in-Err-clause-apart g c = one-text-each g.S.StaticTables.tables (map_of c.add_holder-outcome.new.self) c.is_sound-2.ensures
 
 pub returns-in-Ok-clause-clones : goal.returns-in-Ok-clause-clones
 returns-in-Ok-clause-clones g c =
     let p = c.in-Some.ensures in
-    let clones = cloned-ticket g.S.StaticAtomSet.tables c.args.self.now.limits (map_of c.args.self.now) (map_of c.add_holder-outcome.new.self) c.args.word (as_held (map_of c.args.self.now) c.args.word p.text p.holders p.found.held) c.add_holder-outcome.result
+    let clones = cloned-ticket g.S.StaticTables.tables c.args.self.now.limits (map_of c.args.self.now) (map_of c.add_holder-outcome.new.self) c.args.word (as_held (map_of c.args.self.now) c.args.word p.text p.holders p.found.held) c.add_holder-outcome.result
     (c.add_holder-outcome.ensures.adds p.text (record { ticket = c.args.word; holders = p.holders }) p.found.there) in
     inl (c.add_holder-outcome.result, clones, ap in_some (sym c.in-Ok.is))
 
 pub returns-in-Ok-clause-listed : goal.returns-in-Ok-clause-listed
 returns-in-Ok-clause-listed g c = λ words all.
     let p = c.in-Some.ensures in
-    let clones = cloned-ticket g.S.StaticAtomSet.tables c.args.self.now.limits (map_of c.args.self.now) (map_of c.add_holder-outcome.new.self) c.args.word (as_held (map_of c.args.self.now) c.args.word p.text p.holders p.found.held) c.add_holder-outcome.result
+    let clones = cloned-ticket g.S.StaticTables.tables c.args.self.now.limits (map_of c.args.self.now) (map_of c.add_holder-outcome.new.self) c.args.word (as_held (map_of c.args.self.now) c.args.word p.text p.holders p.found.held) c.add_holder-outcome.result
     (c.add_holder-outcome.ensures.adds p.text (record { ticket = c.args.word; holders = p.holders }) p.found.there) in
-    subst (λ (r : Result ℕ Fault). IfOk r (λ (clone : ℕ). AreHeld g.S.StaticAtomSet.tables (map_of c.add_holder-outcome.new.self) (clone ∷ words))) c.in-Ok.is
-    (cloned-listed g.S.StaticAtomSet.tables c.args.self.now.limits (map_of c.args.self.now) (map_of c.add_holder-outcome.new.self) c.args.word c.add_holder-outcome.result clones c.is_sound.ensures words all)
+    subst (λ (r : Result ℕ Fault). IfOk r (λ (clone : ℕ). AreHeld g.S.StaticTables.tables (map_of c.add_holder-outcome.new.self) (clone ∷ words))) c.in-Ok.is
+    (cloned-listed g.S.StaticTables.tables c.args.self.now.limits (map_of c.args.self.now) (map_of c.add_holder-outcome.new.self) c.args.word c.add_holder-outcome.result clones c.is_sound.ensures words all)
 
 pub returns-in-Ok-clause-keeps : goal.returns-in-Ok-clause-keeps
 returns-in-Ok-clause-keeps g c = λ other.
     let p = c.in-Some.ensures in
-    let clones = cloned-ticket g.S.StaticAtomSet.tables c.args.self.now.limits (map_of c.args.self.now) (map_of c.add_holder-outcome.new.self) c.args.word (as_held (map_of c.args.self.now) c.args.word p.text p.holders p.found.held) c.add_holder-outcome.result
+    let clones = cloned-ticket g.S.StaticTables.tables c.args.self.now.limits (map_of c.args.self.now) (map_of c.add_holder-outcome.new.self) c.args.word (as_held (map_of c.args.self.now) c.args.word p.text p.holders p.found.held) c.add_holder-outcome.result
     (c.add_holder-outcome.ensures.adds p.text (record { ticket = c.args.word; holders = p.holders }) p.found.there) in
-    grows-keeps g.S.StaticAtomSet.tables (map_of c.args.self.now) (map_of c.add_holder-outcome.new.self) other
-    (clones-grow g.S.StaticAtomSet.tables c.args.self.now.limits (map_of c.args.self.now) (map_of c.add_holder-outcome.new.self) c.args.word c.add_holder-outcome.result other clones)
+    grows-keeps g.S.StaticTables.tables (map_of c.args.self.now) (map_of c.add_holder-outcome.new.self) other
+    (clones-grow g.S.StaticTables.tables c.args.self.now.limits (map_of c.args.self.now) (map_of c.add_holder-outcome.new.self) c.args.word c.add_holder-outcome.result other clones)
 
 pub returns-in-Ok-clause-apart : goal.returns-in-Ok-clause-apart
-returns-in-Ok-clause-apart g c = one-text-each g.S.StaticAtomSet.tables (map_of c.add_holder-outcome.new.self) c.is_sound-2.ensures
+returns-in-Ok-clause-apart g c = one-text-each g.S.StaticTables.tables (map_of c.add_holder-outcome.new.self) c.is_sound-2.ensures

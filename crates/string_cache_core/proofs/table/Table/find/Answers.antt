@@ -10,7 +10,7 @@ use Rattle.string_cache_core.proofs.table.Table.find.Goals as goal
 
 pub returns-then-text-le7 : goal.returns-then-text-le7
 returns-then-text-le7 g c =
-    short-not-held g.S.StaticAtomSet.tables (map_of c.args.self.now) c.is_sound.ensures c.args.text.now (let test = c.if-text-le7.true in omega (arith, test))
+    short-not-held g.S.StaticTables.tables (map_of c.args.self.now) c.is_sound.ensures c.args.text.now (let test = c.if-text-le7.true in omega (arith, test))
 
 pub returns-in_err-at : goal.returns-in_err-at
 returns-in_err-at g c =

@@ -9,5 +9,5 @@ pub returns-in-Some-clause-word : goal.returns-in-Some-clause-word
 returns-in-Some-clause-word g c =
     let found = c.in-Some.ensures.1 in
     let same = c.held_at-ticket.ensures.pair (c.args.text.now, c.in-Some.ensures.0) found.there in
-    subst (HasWord g.S.StaticAtomSet.tables (map_of c.args.self.now) c.args.text.now) (ap (λ (h : Holding). h.ticket) same)
-    (held-word g.S.StaticAtomSet.tables (map_of c.args.self.now) c.is_sound.ensures c.args.text.now c.in-Some.ensures.0 found.held)
+    subst (HasWord g.S.StaticTables.tables (map_of c.args.self.now) c.args.text.now) (ap (λ (h : Holding). h.ticket) same)
+    (held-word g.S.StaticTables.tables (map_of c.args.self.now) c.is_sound.ensures c.args.text.now c.in-Some.ensures.0 found.held)

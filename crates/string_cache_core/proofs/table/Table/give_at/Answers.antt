@@ -11,7 +11,7 @@ returns-then-holders-eq1-clause-gives g c = λ ticket p.
     let had : Holding = record { ticket = ticket; holders = p.holders } in
     let n = ap (λ (x : Holding). x.holders) (c.held_at-holders.ensures.pair (p.text, had) p.found.there) in
     let test = c.if-holders-eq1.true in
-    given-ticket g.S.StaticAtomSet.tables c.args.self.now.limits m (map_of c.take_out.new.self) ticket (as_held m ticket p.text p.holders p.found.held)
+    given-ticket g.S.StaticTables.tables c.args.self.now.limits m (map_of c.take_out.new.self) ticket (as_held m ticket p.text p.holders p.found.held)
     (c.take_out.ensures.map p.text had p.found.there ∙ ap (with_held m p.text) (sym (none_left had (n ∙ test))))
 
 pub returns-else-holders-eq1-clause-gives : goal.returns-else-holders-eq1-clause-gives
@@ -20,7 +20,7 @@ returns-else-holders-eq1-clause-gives g c = λ ticket p.
     let had : Holding = record { ticket = ticket; holders = p.holders } in
     let n = ap (λ (x : Holding). x.holders) (c.held_at-holders.ensures.pair (p.text, had) p.found.there) in
     let test = c.if-holders-eq1.false in
-    given-ticket g.S.StaticAtomSet.tables c.args.self.now.limits m (map_of c.set_holders.new.self) ticket (as_held m ticket p.text p.holders p.found.held)
+    given-ticket g.S.StaticTables.tables c.args.self.now.limits m (map_of c.set_holders.new.self) ticket (as_held m ticket p.text p.holders p.found.held)
     (c.set_holders.ensures.map p.text had p.found.there
     ∙ ap (with_held m p.text) (ap (λ (k : ℕ). let left : Holding = record { ticket = ticket; holders = k - 1 } in Some left) (sym n) ∙ sym (some_left had p.some (λ e. test (sym n ∙ e)))))
 

@@ -12,9 +12,9 @@ returns-then-last-serials-clause-replies g c =
     let last = c.bucket_and_last-bucket.ensures.last in
     let read = c.serials.ensures.value in
     let limit = ap (λ (kept : Kept). kept.limits.serials) c.self.view_is in
-    let own : c.bucket_and_last-bucket.result.0 ≡ bucket_of g.S.StaticAtomSet.tables m.buckets c.args.text.now =
-    c.bucket_and_last-bucket.ensures.bucket ∙ ap (λ (h : ℕ). h % m.buckets) (dynamic-hash g.S.StaticAtomSet.tables c.args.text.now c.args.hash c.requires.dynamic) in
-    interned-spent g.S.StaticAtomSet.tables c.args.self.now.limits m c.args.text.now c.bucket_and_last-bucket.result.0 own c.requires.absent (omega (arith, test, last, limit, read))
+    let own : c.bucket_and_last-bucket.result.0 ≡ bucket_of g.S.StaticTables.tables m.buckets c.args.text.now =
+    c.bucket_and_last-bucket.ensures.bucket ∙ ap (λ (h : ℕ). h % m.buckets) (dynamic-hash g.S.StaticTables.tables c.args.text.now c.args.hash c.requires.dynamic) in
+    interned-spent g.S.StaticTables.tables c.args.self.now.limits m c.args.text.now c.bucket_and_last-bucket.result.0 own c.requires.absent (omega (arith, test, last, limit, read))
 
 pub returns-clause-replies : goal.returns-clause-replies
 returns-clause-replies g c =
@@ -24,7 +24,7 @@ returns-clause-replies g c =
     let read = c.serials.ensures.value in
     let limit = ap (λ (kept : Kept). kept.limits.serials) c.self.view_is in
     let bucket = c.bucket_and_last-bucket.result.0 in
-    let own : bucket ≡ bucket_of g.S.StaticAtomSet.tables m.buckets c.args.text.now =
-    c.bucket_and_last-bucket.ensures.bucket ∙ ap (λ (h : ℕ). h % m.buckets) (dynamic-hash g.S.StaticAtomSet.tables c.args.text.now c.args.hash c.requires.dynamic) in
-    added g.S.StaticAtomSet.tables c.args.self.now c.add.new.self c.args.text.now bucket c.bucket_and_last-bucket.result.1 c.add.result own c.requires.absent last (omega (arith, test, limit, read))
+    let own : bucket ≡ bucket_of g.S.StaticTables.tables m.buckets c.args.text.now =
+    c.bucket_and_last-bucket.ensures.bucket ∙ ap (λ (h : ℕ). h % m.buckets) (dynamic-hash g.S.StaticTables.tables c.args.text.now c.args.hash c.requires.dynamic) in
+    added g.S.StaticTables.tables c.args.self.now c.add.new.self c.args.text.now bucket c.bucket_and_last-bucket.result.1 c.add.result own c.requires.absent last (omega (arith, test, limit, read))
     c.add.ensures.word c.add.ensures.ok c.add.ensures.err c.add.ensures.fault

@@ -6,7 +6,7 @@ use Rattle.string_cache_core.proofs.table.Table.intern_text.Goals as goal
 
 pub returns-in-Some-clause-interns : goal.returns-in-Some-clause-interns
 returns-in-Some-clause-interns g c =
-    let t = g.S.StaticAtomSet.tables in
+    let t = g.S.StaticTables.tables in
     let limits = c.args.self.now.limits in
     let m = map_of c.args.self.now in
     let text = c.args.text.now in

@@ -15,4 +15,4 @@ returns-in_err-at g c =
 pub returns : goal.returns
 returns g c =
     subst (λ (kept : Kept). IsPlace kept c.args.ticket c.in_ok-at.at) c.self.view_is
-    (is-placed g.S.StaticAtomSet.tables c.self.inside.limits c.self.inside.lasts.items c.self.inside.entries.entries c.self.inside.tickets.keys c.self.inside.bytes c.self.invariant c.len.ensures.unique c.args.ticket c.in_ok-at.at c.in_ok-at.field-0-1.now c.in_ok-at.ensures.stored c.in_ok-at.ensures.key)
+    (is-placed g.S.StaticTables.tables c.self.inside.limits c.self.inside.lasts.items c.self.inside.entries.entries c.self.inside.tickets.keys c.self.inside.bytes c.self.invariant c.len.ensures.unique c.args.ticket c.in_ok-at.at c.in_ok-at.field-0-1.now c.in_ok-at.ensures.stored c.in_ok-at.ensures.key)

@@ -7,7 +7,7 @@ use Rattle.string_cache_core.proofs.table.Table.run.Goals as goal
 
 pub loop-call-preserved : goal.loop-call-preserved
 loop-call-preserved g c =
-    let t = g.S.StaticAtomSet.tables in
+    let t = g.S.StaticTables.tables in
     let i = c.loop-call.invariant in
     let n = i.1 in
     let room = i.2 in
@@ -24,10 +24,10 @@ loop-call-preserved g c =
     )
 
 pub returns-clause-grow : goal.returns-clause-grow
-returns-clause-grow g c = λ bucket. replays-grow g.S.StaticAtomSet.tables c.args.self.now.limits (map_of c.args.self.now) (map_of c.loop-call.self) (take c.loop-call.call-index c.args.calls.now) c.loop-call.replies.items bucket c.loop-call.invariant.3
+returns-clause-grow g c = λ bucket. replays-grow g.S.StaticTables.tables c.args.self.now.limits (map_of c.args.self.now) (map_of c.loop-call.self) (take c.loop-call.call-index c.args.calls.now) c.loop-call.replies.items bucket c.loop-call.invariant.3
 
 pub returns-clause-apart : goal.returns-clause-apart
-returns-clause-apart g c = one-text-each g.S.StaticAtomSet.tables (map_of c.loop-call.self) c.is_sound-2.ensures
+returns-clause-apart g c = one-text-each g.S.StaticTables.tables (map_of c.loop-call.self) c.is_sound-2.ensures
 
 pub returns-clause-once : goal.returns-clause-once
-returns-clause-once g c = record { given = held-given g.S.StaticAtomSet.tables (map_of c.loop-call.self) c.is_sound-2.ensures; fresh = c.loop-call.invariant.4 }
+returns-clause-once g c = record { given = held-given g.S.StaticTables.tables (map_of c.loop-call.self) c.is_sound-2.ensures; fresh = c.loop-call.invariant.4 }

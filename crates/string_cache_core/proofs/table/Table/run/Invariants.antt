@@ -9,5 +9,5 @@ abbrev pub invariant-loop-call : goal.invariant-loop-call
 invariant-loop-call g l =
     (l.self.limits ≡ l.fn.self.limits)
     × (vec_len l.replies ≡ l.call-index) × (length l.calls ≤ vec_capacity l.replies)
-    × AnswersAll g.S.StaticAtomSet.tables l.fn.self.limits (map_of l.fn.self) (take l.call-index l.calls) l.replies.items (map_of l.self)
+    × AnswersAll g.S.StaticTables.tables l.fn.self.limits (map_of l.fn.self) (take l.call-index l.calls) l.replies.items (map_of l.self)
     × IsFresh (map_of l.fn.self) (map_of l.self)

@@ -10,7 +10,7 @@ use Rattle.string_cache_core.proofs.table.Table.take_out.Goals as goal
 pub overflow_sub-self : goal.overflow_sub-self
 overflow_sub-self g c =
     let there =
-    bytes-there g.S.StaticAtomSet.tables c.self.inside.lasts.items c.self.inside.entries c.swap_remove_index.new.self c.self.inside.tickets.keys c.swap_remove_index-2.new.self.keys c.self.inside.bytes c.args.at
+    bytes-there g.S.StaticTables.tables c.self.inside.lasts.items c.self.inside.entries c.swap_remove_index.new.self c.self.inside.tickets.keys c.swap_remove_index-2.new.self.keys c.self.inside.bytes c.args.at
     c.in-Some-swap_remove_index.field-0 (c.in-Some.text, c.in-Some.field-0-1) (sym c.in-Some.ensures.entry) c.in-Some.ensures.entries c.in-Some.ensures.len c.in-Some-swap_remove_index.ensures.keys c.self.invariant in
     let size = c.len.ensures in
     let items = c.in-Some.text.bytes.ok.0 in
@@ -18,8 +18,8 @@ overflow_sub-self g c =
 
 pub invariant_of-self : goal.invariant_of-self
 invariant_of-self g c =
-    subst (λ (n : ℕ). IsKeptTable g.S.StaticAtomSet.tables c.self.inside.buckets c.self.inside.lasts.items (pairs_of c.swap_remove_index.new.self.entries) c.swap_remove_index-2.new.self.keys (c.self.inside.bytes - n)) (sym (c.len.ensures ∙ c.in-Some.text.bytes.ok.0)) (
-    kept-taken g.S.StaticAtomSet.tables c.self.inside.lasts.items c.self.inside.entries c.swap_remove_index.new.self c.self.inside.tickets.keys c.swap_remove_index-2.new.self.keys c.self.inside.bytes c.args.at
+    subst (λ (n : ℕ). IsKeptTable g.S.StaticTables.tables c.self.inside.buckets c.self.inside.lasts.items (pairs_of c.swap_remove_index.new.self.entries) c.swap_remove_index-2.new.self.keys (c.self.inside.bytes - n)) (sym (c.len.ensures ∙ c.in-Some.text.bytes.ok.0)) (
+    kept-taken g.S.StaticTables.tables c.self.inside.lasts.items c.self.inside.entries c.swap_remove_index.new.self c.self.inside.tickets.keys c.swap_remove_index-2.new.self.keys c.self.inside.bytes c.args.at
     c.in-Some-swap_remove_index.field-0 (c.in-Some.text, c.in-Some.field-0-1) (sym c.in-Some.ensures.entry) c.in-Some.ensures.entries c.in-Some.ensures.len c.in-Some-swap_remove_index.ensures.keys c.self.invariant)
 
 pub returns-clause-map : goal.returns-clause-map
@@ -31,6 +31,6 @@ returns-clause-map g c = λ text had h.
 
 pub returns-clause-order : goal.returns-clause-order
 returns-clause-order g c = λ ticket.
-    order-left g.S.StaticAtomSet.tables c.self.inside.lasts.items c.self.inside.entries c.swap_remove_index.new.self c.self.inside.tickets.keys c.swap_remove_index-2.new.self.keys c.self.inside.bytes c.args.at
+    order-left g.S.StaticTables.tables c.self.inside.lasts.items c.self.inside.entries c.swap_remove_index.new.self c.self.inside.tickets.keys c.swap_remove_index-2.new.self.keys c.self.inside.bytes c.args.at
     c.in-Some-swap_remove_index.field-0 (c.in-Some.text, c.in-Some.field-0-1) (sym c.in-Some.ensures.entry) c.in-Some.ensures.entries c.in-Some.ensures.len c.in-Some-swap_remove_index.ensures.keys c.self.invariant ticket
     ∙ ap (λ (kept : Kept). swap_remove (tickets_of kept.pairs) c.args.at ticket) c.self.view_is

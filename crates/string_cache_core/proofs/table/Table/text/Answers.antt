@@ -3,10 +3,10 @@ use Rattle.string_cache_core.proofs.calls.HeldWords.{lent-found, lent-same, lent
 use Rattle.string_cache_core.proofs.table.Table.text.Goals as goal
 
 pub returns-clause-found : goal.returns-clause-found
-returns-clause-found g c = lent-found g.S.StaticAtomSet.tables (map_of c.args.self.now) c.args.word c.find_text.result c.find_text.ensures.text
+returns-clause-found g c = lent-found g.S.StaticTables.tables (map_of c.args.self.now) c.args.word c.find_text.result c.find_text.ensures.text
 
 pub returns-clause-same : goal.returns-clause-same
-returns-clause-same g c = lent-same g.S.StaticAtomSet.tables (map_of c.args.self.now) c.args.word c.find_text.ensures.sound c.find_text.result c.find_text.ensures.text
+returns-clause-same g c = lent-same g.S.StaticTables.tables (map_of c.args.self.now) c.args.word c.find_text.ensures.sound c.find_text.result c.find_text.ensures.text
 
 pub returns-clause-word : goal.returns-clause-word
-returns-clause-word g c = lent-owned g.S.StaticAtomSet.tables (map_of c.args.self.now) c.args.word c.find_text.ensures.sound c.find_text.result c.find_text.ensures.text
+returns-clause-word g c = lent-owned g.S.StaticTables.tables (map_of c.args.self.now) c.args.word c.find_text.ensures.sound c.find_text.result c.find_text.ensures.text

@@ -17,13 +17,13 @@ pub last_at-last-requires-clause-pass : goal.last_at-last-requires-clause-pass
 last_at-last-requires-clause-pass g c = within _ _ _ c.in-Some.ensures.there
 
 pub last_at-last-requires-clause-below : goal.last_at-last-requires-clause-below
-last_at-last-requires-clause-below g c = all_within g.S.StaticAtomSet.tables c.args.self.now c.requires
+last_at-last-requires-clause-below g c = all_within g.S.StaticTables.tables c.args.self.now c.requires
 
 pub may_link-requires-clause-below : goal.may_link-requires-clause-below
-may_link-requires-clause-below g c = all_within g.S.StaticAtomSet.tables c.args.self.now c.requires
+may_link-requires-clause-below g c = all_within g.S.StaticTables.tables c.args.self.now c.requires
 
 pub link_entry-requires-clause-below : goal.link_entry-requires-clause-below
-link_entry-requires-clause-below g c = all_within g.S.StaticAtomSet.tables c.args.self.now c.requires
+link_entry-requires-clause-below g c = all_within g.S.StaticTables.tables c.args.self.now c.requires
 
 pub decide-requires : goal.decide-requires
 decide-requires g c = within _ _ _ c.in-Some.ensures.there
@@ -73,7 +73,7 @@ pub may_link-requires-clause-placed : goal.may_link-requires-clause-placed
 may_link-requires-clause-placed g c = λ pass text k entry there wanted at is.
     let p = c.in-Some.ensures in
     let same : pass ≡ p.pass = at_one c.args.self.now.passes c.in-Some.at pass p.pass there p.there in
-    placed_in g.S.StaticAtomSet.tables c.args.self.now c.requires c.args.party pass p.pass text p.found same wanted k entry at is
+    placed_in g.S.StaticTables.tables c.args.self.now c.requires c.args.party pass p.pass text p.found same wanted k entry at is
 
 pub link_entry-requires-clause-sound : goal.link_entry-requires-clause-sound
 link_entry-requires-clause-sound g c = c.requires.sound.table

@@ -7,7 +7,7 @@ use Rattle.atomic_steps.proofs.steps.state.State.take_intern.Goals as goal
 
 pub returns-clause-ok : goal.returns-clause-ok
 returns-clause-ok g c =
-    let tables = g.S.StaticAtomSet.tables in
+    let tables = g.S.StaticTables.tables in
     let text = string_bytes c.args.text.now in
     let is : form_of_text tables text ≡ form.Dynamic c.in-Dynamic.hash = ap (form_of_text tables) (sym c.as_str.ensures.value) ∙ sym c.in-Dynamic.ensures in
     let same : string_bytes c.in_ok-text.text ≡ text = c.in_ok-text.ensures.cases in

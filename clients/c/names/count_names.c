@@ -1,0 +1,95 @@
+/* Prints each name of a program in C with the line where it comes first and how often it comes, in the order of their first lines.
+ *
+ * usage: count_names [FILE] */
+#include <inttypes.h>
+#include <stdio.h>
+#include <stdlib.h>
+
+#include "lexer.h"
+#include "source.h"
+#include "string_cache.h"
+#include "word_map.h"
+
+struct usage {
+    uint64_t word;
+    unsigned long first_line;
+    unsigned long times;
+};
+
+/* The names that came so far. */
+struct names {
+    sc_table table;
+    word_map places; /* of the words, in the list */
+    struct usage *list;
+    size_t count;
+    size_t room;
+};
+
+static void add(struct names *names, uint64_t word, unsigned long line) {
+    if (names->count == names->room) {
+        names->room = names->room == 0 ? 64 : 2 * names->room;
+        struct usage *larger = realloc(names->list, names->room * sizeof *larger);
+        if (larger == NULL) {
+            fail("there is no memory");
+        }
+        names->list = larger;
+    }
+    if (!word_map_add(&names->places, word, names->count)) {
+        fail("there is no memory");
+    }
+    names->list[names->count++] = (struct usage){word, line, 1};
+}
+
+static void see(struct names *names, const struct token *name) {
+    uint64_t word;
+    const sc_number number = sc_intern(&names->table, name->text, name->len, &word);
+    if (number != SC_OK) {
+        fail(sc_text_of_fault(number));
+    }
+    const size_t *place = word_map_find(&names->places, word);
+    if (place != NULL) {
+        names->list[*place].times++;
+    } else {
+        add(names, word, name->line);
+    }
+}
+
+/* Prints a name, by the room that grows to the longest one. */
+static void print(struct names *names, const struct usage *usage) {
+    static char *text;
+    static size_t room;
+    size_t len;
+    sc_number number = sc_text(&names->table, usage->word, text, room, &len);
+    if (number == SC_TOO_SMALL) {
+        free(text);
+        room = 2 * len;
+        text = malloc(room);
+        number = sc_text(&names->table, usage->word, text, room, &len);
+    }
+    if (number != SC_OK) {
+        fail(sc_text_of_fault(number));
+    }
+    printf("%.*s %lu %lu\n", (int)len, text, usage->first_line, usage->times);
+}
+
+int main(int count, char **arguments) {
+    const struct source source = read_source(count > 1 ? arguments[1] : NULL);
+    struct names names = {SC_CLOSED_TABLE, {NULL, 0, 0}, NULL, 0, 0};
+    if (sc_open(&names.table) != SC_OK) {
+        fail("there is no memory");
+    }
+    struct lexer lexer = lexer_of(source.text, source.len);
+    for (struct token token = next_token(&lexer); token.kind != TOKEN_END; token = next_token(&lexer)) {
+        if (token.kind == TOKEN_NAME) {
+            see(&names, &token);
+        }
+    }
+    for (size_t at = 0; at < names.count; at++) {
+        print(&names, &names.list[at]);
+    }
+    sc_close(&names.table);
+    word_map_free(&names.places);
+    free(names.list);
+    free(source.text);
+    return 0;
+}

@@ -1,0 +1,248 @@
+/* The guarded layer: what C may hand over wrongly is answered here, and the rest goes to the proved exports.
+ *
+ * What a call answers beside its number goes through a variable of its own, so that a pointer may lead anywhere that can be written. */
+#include "string_cache.h"
+
+#include <string.h>
+
+#include "exports.h"
+
+/* Whether a handle is one that these functions made, as far as its bytes tell. */
+static bool is_handle(const sc_table *table) {
+    unsigned char full;
+    if (table == NULL) {
+        return false;
+    }
+    memcpy(&full, &table->full, sizeof full);
+    return full == 0 || (full == 1 && table->at != NULL);
+}
+
+static bool is_text(const char *text, size_t len) {
+    return len <= PTRDIFF_MAX && (text != NULL || len == 0);
+}
+
+/* The bytes of a text: never null, also where it has none. */
+static const uint8_t *bytes_of(const char *text) {
+    return (const uint8_t *)(text != NULL ? text : "");
+}
+
+/* The room for a text: never null, also where it has none. */
+static uint8_t *room_of(char *room, uint8_t *none) {
+    return room != NULL ? (uint8_t *)room : none;
+}
+
+const char *sc_text_of_fault(uint32_t number) {
+    switch (number) {
+    case SC_OK:
+        return "it is done";
+    case SC_NO_MEMORY:
+        return "there is no memory";
+    case SC_FULL_COUNT:
+        return "the text has as many holders as the limits allow";
+    case SC_TICKETS_SPENT:
+        return "the bucket of the text has no ticket left";
+    case SC_NOT_UTF8:
+        return "the bytes are not UTF-8";
+    case SC_NOT_HELD:
+        return "the table does not hold it";
+    case SC_CLOSED:
+        return "the table is closed";
+    case SC_NOT_CLOSED:
+        return "the table is open already";
+    case SC_TOO_SMALL:
+        return "the text is longer than the room";
+    case SC_NOT_LIMITS:
+        return "a limit or the number of buckets is out of range";
+    case SC_NOT_A_WORD:
+        return "it is no such word";
+    case SC_BAD_ARGUMENT:
+        return "a pointer is null, a length too great, or a handle not one";
+    default:
+        return "no call answers this number";
+    }
+}
+
+uint32_t sc_version(void) {
+    return sc_table_version();
+}
+
+sc_number sc_open(sc_table *table) {
+    return is_handle(table) ? sc_table_open(table) : SC_BAD_ARGUMENT;
+}
+
+sc_number sc_open_with(sc_table *table, uint64_t holders, uint64_t tickets, uint8_t bucket_bits) {
+    return is_handle(table) ? sc_table_open_with(table, holders, tickets, bucket_bits) : SC_BAD_ARGUMENT;
+}
+
+void sc_close(sc_table *table) {
+    if (is_handle(table)) {
+        sc_table_close(table);
+    }
+}
+
+sc_number sc_intern(sc_table *table, const char *text, size_t len, uint64_t *word) {
+    uint64_t found = 0;
+    sc_number number;
+    if (!is_handle(table) || !is_text(text, len) || word == NULL) {
+        return SC_BAD_ARGUMENT;
+    }
+    number = sc_table_intern(table, bytes_of(text), len, &found);
+    if (number == SC_OK) {
+        *word = found;
+    }
+    return number;
+}
+
+sc_number sc_get(sc_table *table, const char *text, size_t len, uint64_t *word) {
+    uint64_t found = 0;
+    sc_number number;
+    if (!is_handle(table) || !is_text(text, len) || word == NULL) {
+        return SC_BAD_ARGUMENT;
+    }
+    number = sc_table_get(table, bytes_of(text), len, &found);
+    if (number == SC_OK) {
+        *word = found;
+    }
+    return number;
+}
+
+sc_number sc_clone(sc_table *table, uint64_t word) {
+    return is_handle(table) ? sc_table_clone(table, word) : SC_BAD_ARGUMENT;
+}
+
+sc_number sc_give(sc_table *table, uint64_t word) {
+    return is_handle(table) ? sc_table_give(table, word) : SC_BAD_ARGUMENT;
+}
+
+bool sc_holds(sc_table *table, uint64_t word) {
+    return is_handle(table) && sc_table_holds(table, word);
+}
+
+sc_number sc_holders(sc_table *table, uint64_t word, uint64_t *holders) {
+    uint64_t found = 0;
+    sc_number number;
+    if (!is_handle(table) || holders == NULL) {
+        return SC_BAD_ARGUMENT;
+    }
+    number = sc_table_holders(table, word, &found);
+    if (number == SC_OK) {
+        *holders = found;
+    }
+    return number;
+}
+
+sc_number sc_text(sc_table *table, uint64_t word, char *room, size_t room_len, size_t *len) {
+    uint8_t none = 0;
+    size_t found = 0;
+    sc_number number;
+    if (!is_handle(table) || !is_text(room, room_len) || len == NULL) {
+        return SC_BAD_ARGUMENT;
+    }
+    number = sc_table_text(table, word, room_of(room, &none), room_len, &found);
+    if (number == SC_OK || number == SC_TOO_SMALL) {
+        *len = found;
+    }
+    return number;
+}
+
+size_t sc_entries(sc_table *table) {
+    return is_handle(table) ? sc_table_entries(table) : 0;
+}
+
+uint64_t sc_text_bytes(sc_table *table) {
+    return is_handle(table) ? sc_table_text_bytes(table) : 0;
+}
+
+sc_number sc_entry(sc_table *table, size_t place, uint64_t *word, uint64_t *holders) {
+    uint64_t found = 0;
+    uint64_t count = 0;
+    sc_number number;
+    if (!is_handle(table)) {
+        return SC_BAD_ARGUMENT;
+    }
+    number = sc_table_entry(table, place, &found, &count);
+    if (number == SC_OK && word != NULL) {
+        *word = found;
+    }
+    if (number == SC_OK && holders != NULL) {
+        *holders = count;
+    }
+    return number;
+}
+
+sc_number sc_clear(sc_table *table) {
+    return is_handle(table) ? sc_table_clear(table) : SC_BAD_ARGUMENT;
+}
+
+sc_number sc_reserve(sc_table *table, size_t more) {
+    return is_handle(table) ? sc_table_reserve(table, more) : SC_BAD_ARGUMENT;
+}
+
+sc_number sc_pack(const char *text, size_t len, uint64_t *word) {
+    uint64_t found = 0;
+    sc_number number;
+    if (!is_text(text, len) || word == NULL) {
+        return SC_BAD_ARGUMENT;
+    }
+    number = sc_word_pack(bytes_of(text), len, &found);
+    if (number == SC_OK) {
+        *word = found;
+    }
+    return number;
+}
+
+sc_number sc_unpack(uint64_t word, char *room, size_t room_len, size_t *len) {
+    uint8_t none = 0;
+    size_t found = 0;
+    sc_number number;
+    if (!is_text(room, room_len) || len == NULL) {
+        return SC_BAD_ARGUMENT;
+    }
+    number = sc_word_unpack(word, room_of(room, &none), room_len, &found);
+    if (number == SC_OK || number == SC_TOO_SMALL) {
+        *len = found;
+    }
+    return number;
+}
+
+sc_number sc_form(uint64_t word, sc_word_parts *parts) {
+    sc_parts found = {0, 0, 0, 0};
+    sc_number number;
+    if (parts == NULL) {
+        return SC_BAD_ARGUMENT;
+    }
+    number = sc_word_form(word, &found);
+    if (number == SC_OK) {
+        parts->kind = (sc_kind)found.kind;
+        parts->index = found.index;
+        parts->serial = found.serial;
+        parts->bucket = found.bucket;
+    }
+    return number;
+}
+
+sc_number sc_hash(const char *text, size_t len, uint64_t key, sc_hashes *hashes) {
+    sc_hashes found = {0, 0, 0};
+    sc_number number;
+    if (!is_text(text, len) || hashes == NULL) {
+        return SC_BAD_ARGUMENT;
+    }
+    number = sc_text_hash(bytes_of(text), len, key, &found);
+    if (number == SC_OK) {
+        *hashes = found;
+    }
+    return number;
+}
+
+sc_number sc_check_tables(const char *text, size_t len, bool *perfect) {
+    bool found = false;
+    sc_number number;
+    if (!is_text(text, len) || perfect == NULL) {
+        return SC_BAD_ARGUMENT;
+    }
+    number = sc_text_check_tables(bytes_of(text), len, &found);
+    if (number == SC_OK) {
+        *perfect = found;
+    }
+    return number;
+}

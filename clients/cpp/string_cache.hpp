@@ -1,0 +1,196 @@
+// Interned texts for C++17: one header over string_cache.h.
+//
+// An Interner owns a table. A Symbol is one holder of a text in it: a copy is one holder more, and the destructor gives its own back, so that a
+// text goes with its last symbol. Symbols of one interner are equal exactly if their texts are, and comparing them reads two numbers.
+//
+// What is refused is thrown: std::bad_alloc where there is no memory, std::invalid_argument where bytes aren't UTF-8, and string_cache::Refused,
+// which has the number, for the rest. A call that throws has changed nothing. What is never refused is noexcept.
+//
+// No symbol may be used after its interner has ended, nor by two threads at once with any other of the same interner.
+#ifndef STRING_CACHE_HPP
+#define STRING_CACHE_HPP
+
+#include <cstddef>
+#include <cstdint>
+#include <functional>
+#include <iterator>
+#include <memory>
+#include <new>
+#include <optional>
+#include <ostream>
+#include <stdexcept>
+#include <string>
+#include <string_view>
+#include <utility>
+
+#include "string_cache.h"
+
+namespace string_cache {
+
+// A refusal other than want of memory and of UTF-8.
+class Refused : public std::runtime_error {
+public:
+    explicit Refused(sc_number number) : std::runtime_error(sc_text_of_fault(number)), number_(number) {}
+
+    sc_number number() const noexcept { return number_; }
+
+private:
+    sc_number number_;
+};
+
+namespace detail {
+
+inline void throw_unless_ok(sc_number number) {
+    switch (number) {
+    case SC_OK:
+        return;
+    case SC_NO_MEMORY:
+        throw std::bad_alloc();
+    case SC_NOT_UTF8:
+        throw std::invalid_argument(sc_text_of_fault(number));
+    default:
+        throw Refused(number);
+    }
+}
+
+// The text of a word that is held. What most texts have room for comes by one call, and the rest by two.
+inline std::string text_of(sc_table *table, std::uint64_t word) {
+    std::string text(32, '\0');
+    std::size_t length = 0;
+    sc_number number = sc_text(table, word, text.data(), text.size(), &length);
+    if (number == SC_TOO_SMALL) {
+        text.resize(length);
+        number = sc_text(table, word, text.data(), text.size(), &length);
+    }
+    throw_unless_ok(number);
+    text.resize(length);
+    return text;
+}
+
+} // namespace detail
+
+class Interner;
+
+// One holder of a text. One that was moved from holds nothing, and may only be assigned to or end.
+class Symbol {
+public:
+    Symbol(const Symbol &other) : table_(other.table_), word_(other.word_) { hold(); }
+    Symbol(Symbol &&other) noexcept : table_(std::exchange(other.table_, nullptr)), word_(other.word_) {}
+    Symbol &operator=(Symbol other) noexcept {
+        std::swap(table_, other.table_);
+        std::swap(word_, other.word_);
+        return *this;
+    }
+    ~Symbol() {
+        if (table_ != nullptr) {
+            sc_give(table_, word_);
+        }
+    }
+
+    std::string text() const { return detail::text_of(table_, word_); }
+
+    // The number that stands for the text in this interner.
+    std::uint64_t word() const noexcept { return word_; }
+
+    friend bool operator==(const Symbol &one, const Symbol &other) noexcept { return one.word_ == other.word_; }
+    friend bool operator!=(const Symbol &one, const Symbol &other) noexcept { return one.word_ != other.word_; }
+    // An order for maps: that of the words, and not of the texts.
+    friend bool operator<(const Symbol &one, const Symbol &other) noexcept { return one.word_ < other.word_; }
+    friend std::ostream &operator<<(std::ostream &out, const Symbol &symbol) { return out << symbol.text(); }
+
+private:
+    friend class Interner;
+
+    // Takes over a holder that the word has already.
+    Symbol(sc_table *table, std::uint64_t word) noexcept : table_(table), word_(word) {}
+
+    void hold() const {
+        if (table_ != nullptr) {
+            detail::throw_unless_ok(sc_clone(table_, word_));
+        }
+    }
+
+    sc_table *table_;
+    std::uint64_t word_;
+};
+
+// The interned texts of one thread. One that was moved from may only be assigned to or end.
+class Interner {
+public:
+    Interner() : table_(new sc_table SC_CLOSED_TABLE) { detail::throw_unless_ok(sc_open(table_.get())); }
+
+    // With limits, and 2 to the power of bucket_bits buckets: see sc_open_with.
+    Interner(std::uint64_t holders, std::uint64_t tickets, std::uint8_t bucket_bits) : table_(new sc_table SC_CLOSED_TABLE) {
+        detail::throw_unless_ok(sc_open_with(table_.get(), holders, tickets, bucket_bits));
+    }
+
+    // The symbol of a text.
+    Symbol intern(std::string_view text) {
+        std::uint64_t word = 0;
+        detail::throw_unless_ok(sc_intern(table_.get(), text.data(), text.size(), &word));
+        return Symbol(table_.get(), word);
+    }
+
+    // The symbol of a text, if it has one: texts of at most 7 bytes always do.
+    std::optional<Symbol> get(std::string_view text) {
+        std::uint64_t word = 0;
+        const sc_number number = sc_get(table_.get(), text.data(), text.size(), &word);
+        if (number == SC_NOT_HELD) {
+            return std::nullopt;
+        }
+        detail::throw_unless_ok(number);
+        return held(word);
+    }
+
+    // Makes room for so many texts more.
+    void reserve(std::size_t more) { detail::throw_unless_ok(sc_reserve(table_.get(), more)); }
+
+    // How many texts of more than 7 bytes are held, and how many bytes they have.
+    std::size_t size() const noexcept { return sc_entries(table_.get()); }
+    bool empty() const noexcept { return size() == 0; }
+    std::uint64_t text_bytes() const noexcept { return sc_text_bytes(table_.get()); }
+
+    // The symbol and the number of holders at a place of the order, which is that in which texts came until one goes: then the last one comes
+    // in its place. The symbol that is given is one more holder. std::out_of_range from size() on.
+    std::pair<Symbol, std::uint64_t> at(std::size_t place) {
+        std::uint64_t word = 0;
+        std::uint64_t holders = 0;
+        if (sc_entry(table_.get(), place, &word, &holders) != SC_OK) {
+            throw std::out_of_range("string_cache::Interner::at");
+        }
+        return {held(word), holders};
+    }
+
+    // Calls with each text that is held, in order. The interner isn't to be changed meanwhile.
+    template <typename Visit> void for_each(Visit visit) const {
+        std::uint64_t word = 0;
+        std::uint64_t holders = 0;
+        for (std::size_t place = 0; sc_entry(table_.get(), place, &word, &holders) == SC_OK; ++place) {
+            visit(detail::text_of(table_.get(), word), holders);
+        }
+    }
+
+private:
+    struct Close {
+        void operator()(sc_table *table) const noexcept {
+            sc_close(table);
+            delete table;
+        }
+    };
+
+    // A symbol of a word that is held.
+    Symbol held(std::uint64_t word) {
+        detail::throw_unless_ok(sc_clone(table_.get(), word));
+        return Symbol(table_.get(), word);
+    }
+
+    std::unique_ptr<sc_table, Close> table_;
+};
+
+} // namespace string_cache
+
+template <> struct std::hash<string_cache::Symbol> {
+    std::size_t operator()(const string_cache::Symbol &symbol) const noexcept { return std::hash<std::uint64_t>()(symbol.word()); }
+};
+
+#endif

@@ -1,0 +1,167 @@
+// What the header promises, as a program of tests.
+#include <iostream>
+#include <map>
+#include <unordered_map>
+#include <vector>
+
+#include "string_cache.hpp"
+
+using string_cache::Interner;
+using string_cache::Refused;
+using string_cache::Symbol;
+
+namespace {
+
+std::size_t failures = 0;
+
+void check(bool holds, const char *what, int line) {
+    if (!holds && failures++ < 20) {
+        std::cout << __FILE__ << ":" << line << ": " << what << "\n";
+    }
+}
+
+#define CHECK(condition) check((condition), #condition, __LINE__)
+
+// Whether a call throws this.
+template <typename Thrown, typename Call> bool throws(Call call) {
+    try {
+        call();
+    } catch (const Thrown &) {
+        return true;
+    }
+    return false;
+}
+
+// How many holders a place has, before the one that is answered.
+std::uint64_t holders_at(Interner &names, std::size_t place) {
+    return names.at(place).second;
+}
+
+void equal_texts_are_equal_symbols() {
+    Interner names;
+    const Symbol first = names.intern("a longer name");
+    CHECK(first == names.intern(std::string("a longer ") + "name"));
+    CHECK(first != names.intern("another long name"));
+    CHECK(names.intern("short") == names.intern("short"));
+    CHECK(first.text() == "a longer name" && names.intern("").text().empty());
+    CHECK(names.intern(std::string(5000, 'x')).text() == std::string(5000, 'x'));
+    CHECK(names.intern(std::string_view("a\0b\0c\0d\0e", 9)).text().size() == 9);
+}
+
+void a_text_goes_with_its_last_symbol() {
+    Interner names;
+    {
+        const Symbol first = names.intern("a longer name");
+        const Symbol copy = first;
+        Symbol moved = names.intern("another long name");
+        const Symbol taken = std::move(moved);
+        CHECK(names.size() == 2 && holders_at(names, 0) == 2 && holders_at(names, 1) == 1);
+        moved = copy;
+        CHECK(holders_at(names, 0) == 3 && moved == first && taken.text() == "another long name");
+    }
+    CHECK(names.empty() && names.text_bytes() == 0 && !names.get("a longer name").has_value());
+}
+
+void a_symbol_is_assigned() {
+    Interner names;
+    Symbol name = names.intern("the first name");
+    const Symbol other = names.intern("the second name");
+    name = other;
+    CHECK(names.size() == 1 && name == other);
+    Symbol &same = name;
+    name = same;
+    CHECK(name.text() == "the second name" && holders_at(names, 0) == 2);
+}
+
+void a_name_is_looked_up() {
+    Interner names;
+    CHECK(!names.get("a longer name").has_value() && names.get("short").has_value());
+    const Symbol name = names.intern("a longer name");
+    CHECK(names.get("a longer name") == name);
+    CHECK(holders_at(names, 0) == 1);
+}
+
+void names_stand_in_order() {
+    Interner names;
+    std::vector<Symbol> held;
+    for (int at = 0; at < 1000; ++at) {
+        held.push_back(names.intern("name number " + std::to_string(at)));
+    }
+    int at = 0;
+    names.for_each(
+        [&](const std::string &text, std::uint64_t holders) { CHECK(text == "name number " + std::to_string(at++) && holders == 1); });
+    CHECK(at == 1000 && names.size() == 1000);
+    held.erase(held.begin());
+    CHECK(names.at(0).first.text() == "name number 999" && names.size() == 999);
+    CHECK(throws<std::out_of_range>([&] { names.at(999); }));
+}
+
+void symbols_are_keys() {
+    Interner names;
+    std::unordered_map<Symbol, int> counts;
+    std::map<Symbol, int> ordered;
+    for (const char *word : {"interned", "another one", "interned", "short", "interned", "short"}) {
+        ++counts[names.intern(word)];
+        ++ordered[names.intern(word)];
+    }
+    CHECK(counts.size() == 3 && counts.at(names.intern("interned")) == 3 && counts.at(names.intern("short")) == 2);
+    CHECK(ordered.size() == 3 && ordered.at(names.intern("another one")) == 1);
+}
+
+void refusals_are_thrown() {
+    Interner names(2, 2, 0);
+    const Symbol name = names.intern("a longer name");
+    CHECK(throws<std::invalid_argument>([&] { names.intern("\xff\xfe"); }));
+    CHECK(throws<std::invalid_argument>([&] { names.get("\xff\xfe"); }));
+    const Symbol copy = name;
+    CHECK(throws<Refused>([&] { const Symbol third = name; }));
+    CHECK(throws<Refused>([&] { names.intern("a longer name"); }));
+    const Symbol second = names.intern("the second name");
+    try {
+        names.intern("the third name");
+        CHECK(false);
+    } catch (const Refused &refused) {
+        CHECK(refused.number() == SC_TICKETS_SPENT);
+    }
+    CHECK(throws<Refused>([] { Interner none(0, 1, 0); }));
+    CHECK(throws<std::bad_alloc>([&] { names.reserve(SIZE_MAX / 2); }));
+    CHECK(names.size() == 2 && name.text() == "a longer name");
+}
+
+void an_interner_is_moved() {
+    Interner names;
+    const Symbol name = names.intern("a longer name");
+    Interner taken = std::move(names);
+    CHECK(taken.intern("a longer name") == name && name.text() == "a longer name");
+    names = Interner();
+    CHECK(names.empty() && taken.size() == 1);
+}
+
+struct Test {
+    const char *name;
+    void (*run)();
+};
+
+const Test tests[] = {
+    {"equal_texts_are_equal_symbols", equal_texts_are_equal_symbols},
+    {"a_text_goes_with_its_last_symbol", a_text_goes_with_its_last_symbol},
+    {"a_symbol_is_assigned", a_symbol_is_assigned},
+    {"a_name_is_looked_up", a_name_is_looked_up},
+    {"names_stand_in_order", names_stand_in_order},
+    {"symbols_are_keys", symbols_are_keys},
+    {"refusals_are_thrown", refusals_are_thrown},
+    {"an_interner_is_moved", an_interner_is_moved},
+};
+
+} // namespace
+
+int main() {
+    bool failed = false;
+    for (const Test &test : tests) {
+        failures = 0;
+        test.run();
+        std::cout << "test " << test.name << " ... " << (failures == 0 ? "ok" : "FAILED") << std::endl;
+        failed = failed || failures != 0;
+    }
+    return failed;
+}

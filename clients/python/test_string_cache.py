@@ -1,0 +1,137 @@
+"""Tests of string_cache.py: `python3 -m unittest`, in this folder."""
+
+import gc
+import threading
+import unittest
+from unittest import mock
+
+import string_cache
+from string_cache import VERSION, Closed, Interner, Refused
+
+SAMPLES = ["", "a", "1234567", "12345678", "x" * 100_000, "café", "naïve café ☕", "日本語の長い名前", "\0", "\0" * 9, "😀" * 70]
+
+
+class Interning(unittest.TestCase):
+    def setUp(self) -> None:
+        self.names = Interner()
+        self.addCleanup(self.names.close)
+
+    def test_equal_texts_have_equal_words(self) -> None:
+        for text in SAMPLES:
+            self.assertEqual(self.names.intern(text), self.names.intern(text))
+
+    def test_different_texts_have_different_words(self) -> None:
+        self.assertEqual(len({self.names.intern(text) for text in SAMPLES}), len(SAMPLES))
+
+    def test_a_word_has_its_text(self) -> None:
+        words = [self.names.intern(text) for text in SAMPLES]
+        self.assertEqual([self.names.text(word) for word in words], SAMPLES)
+
+    def test_a_short_text_lies_in_its_word(self) -> None:
+        self.assertEqual(self.names.intern("abc"), 0x63626131)
+        self.assertEqual(self.names.text(0x63626131), "abc")
+        self.assertEqual(len(self.names), 0)
+
+    def test_looking_up_interns_nothing(self) -> None:
+        self.assertIsNone(self.names.get("a longer name"))
+        self.assertNotIn("a longer name", self.names)
+        self.assertEqual(len(self.names), 0)
+        word = self.names.intern("a longer name")
+        self.assertEqual(self.names.get("a longer name"), word)
+        self.assertIn("a longer name", self.names)
+        self.assertIn(word, self.names)
+        self.assertEqual(self.names.holders(word), 1)
+
+    def test_texts_come_in_order(self) -> None:
+        texts = [f"name number {at}" for at in range(1000)]
+        words = [self.names.intern(text) for text in texts]
+        self.assertEqual(list(self.names), texts)
+        self.assertEqual(list(self.names.items()), list(zip(words, texts)))
+        self.names.release(words[0])
+        self.assertEqual(list(self.names), [texts[-1], *texts[1:-1]])
+
+    def test_a_text_goes_with_its_last_holder(self) -> None:
+        word = self.names.intern("a longer name")
+        self.names.hold(word)
+        self.names.release(word)
+        self.assertEqual(self.names.text_bytes(), 13)
+        self.names.release(word)
+        self.assertEqual(len(self.names), 0)
+        for call in (self.names.text, self.names.hold, self.names.release):
+            self.assertRaises(KeyError, call, word)
+        self.assertIsNone(self.names.holders(word))
+        self.assertNotEqual(self.names.intern("a longer name"), word)
+
+    def test_any_int_may_be_asked_for(self) -> None:
+        for word in (0, 3, -1, 1 << 63, 1 << 64, -(1 << 70), (1 << 64) + 1):
+            self.assertRaises(KeyError, self.names.text, word)
+            self.assertRaises(KeyError, self.names.release, word)
+            self.assertNotIn(word, self.names)
+
+    def test_a_text_of_no_encoding_is_refused(self) -> None:
+        self.assertRaises(UnicodeEncodeError, self.names.intern, "half a pair: \ud800")
+        self.assertEqual(len(self.names), 0)
+
+    def test_room_that_no_machine_has_is_refused(self) -> None:
+        self.assertRaises(MemoryError, self.names.reserve, (1 << 63) - 1)
+        self.assertRaises(ValueError, self.names.reserve, -1)
+        self.names.reserve(1000)
+
+    def test_clearing_takes_all_away(self) -> None:
+        word = self.names.intern("a longer name")
+        self.names.clear()
+        self.assertEqual(list(self.names), [])
+        self.assertNotIn(word, self.names)
+
+    def test_threads_share_an_interner(self) -> None:
+        texts = [f"name number {at}" for at in range(500)]
+        found: list[list[int]] = []
+        threads = [threading.Thread(target=lambda: found.append([self.names.intern(text) for text in texts])) for _ in range(8)]
+        for thread in threads:
+            thread.start()
+        for thread in threads:
+            thread.join()
+        self.assertEqual(len(found), 8)
+        self.assertTrue(all(words == found[0] for words in found))
+        self.assertEqual([self.names.holders(word) for word in found[0]], [8] * 500)
+
+
+class Ending(unittest.TestCase):
+    def test_a_closed_interner_refuses(self) -> None:
+        with Interner() as names:
+            word = names.intern("a longer name")
+        for call, argument in ((names.intern, "abc"), (names.get, "abc"), (names.text, word), (names.hold, word), (names.release, word)):
+            self.assertRaises(Closed, call, argument)
+        self.assertRaises(Closed, names.clear)
+        self.assertRaises(Closed, list, names)
+        self.assertEqual(len(names), 0)
+        self.assertNotIn(word, names)
+        names.close()
+
+    def test_limits_are_kept(self) -> None:
+        with Interner(holders=1, tickets=1, bucket_bits=0) as names:
+            self.assertEqual(names.intern("a longer name"), 1 << 16)
+            with self.assertRaises(Refused) as full:
+                names.intern("a longer name")
+            with self.assertRaises(Refused) as spent:
+                names.intern("another long name")
+            self.assertEqual((full.exception.number, spent.exception.number), (2, 3))
+        for limits in ((0, 1, 0), (1, 0, 0), (1 << 63, 1, 0), (1, 1 << 48, 0), (1, 1, 15), (-1, 1, 0), (1, 1, 256)):
+            self.assertRaises(ValueError, Interner, *limits)
+
+    def test_an_interner_that_is_forgotten_is_closed(self) -> None:
+        names = Interner()
+        names.intern("a longer name")
+        names.itself = names  # type: ignore[attr-defined]
+        close = string_cache._library.sc_close
+        with mock.patch.object(string_cache._library, "sc_close", side_effect=close) as closed:
+            del names
+            gc.collect()
+            closed.assert_called_once()
+
+    def test_the_library_is_the_one_that_this_module_knows(self) -> None:
+        self.assertEqual(VERSION, 1)
+
+
+if __name__ == "__main__":
+    unittest.main()

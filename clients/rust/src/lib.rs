@@ -1,0 +1,322 @@
+//! Interned names: each different text is kept once, and a [`Symbol`] of 8 bytes stands for it.
+//!
+//! ```
+//! use interned_names::Interner;
+//!
+//! let mut names = Interner::new()?;
+//! let first = names.intern("a longer name")?;
+//! assert_eq!(names.intern("a longer name")?, first);
+//! assert_eq!(names.resolve(first).as_deref(), Some("a longer name"));
+//! # Ok::<(), interned_names::Fault>(())
+//! ```
+//!
+//! A symbol is a number and may be copied freely. The names of an interner live as long as it does, unless they are given back: each
+//! [`Interner::intern`] counts one holder, and each [`Interner::release`] takes one off; with the last one the name goes. The symbol of a name
+//! that went never comes back, so that a stale one resolves to nothing, and never to another name.
+//!
+//! A name of at most 7 bytes lies in its symbol. It takes no memory, is always there, and isn't counted by [`Interner::len`].
+//!
+//! What a table does is proved; that this crate hands its arguments over rightly is tested.
+
+mod sys;
+
+use std::cell::UnsafeCell;
+use std::ffi::c_char;
+use std::fmt;
+use std::iter::FusedIterator;
+use std::num::NonZeroU64;
+
+/// Why a call was refused. It has changed nothing then.
+#[derive(Clone, Copy, Debug, PartialEq, Eq, Hash)]
+#[non_exhaustive]
+pub enum Fault {
+    /// There is no memory.
+    Memory,
+    /// The name has as many holders as the limits allow.
+    FullCount,
+    /// The bucket of the name has no ticket left.
+    TicketsSpent,
+    /// The interner holds no such symbol.
+    NotHeld,
+    /// A limit, or the number of buckets, is out of range.
+    NotLimits,
+    /// The library answered a number that these calls have no use for.
+    Other(u32),
+}
+
+impl Fault {
+    fn of(number: u32) -> Fault {
+        match number {
+            sys::NO_MEMORY => Fault::Memory,
+            sys::FULL_COUNT => Fault::FullCount,
+            sys::TICKETS_SPENT => Fault::TicketsSpent,
+            sys::NOT_HELD => Fault::NotHeld,
+            sys::NOT_LIMITS => Fault::NotLimits,
+            other => Fault::Other(other),
+        }
+    }
+}
+
+impl fmt::Display for Fault {
+    fn fmt(&self, out: &mut fmt::Formatter<'_>) -> fmt::Result {
+        match self {
+            Fault::Memory => out.write_str("there is no memory"),
+            Fault::FullCount => out.write_str("the name has as many holders as the limits allow"),
+            Fault::TicketsSpent => out.write_str("the bucket of the name has no ticket left"),
+            Fault::NotHeld => out.write_str("the interner holds no such symbol"),
+            Fault::NotLimits => out.write_str("a limit or the number of buckets is out of range"),
+            Fault::Other(number) => write!(out, "the library answered {number}"),
+        }
+    }
+}
+
+impl std::error::Error for Fault {}
+
+/// `Ok` where the library answered that all is done.
+fn done(number: u32) -> Result<(), Fault> {
+    match number {
+        sys::OK => Ok(()),
+        refused => Err(Fault::of(refused)),
+    }
+}
+
+/// What stands for a name. Two symbols of one interner are equal exactly if their names are; their order is that of their words.
+#[derive(Clone, Copy, PartialEq, Eq, PartialOrd, Ord, Hash)]
+pub struct Symbol(NonZeroU64);
+
+impl Symbol {
+    /// The symbol with this word, as [`Symbol::word`] told it. Any number is safe: an interner resolves what it holds, and nothing else.
+    pub fn from_word(word: u64) -> Option<Symbol> {
+        NonZeroU64::new(word).map(Symbol)
+    }
+
+    /// Its word, the number that stands for the name in its interner.
+    pub fn word(self) -> u64 {
+        self.0.get()
+    }
+}
+
+impl fmt::Debug for Symbol {
+    fn fmt(&self, out: &mut fmt::Formatter<'_>) -> fmt::Result {
+        write!(out, "Symbol({:#x})", self.0)
+    }
+}
+
+/// The interned names of one thread. It may be moved to another.
+pub struct Interner {
+    /// The table is open from `new` to `drop`. Only calls of the library change it, none of which calls back.
+    table: UnsafeCell<sys::Table>,
+}
+
+// SAFETY: a table's memory is of malloc, which any thread may free, and it keeps nothing that belongs to a thread.
+unsafe impl Send for Interner {}
+
+impl Interner {
+    /// An interner in which nothing is held. [`Fault::Memory`] where it finds none.
+    pub fn new() -> Result<Interner, Fault> {
+        let mut table = sys::Table::CLOSED;
+        // SAFETY: the table is closed, and ours.
+        done(unsafe { sys::sc_open(&mut table) })?;
+        Ok(Interner { table: UnsafeCell::new(table) })
+    }
+
+    /// An interner with limits: each name has at most so many holders, from 1 to 2^63 - 1, and each of 2 to the power of `bucket_bits`
+    /// buckets gives so many tickets, from 1 to 2^48 - 1. The bits are 0 to 14. [`Fault::NotLimits`] outside these ranges, and
+    /// [`Fault::Memory`].
+    pub fn with_limits(holders: u64, tickets: u64, bucket_bits: u8) -> Result<Interner, Fault> {
+        let mut table = sys::Table::CLOSED;
+        // SAFETY: the table is closed, and ours.
+        done(unsafe { sys::sc_open_with(&mut table, holders, tickets, bucket_bits) })?;
+        Ok(Interner { table: UnsafeCell::new(table) })
+    }
+
+    /// The symbol of a name, with one holder more.
+    ///
+    /// [`Fault::Memory`], and under limits [`Fault::FullCount`] and [`Fault::TicketsSpent`]; none of them for a name of at most 7 bytes.
+    pub fn intern(&mut self, name: &str) -> Result<Symbol, Fault> {
+        let mut word = 0;
+        // SAFETY: the name has so many bytes, and the table is used by nobody else.
+        done(unsafe { sys::sc_intern(self.table.get(), text_of(name), name.len(), &mut word) })?;
+        Symbol::from_word(word).ok_or(Fault::Other(sys::OK))
+    }
+
+    /// The symbol of a name that has one: names of at most 7 bytes always do. It gets no holder more.
+    pub fn get(&self, name: &str) -> Option<Symbol> {
+        let mut word = 0;
+        // SAFETY: as in `intern`; `Interner` isn't `Sync`.
+        match unsafe { sys::sc_get(self.table.get(), text_of(name), name.len(), &mut word) } {
+            sys::OK => Symbol::from_word(word),
+            _ => None,
+        }
+    }
+
+    /// The name of a symbol. `None` where it isn't held.
+    pub fn resolve(&self, symbol: Symbol) -> Option<String> {
+        let mut name = String::new();
+        self.resolve_into(symbol, &mut name).then_some(name)
+    }
+
+    /// Puts the name of a symbol in place of a text, whose memory it takes over. Whether it is held: the text is empty where it isn't.
+    pub fn resolve_into(&self, symbol: Symbol, name: &mut String) -> bool {
+        let mut room = std::mem::take(name).into_bytes();
+        room.resize(room.capacity().max(32), 0);
+        let mut number = self.copy_text(symbol, &mut room);
+        if let Err((sys::TOO_SMALL, length)) = number {
+            room.resize(length, 0);
+            number = self.copy_text(symbol, &mut room);
+        }
+        room.truncate(number.unwrap_or(0));
+        *name = String::from_utf8(room).unwrap_or_default();
+        number.is_ok()
+    }
+
+    /// Copies the name of a symbol to the front of the room. Its length, or the number of the refusal and the length.
+    fn copy_text(&self, symbol: Symbol, room: &mut [u8]) -> Result<usize, (u32, usize)> {
+        let mut length = 0;
+        let front = room.as_mut_ptr().cast::<c_char>();
+        // SAFETY: the room has so many bytes; `Interner` isn't `Sync`.
+        match unsafe { sys::sc_text(self.table.get(), symbol.word(), front, room.len(), &mut length) } {
+            sys::OK => Ok(length),
+            refused => Err((refused, length)),
+        }
+    }
+
+    /// Whether a symbol is held: that of a name of at most 7 bytes always is.
+    pub fn contains(&self, symbol: Symbol) -> bool {
+        // SAFETY: `Interner` isn't `Sync`. The same holds for each call that takes `&self` below.
+        unsafe { sys::sc_holds(self.table.get(), symbol.word()) }
+    }
+
+    /// How many holders the name of a symbol has. `None` where it isn't held, and for a name of at most 7 bytes.
+    pub fn holders(&self, symbol: Symbol) -> Option<u64> {
+        let mut holders = 0;
+        match unsafe { sys::sc_holders(self.table.get(), symbol.word(), &mut holders) } {
+            sys::OK => Some(holders),
+            _ => None,
+        }
+    }
+
+    /// One holder more of a symbol. [`Fault::NotHeld`], and under limits [`Fault::FullCount`].
+    pub fn hold(&mut self, symbol: Symbol) -> Result<(), Fault> {
+        // SAFETY: the table is used by nobody else. The same holds for each call that takes `&mut self` below.
+        done(unsafe { sys::sc_clone(self.table.get(), symbol.word()) })
+    }
+
+    /// One holder less of a symbol: with the last one its name goes. Whether it was held.
+    pub fn release(&mut self, symbol: Symbol) -> bool {
+        unsafe { sys::sc_give(self.table.get(), symbol.word()) == sys::OK }
+    }
+
+    /// How many names of more than 7 bytes are held.
+    pub fn len(&self) -> usize {
+        unsafe { sys::sc_entries(self.table.get()) }
+    }
+
+    /// Whether no name of more than 7 bytes is held.
+    pub fn is_empty(&self) -> bool {
+        self.len() == 0
+    }
+
+    /// How many bytes the names of more than 7 bytes have together.
+    pub fn text_bytes(&self) -> u64 {
+        unsafe { sys::sc_text_bytes(self.table.get()) }
+    }
+
+    /// Takes all names away. No symbol that was given comes again.
+    pub fn clear(&mut self) {
+        // An open table refuses no clear.
+        unsafe { sys::sc_clear(self.table.get()) };
+    }
+
+    /// Makes room for so many names more. [`Fault::Memory`].
+    pub fn reserve(&mut self, more: usize) -> Result<(), Fault> {
+        done(unsafe { sys::sc_reserve(self.table.get(), more) })
+    }
+
+    /// The names of more than 7 bytes with their symbols, in the order in which they came. Where a name goes, the last one comes in its
+    /// place.
+    pub fn iter(&self) -> Iter<'_> {
+        Iter { names: self, place: 0 }
+    }
+
+    /// The symbol at a place of that order.
+    fn at(&self, place: usize) -> Option<Symbol> {
+        let (mut word, mut holders) = (0, 0);
+        match unsafe { sys::sc_entry(self.table.get(), place, &mut word, &mut holders) } {
+            sys::OK => Symbol::from_word(word),
+            _ => None,
+        }
+    }
+}
+
+impl Drop for Interner {
+    fn drop(&mut self) {
+        // SAFETY: the table is ours, and nobody uses it afterwards.
+        unsafe { sys::sc_close(self.table.get()) };
+    }
+}
+
+impl fmt::Debug for Interner {
+    fn fmt(&self, out: &mut fmt::Formatter<'_>) -> fmt::Result {
+        out.debug_map().entries(self).finish()
+    }
+}
+
+/// What [`Interner::iter`] goes over.
+#[derive(Clone)]
+pub struct Iter<'a> {
+    names: &'a Interner,
+    place: usize,
+}
+
+impl Iterator for Iter<'_> {
+    type Item = (Symbol, String);
+
+    fn next(&mut self) -> Option<(Symbol, String)> {
+        let symbol = self.names.at(self.place)?;
+        self.place += 1;
+        Some((symbol, self.names.resolve(symbol)?))
+    }
+
+    fn size_hint(&self) -> (usize, Option<usize>) {
+        let left = self.names.len() - self.place;
+        (left, Some(left))
+    }
+}
+
+impl ExactSizeIterator for Iter<'_> {}
+
+impl FusedIterator for Iter<'_> {}
+
+impl<'a> IntoIterator for &'a Interner {
+    type Item = (Symbol, String);
+    type IntoIter = Iter<'a>;
+
+    fn into_iter(self) -> Iter<'a> {
+        self.iter()
+    }
+}
+
+/// The three parts of a text's hash: SipHash-1-3 with 128 bits.
+#[derive(Clone, Copy, Debug, PartialEq, Eq, Hash)]
+pub struct Hashes {
+    /// The high half of the first 64 bits, by which a bucket of displacements is found.
+    pub g: u32,
+    /// The low half of the first 64 bits.
+    pub f1: u32,
+    /// The low half of the second 64 bits.
+    pub f2: u32,
+}
+
+/// The hash of a text under a key.
+pub fn hashes_of(text: &str, key: u64) -> Hashes {
+    let mut found = sys::Hashes { g: 0, f1: 0, f2: 0 };
+    // SAFETY: the text has so many bytes. A `str` is never refused.
+    unsafe { sys::sc_hash(text_of(text), text.len(), key, &mut found) };
+    Hashes { g: found.g, f1: found.f1, f2: found.f2 }
+}
+
+/// Where a text begins, as C has it.
+fn text_of(text: &str) -> *const c_char {
+    text.as_ptr().cast()
+}

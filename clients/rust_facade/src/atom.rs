@@ -1,0 +1,206 @@
+//! The atom.
+
+use crate::dynamic_set::{self, Entry};
+use crate::static_sets::StaticAtomSet;
+use interned_names::hashes_of;
+use std::borrow::Cow;
+use std::cmp::Ordering;
+use std::fmt;
+use std::hash::{Hash, Hasher};
+use std::marker::PhantomData;
+use std::ops::Deref;
+use std::sync::Arc;
+
+const INLINE_TAG: u64 = 1;
+const STATIC_TAG: u64 = 2;
+const MOST_INLINE: usize = 7;
+
+/// An interned text: up to 7 bytes it lies in the atom, a text of the static type is an index, and any other is shared by all its atoms.
+///
+/// Equality is derived, so that a constant that macros packed can stand in a `match`.
+#[derive(PartialEq, Eq)]
+pub struct Atom<Static> {
+    /// The word, from its low byte on, so that an inline text can be lent: its length stands in the first byte.
+    word: [u8; 8],
+    /// What atoms of a dynamic text share; none in others.
+    entry: Option<Arc<Entry>>,
+    phantom: PhantomData<Static>,
+}
+
+impl<Static> Atom<Static> {
+    /// The atom of the static text with this index, for macros that know that there is one.
+    #[doc(hidden)]
+    pub const fn pack_static(n: u32) -> Self {
+        Atom { word: ((n as u64) << 32 | STATIC_TAG).to_le_bytes(), entry: None, phantom: PhantomData }
+    }
+
+    /// The atom of an inline text, whose bytes stand in the number from its second byte on, for macros.
+    #[doc(hidden)]
+    pub const fn pack_inline(n: u64, len: u8) -> Self {
+        Atom { word: (n | (len as u64) << 4 | INLINE_TAG).to_le_bytes(), entry: None, phantom: PhantomData }
+    }
+
+    fn dynamic(entry: Arc<Entry>) -> Self {
+        Atom { word: entry.symbol.word().to_le_bytes(), entry: Some(entry), phantom: PhantomData }
+    }
+
+    fn word(&self) -> u64 {
+        u64::from_le_bytes(self.word)
+    }
+
+    fn static_index(&self) -> usize {
+        (self.word() >> 32) as usize
+    }
+}
+
+impl<Static: StaticAtomSet> Atom<Static> {
+    /// Its word. The words of equal texts are equal, and those of texts that differ aren't, as long as atoms of both live.
+    #[doc(hidden)]
+    pub fn unsafe_data(&self) -> u64 {
+        self.word()
+    }
+
+    /// Whether its text is one of the static type.
+    pub fn is_static(&self) -> bool {
+        self.word() & 3 == STATIC_TAG
+    }
+
+    /// Whether its text is shared by all its atoms.
+    pub fn is_dynamic(&self) -> bool {
+        self.entry.is_some()
+    }
+
+    /// Whether its text lies in the atom.
+    pub fn is_inline(&self) -> bool {
+        self.word() & 3 == INLINE_TAG
+    }
+
+    /// A hash of its text: of an inline one its word.
+    pub fn get_hash(&self) -> u64 {
+        match &self.entry {
+            Some(entry) => entry.hash,
+            None if self.is_static() => Static::get().hashes[self.static_index()],
+            None => self.word(),
+        }
+    }
+
+    /// The atom of a text of the static type.
+    pub fn try_static(string_to_add: &str) -> Option<Self> {
+        Static::get().index_of(string_to_add).map(Self::pack_static)
+    }
+
+    /// Its text.
+    pub fn as_str(&self) -> &str {
+        self
+    }
+
+    /// The bytes of its text.
+    pub fn as_bytes(&self) -> &[u8] {
+        self.as_str().as_bytes()
+    }
+
+    /// The atom of its text with the letters a to z in capitals.
+    pub fn to_ascii_uppercase(&self) -> Self {
+        if self.bytes().any(|byte| byte.is_ascii_lowercase()) {
+            return Atom::from(str::to_ascii_uppercase(self));
+        }
+        self.clone()
+    }
+
+    /// The atom of its text with the letters A to Z in small ones.
+    pub fn to_ascii_lowercase(&self) -> Self {
+        if self.bytes().any(|byte| byte.is_ascii_uppercase()) {
+            return Atom::from(str::to_ascii_lowercase(self));
+        }
+        self.clone()
+    }
+
+    /// Whether two texts are the same but for the case of their letters a to z.
+    pub fn eq_ignore_ascii_case(&self, other: &Self) -> bool {
+        self == other || self.eq_str_ignore_ascii_case(other)
+    }
+
+    /// Whether its text is this one but for the case of their letters a to z.
+    pub fn eq_str_ignore_ascii_case(&self, other: &str) -> bool {
+        str::eq_ignore_ascii_case(self, other)
+    }
+}
+
+/// What `pack_inline` takes of a text of at most 7 bytes.
+fn inline_data(text: &str) -> Option<u64> {
+    (text.len() <= MOST_INLINE).then(|| text.bytes().rev().fold(0, |data, byte| (data | u64::from(byte)) << 8))
+}
+
+impl<'a, Static: StaticAtomSet> From<Cow<'a, str>> for Atom<Static> {
+    fn from(string_to_add: Cow<'a, str>) -> Self {
+        let text = &*string_to_add;
+        if let Some(data) = inline_data(text) {
+            return Self::pack_inline(data, text.len() as u8);
+        }
+        Self::try_static(text).unwrap_or_else(|| {
+            let hashes = hashes_of(text, Static::get().key);
+            Self::dynamic(dynamic_set::intern(text, u64::from(hashes.g) << 32 | u64::from(hashes.f1)))
+        })
+    }
+}
+
+impl<Static: StaticAtomSet> Deref for Atom<Static> {
+    type Target = str;
+
+    fn deref(&self) -> &str {
+        match &self.entry {
+            Some(entry) => &entry.text,
+            None if self.is_static() => Static::get().atoms[self.static_index()],
+            None => {
+                let [head, bytes @ ..] = &self.word;
+                let len = usize::from(head >> 4);
+                // Only pack_inline, which trusts its caller, can have made another.
+                bytes.get(..len).and_then(|bytes| std::str::from_utf8(bytes).ok()).expect("an inline text")
+            }
+        }
+    }
+}
+
+impl<Static> Clone for Atom<Static> {
+    fn clone(&self) -> Self {
+        Atom { word: self.word, entry: self.entry.clone(), phantom: PhantomData }
+    }
+}
+
+impl<Static: StaticAtomSet> PartialOrd for Atom<Static> {
+    fn partial_cmp(&self, other: &Self) -> Option<Ordering> {
+        Some(self.cmp(other))
+    }
+}
+
+impl<Static: StaticAtomSet> Ord for Atom<Static> {
+    fn cmp(&self, other: &Self) -> Ordering {
+        if self == other {
+            return Ordering::Equal;
+        }
+        self.as_str().cmp(other.as_str())
+    }
+}
+
+impl<Static: StaticAtomSet> Hash for Atom<Static> {
+    fn hash<H: Hasher>(&self, state: &mut H) {
+        state.write_u64(self.get_hash());
+    }
+}
+
+impl<Static: StaticAtomSet> Default for Atom<Static> {
+    fn default() -> Self {
+        Self::pack_inline(0, 0)
+    }
+}
+
+impl<Static: StaticAtomSet> fmt::Debug for Atom<Static> {
+    fn fmt(&self, out: &mut fmt::Formatter<'_>) -> fmt::Result {
+        let form = match (self.is_dynamic(), self.is_static()) {
+            (true, _) => "dynamic",
+            (_, true) => "static",
+            _ => "inline",
+        };
+        write!(out, "Atom('{self}' type={form})")
+    }
+}

@@ -1,0 +1,43 @@
+//! Texts that are known when the program is built.
+
+use interned_names::hashes_of;
+
+/// A static type: what atoms with the same static texts have in common.
+pub trait StaticAtomSet: Ord {
+    /// Its static tables.
+    fn get() -> &'static PhfStrSet;
+}
+
+/// Static tables: a perfect hash of texts, by the key, a pair of displacements for each bucket, the texts and their hashes.
+pub struct PhfStrSet {
+    #[doc(hidden)]
+    pub key: u64,
+    #[doc(hidden)]
+    pub disps: &'static [(u32, u32)],
+    #[doc(hidden)]
+    pub atoms: &'static [&'static str],
+    #[doc(hidden)]
+    pub hashes: &'static [u64],
+}
+
+impl PhfStrSet {
+    /// The index of a text that is listed.
+    pub(crate) fn index_of(&self, text: &str) -> Option<u32> {
+        let hashes = hashes_of(text, self.key);
+        let (first, second) = self.disps[hashes.g as usize % self.disps.len()];
+        let place = hashes.f1.wrapping_mul(first).wrapping_add(second).wrapping_add(hashes.f2);
+        let index = place as usize % self.atoms.len();
+        (self.atoms[index] == text).then_some(index as u32)
+    }
+}
+
+/// The static type with no text but the empty one, which is inline all the same.
+#[derive(PartialEq, Eq, PartialOrd, Ord)]
+pub struct EmptyStaticAtomSet;
+
+impl StaticAtomSet for EmptyStaticAtomSet {
+    fn get() -> &'static PhfStrSet {
+        static ONE_TEXT: PhfStrSet = PhfStrSet { key: 0, disps: &[(0, 0)], atoms: &[""], hashes: &[0] };
+        &ONE_TEXT
+    }
+}

@@ -1,0 +1,102 @@
+//! Sets, tables and worlds of packed static types.
+
+use crate::dishes::Dishes;
+use crate::elements::Elements;
+use crate::misplaced::Misplaced;
+use std::alloc::Global;
+use std::process::Abort;
+use std::sync::Wait;
+use string_cache::dynamic_set::Set;
+use string_cache::static_sets::StaticTables;
+use string_cache::steps::{Step, StepReply, World};
+use string_cache::table::Table;
+use string_cache::word::{Limits, static_word};
+use string_cache::{Atom, Fault};
+
+// These say nothing of what they do, so that each test is proved in a moment. They take any static type, since the borrow checker doesn't
+// cover a function in which a set, an atom or a table of a packed type stands by name.
+
+fn set_of<S: StaticTables>(rt: &impl Abort, alloc: Global) -> Set<S> {
+    Set::new(alloc).expect(rt, "a set")
+}
+
+fn intern<'s, R: Wait + Abort, S: StaticTables>(
+    rt: &R,
+    set: &'s Set<S>,
+    text: &str,
+) -> Atom<'s, S> {
+    Atom::from_str_in(rt, set, text).expect(rt, "an atom")
+}
+
+fn has_text<S: StaticTables>(atom: &Atom<'_, S>, text: &str) -> bool {
+    atom.as_str() == text
+}
+
+/// Whether an atom of the text is static, and links nothing in a set of its own.
+fn is_static<S: StaticTables>(rt: &(impl Wait + Abort), alloc: Global, text: &str) -> bool {
+    let set = set_of::<S>(rt, alloc);
+    let atom = intern(rt, &set, text);
+    atom.is_static() && has_text(&atom, text) && set.linked(rt) == 0
+}
+
+/// Whether an atom of the text is dynamic, and the one that its set links.
+fn is_linked<S: StaticTables>(rt: &(impl Wait + Abort), alloc: Global, text: &str) -> bool {
+    let set = set_of::<S>(rt, alloc);
+    let atom = intern(rt, &set, text);
+    atom.is_dynamic() && has_text(&atom, text) && set.linked(rt) == 1
+}
+
+#[test]
+fn sets_link_what_is_not_listed(rt: HostRuntime) {
+    let alloc = rt.alloc();
+    assert!(rt; is_static::<Elements>(&rt, alloc, "name_of_element_999"));
+    assert!(rt; is_linked::<Elements>(&rt, alloc, "name_of_element_1000"));
+    assert!(rt; is_static::<Dishes>(&rt, alloc, "שקשוקה"));
+    assert!(rt; is_linked::<Misplaced>(&rt, alloc, "sentence"));
+}
+
+/// Whether the table interns the text as this word, and has it as the word's text.
+fn interns<S: StaticTables>(table: &mut Table<S>, text: &str, word: u64) -> bool {
+    if table.intern(text) != Ok(word) {
+        return false;
+    }
+    match table.text(word) {
+        Some(own) => own == text,
+        None => false,
+    }
+}
+
+/// Whether a table of its own gives the text this word, and holds nothing.
+fn gives<S: StaticTables>(alloc: Global, text: &str, word: u64) -> Result<bool, Fault> {
+    let mut table = Table::<S>::new(alloc)?;
+    Ok(interns(&mut table, text, word) && table.entries() == 0)
+}
+
+/// How many texts a table of its own holds once it has this one.
+fn held<S: StaticTables>(alloc: Global, text: &str) -> Result<usize, Fault> {
+    let mut table = Table::<S>::new(alloc)?;
+    let _ = table.intern(text)?;
+    Ok(table.entries())
+}
+
+#[test]
+fn tables_hold_what_is_not_listed(rt: HostRuntime) {
+    let alloc = rt.alloc();
+    assert!(rt; gives::<Dishes>(alloc, "味噌汁", static_word(1)) == Ok(true));
+    assert!(rt; held::<Dishes>(alloc, "味噌汁") == Ok(0));
+    assert!(rt; held::<Dishes>(alloc, "minestrones") == Ok(1));
+    assert!(rt; held::<Misplaced>(alloc, "sentence") == Ok(1));
+}
+
+/// What a world replies to a party that would intern the text.
+fn starts<S: StaticTables>(alloc: Global, text: &str) -> Result<StepReply, Fault> {
+    let mut world = World::<S>::new(alloc, Limits::greatest())?;
+    world.step(0, Step::TakeIntern(String::from_str(alloc, text)?))
+}
+
+#[test]
+fn worlds_intern_what_is_not_listed(rt: HostRuntime) {
+    assert!(rt; starts::<Dishes>(rt.alloc(), "minestrone") == Ok(StepReply::No));
+    assert!(rt; starts::<Dishes>(rt.alloc(), "minestrones") == Ok(StepReply::Taken));
+    assert!(rt; starts::<Misplaced>(rt.alloc(), "sentence") == Ok(StepReply::Taken));
+}

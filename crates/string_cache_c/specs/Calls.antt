@@ -1,0 +1,57 @@
+-- What a call says of the table that C holds.
+use Rattle.std.specs.Prelude.{◌≡◌, ℕ, ◌⊎◌, ◌<◌, ◌≤◌, ◌++◌, ⊤, List, drop, length, Option, None, Some, Result}
+use Rattle.std.specs.List.{sum_by}
+use Rattle.std.specs.Str.{IsUtf8}
+use Rattle.string_cache_core.specs.Kept.{Kept, map_of}
+use Rattle.string_cache_core.specs.Table.{Interns, Clones, IsHeld}
+use Rattle.string_cache_core.specs.Tables.{empty_tables}
+use Rattle.string_cache_core.specs.declared.faults.Fault.{Fault}
+use Rattle.string_cache_c.specs.Numbers.{IsReply, too_small}
+use Rattle.string_cache_c.specs.declared.words.Words.{Words}
+
+-- ---- the table in the handle
+
+-- There is none, or it is as P says.
+abbrev pub IfOpen : Option Words → (Kept → Type 0) → Type 0
+IfOpen None P = ⊤
+IfOpen (Some words) P = P words.table
+
+-- There is none before and after, or one in both, as P says.
+abbrev pub Within : Option Words → Option Words → (Kept → Kept → Type 0) → Type 0
+Within None None P = ⊤
+Within None (Some new) P = ⊥
+Within (Some old) None P = ⊥
+Within (Some old) (Some new) P = P old.table new.table
+
+-- ---- the calls
+
+-- interning the text, which has to be UTF-8
+abbrev pub InternsText : Kept → List ℕ → ℕ → ℕ → ℕ → Kept → Type 0
+InternsText old text number before after new =
+    IsUtf8 text → (reply : Result ℕ Fault) × Interns empty_tables old.limits (map_of old) text reply (map_of new) × IsReply reply number before after
+
+-- one holder more of the word, which has to be held
+abbrev pub ClonesWord : Kept → ℕ → ℕ → Kept → Type 0
+ClonesWord old word number new =
+    IsHeld empty_tables (map_of old) word → (reply : Result ℕ Fault) × Clones empty_tables old.limits (map_of old) word reply (map_of new) × IsReply reply number word word
+
+-- The text stands at the front of the room where it has place, and its length is told in both cases.
+abbrev pub CopiesText : List ℕ → ℕ → List ℕ → List ℕ → ℕ → Type 0
+CopiesText text number before after len =
+    (len ≡ length text)
+    × (((length text ≤ length before) × (number ≡ 0) × (after ≡ text ++ drop (length text) before))
+    ⊎ ((length before < length text) × (number ≡ too_small) × (after ≡ before)))
+
+-- ---- what is counted
+
+abbrev pub HoldsWord : Option Words → ℕ → Type 0
+HoldsWord None word = ⊥
+HoldsWord (Some words) word = IsHeld empty_tables (map_of words.table) word
+
+abbrev pub entries_of : Option Words → ℕ
+entries_of None = 0
+entries_of (Some words) = length words.table.pairs
+
+abbrev pub text_bytes_of : Option Words → ℕ
+text_bytes_of None = 0
+text_bytes_of (Some words) = sum_by (λ pair. length pair.0) words.table.pairs

@@ -1,0 +1,30 @@
+-- The numbers that calls return: 0, a fault's number from 1 to 3, or one of these.
+use Rattle.std.specs.Prelude.{◌≡◌, ℕ, Result, Ok, Err}
+use Rattle.string_cache_core.specs.Faults.{fault_number}
+use Rattle.string_cache_core.specs.declared.faults.Fault.{Fault}
+
+abbrev pub not_utf8 : ℕ
+not_utf8 = 5
+
+abbrev pub not_held : ℕ
+not_held = 6
+
+abbrev pub closed : ℕ
+closed = 7
+
+abbrev pub not_closed : ℕ
+not_closed = 8
+
+abbrev pub too_small : ℕ
+too_small = 9
+
+abbrev pub not_limits : ℕ
+not_limits = 10
+
+abbrev pub not_word : ℕ
+not_word = 11
+
+-- A reply by its number, and by the word that the caller has before and after it.
+abbrev pub IsReply : Result ℕ Fault → ℕ → ℕ → ℕ → Type 0
+IsReply (Ok word) number before after = (number ≡ 0) × (after ≡ word)
+IsReply (Err fault) number before after = (number ≡ fault_number fault) × (after ≡ before)

@@ -1,0 +1,110 @@
+// Words come and go.
+ghost use Rattle.std.specs.Prelude.{◌≡◌, ◌≢◌, ◌∷◌, ◌++◌, ◌<◌, ◌≤◌, ◌⊎◌, ℕ, List, None, IsSome, length};
+ghost use Rattle.std.specs.Str.{IsUtf8};
+ghost use Rattle.string_cache_core.specs.Kept.{map_of, tickets_of};
+ghost use Rattle.string_cache_core.specs.Order.{ComesLast, GoesFrom};
+ghost use Rattle.string_cache_core.specs.Table.{AreHeld, Gives, GivesOnce, HasOneTextEach, HasWord, IsHeld, IsTextOf, KeepsWord};
+ghost use Rattle.string_cache_core.specs.Tables.{empty_tables};
+ghost use Rattle.string_cache_core.specs.Word.{inline_word};
+ghost use Rattle.string_cache_c.specs.Calls.{ClonesWord, IfOpen, InternsText, Within};
+ghost use Rattle.string_cache_c.specs.Numbers.{closed, not_held, not_utf8};
+
+use crate::handle::ScTable;
+use crate::numbers::CLOSED;
+
+/// Interns a text, and writes its word. A text of at most 7 bytes has its inline word. Any other has a ticket, with one holder
+/// more.
+///
+/// 5 where the bytes aren't UTF-8, 1 where it finds no memory, 2 where the text has as many holders as the limits allow, 3
+/// where its bucket has no ticket left, 7 where the table is closed; then nothing changes.
+#[unsafe(no_mangle)]
+pub extern "C" fn sc_table_intern(t: &mut ScTable, text: &[u8], word: &mut u64) -> u32
+    ensures none { t.old.seat.value ≡ None → result ≡ closed }
+    ensures utf8 { IsSome t.old.seat.value → ¬ (IsUtf8 text.now) → result ≡ not_utf8 }
+    ensures limits { Within t.old.seat.value t.new.seat.value (λ old new. new.limits ≡ old.limits) }
+    ensures interns { Within t.old.seat.value t.new.seat.value (λ old new. InternsText old text.now result word.old word.new new) }
+    ensures word { Within t.old.seat.value t.new.seat.value (λ old new. result ≡ 0 → HasWord empty_tables (map_of new) text.now word.new) }
+    ensures short { Within t.old.seat.value t.new.seat.value (λ old new. result ≡ 0 → length text.now ≤ 7 → word.new ≡ inline_word text.now) }
+    ensures lends { Within t.old.seat.value t.new.seat.value (λ old new. result ≡ 0 → 7 < length text.now → IsTextOf empty_tables (map_of new) word.new text.now) }
+    ensures held { Within t.old.seat.value t.new.seat.value (λ old new. result ≡ 0 → IsHeld empty_tables (map_of new) word.new) }
+    ensures listed { Within t.old.seat.value t.new.seat.value (λ old new. (words : List ℕ) → AreHeld empty_tables (map_of old) words → result ≡ 0 → AreHeld empty_tables (map_of new) (word.new ∷ words)) }
+    ensures keeps { Within t.old.seat.value t.new.seat.value (λ old new. (other : ℕ) → KeepsWord empty_tables (map_of old) (map_of new) other) }
+    ensures apart { Within t.old.seat.value t.new.seat.value (λ old new. IsUtf8 text.now → HasOneTextEach empty_tables (map_of new)) }
+    ensures once { Within t.old.seat.value t.new.seat.value (λ old new. IsUtf8 text.now → GivesOnce (map_of old) (map_of new)) }
+    ensures order { Within t.old.seat.value t.new.seat.value (λ old new. result ≡ 0 → ComesLast old word.new new) }
+    ensures number { (result ≤ 3) ⊎ (result ≡ not_utf8) ⊎ (result ≡ closed) }
+    ensures err { result ≢ 0 → (t.new.seat.value ≡ t.old.seat.value) × (word.new ≡ word.old) }
+{
+    let Some(mut words) = t.take() else {
+        return CLOSED;
+    };
+    let number = words.intern(text, word);
+    t.put(words);
+    number
+}
+
+/// Writes the word of a text that has one, without a holder more. 6 exactly where the text has no word, 5 where the bytes
+/// aren't UTF-8, 7 where the table is closed.
+#[unsafe(no_mangle)]
+pub extern "C" fn sc_table_get(t: &mut ScTable, text: &[u8], word: &mut u64) -> u32
+    ensures none { t.old.seat.value ≡ None → result ≡ closed }
+    ensures utf8 { IsSome t.old.seat.value → ¬ (IsUtf8 text.now) → result ≡ not_utf8 }
+    ensures word { IfOpen t.old.seat.value (λ kept. result ≡ 0 → HasWord empty_tables (map_of kept) text.now word.new) }
+    ensures held { IfOpen t.old.seat.value (λ kept. result ≡ 0 → IsHeld empty_tables (map_of kept) word.new) }
+    ensures unheld { IfOpen t.old.seat.value (λ kept. result ≡ not_held → (other : ℕ) → ¬ (HasWord empty_tables (map_of kept) text.now other)) }
+    ensures number { IsSome t.old.seat.value → IsUtf8 text.now → (result ≡ 0) ⊎ (result ≡ not_held) }
+    ensures same { t.new.seat.value ≡ t.old.seat.value }
+    ensures err { result ≢ 0 → word.new ≡ word.old }
+{
+    let Some(words) = t.take() else {
+        return CLOSED;
+    };
+    let number = words.get(text, word);
+    t.put(words);
+    number
+}
+
+/// One holder more of a word that is held. 6 where it isn't, 2 where it has as many holders as the limits allow, 7 where the
+/// table is closed; then nothing changes.
+#[unsafe(no_mangle)]
+pub extern "C" fn sc_table_clone(t: &mut ScTable, word: u64) -> u32
+    ensures none { t.old.seat.value ≡ None → result ≡ closed }
+    ensures limits { Within t.old.seat.value t.new.seat.value (λ old new. new.limits ≡ old.limits) }
+    ensures clones { Within t.old.seat.value t.new.seat.value (λ old new. ClonesWord old word result new) }
+    ensures unheld { Within t.old.seat.value t.new.seat.value (λ old new. ¬ (IsHeld empty_tables (map_of old) word) → result ≡ not_held) }
+    ensures held { Within t.old.seat.value t.new.seat.value (λ old new. result ≡ 0 → IsHeld empty_tables (map_of new) word) }
+    ensures listed { Within t.old.seat.value t.new.seat.value (λ old new. (words : List ℕ) → AreHeld empty_tables (map_of old) words → result ≡ 0 → AreHeld empty_tables (map_of new) (word ∷ words)) }
+    ensures keeps { Within t.old.seat.value t.new.seat.value (λ old new. (other : ℕ) → KeepsWord empty_tables (map_of old) (map_of new) other) }
+    ensures order { Within t.old.seat.value t.new.seat.value (λ old new. tickets_of new.pairs ≡ tickets_of old.pairs) }
+    ensures number { (result ≡ 0) ⊎ (result ≡ 2) ⊎ (result ≡ not_held) ⊎ (result ≡ closed) }
+    ensures err { result ≢ 0 → t.new.seat.value ≡ t.old.seat.value }
+{
+    let Some(mut words) = t.take() else {
+        return CLOSED;
+    };
+    let number = words.clone_word(word);
+    t.put(words);
+    number
+}
+
+/// One holder less of a word that is held. The last holder of a ticket takes the text with it. 6 where the word isn't held, 7
+/// where the table is closed; then nothing changes.
+#[unsafe(no_mangle)]
+pub extern "C" fn sc_table_give(t: &mut ScTable, word: u64) -> u32
+    ensures none { t.old.seat.value ≡ None → result ≡ closed }
+    ensures limits { Within t.old.seat.value t.new.seat.value (λ old new. new.limits ≡ old.limits) }
+    ensures gives { Within t.old.seat.value t.new.seat.value (λ old new. IsHeld empty_tables (map_of old) word → (result ≡ 0) × Gives empty_tables old.limits (map_of old) word (map_of new)) }
+    ensures unheld { Within t.old.seat.value t.new.seat.value (λ old new. ¬ (IsHeld empty_tables (map_of old) word) → result ≡ not_held) }
+    ensures listed { Within t.old.seat.value t.new.seat.value (λ old new. (before after : List ℕ) → AreHeld empty_tables (map_of old) (before ++ word ∷ after) → AreHeld empty_tables (map_of new) (before ++ after)) }
+    ensures keeps { Within t.old.seat.value t.new.seat.value (λ old new. (other : ℕ) → (other ≢ word) ⊎ IsHeld empty_tables (map_of new) other → KeepsWord empty_tables (map_of old) (map_of new) other) }
+    ensures order { Within t.old.seat.value t.new.seat.value (λ old new. GoesFrom old word new) }
+    ensures number { (result ≡ 0) ⊎ (result ≡ not_held) ⊎ (result ≡ closed) }
+    ensures err { result ≢ 0 → t.new.seat.value ≡ t.old.seat.value }
+{
+    let Some(mut words) = t.take() else {
+        return CLOSED;
+    };
+    let number = words.give(word);
+    t.put(words);
+    number
+}

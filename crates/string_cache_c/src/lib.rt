@@ -1,0 +1,15 @@
+//! The table of texts for one thread, for C.
+#![tactic(auto)]
+
+mod copies;
+mod forms;
+mod handle;
+mod interning;
+mod life;
+mod numbers;
+mod parts;
+mod printed;
+mod reading;
+mod seat;
+mod texts;
+mod words;

@@ -1,0 +1,121 @@
+// A table's beginning and end, and its room.
+ghost use Rattle.std.specs.Prelude.{◌≡◌, ◌≢◌, ◌-◌, ◌^◌, ◌≤◌, ◌⊎◌, ◌↔◌, [], None, Some, IsSome, IfSome};
+ghost use Rattle.string_cache_core.specs.Bounds.{AreBounds};
+ghost use Rattle.string_cache_core.specs.Kept.{map_of};
+ghost use Rattle.string_cache_core.specs.Layout.{holder_bound, most_bits, serial_bound, usual_buckets};
+ghost use Rattle.string_cache_core.specs.Map.{empty_map};
+ghost use Rattle.string_cache_c.specs.Calls.{Within};
+ghost use Rattle.string_cache_c.specs.Numbers.{closed, not_closed, not_limits};
+ghost use Rattle.string_cache_c.specs.declared.words.Words.{Words};
+
+use crate::handle::ScTable;
+use crate::numbers::{CLOSED, NO_MEMORY, NOT_CLOSED, NOT_LIMITS};
+use crate::words::Words;
+use std::alloc::Global;
+use string_cache_core::static_sets::EmptyStaticAtomSet;
+use string_cache_core::table::Table;
+use string_cache_core::word::{Buckets, Limits};
+
+/// Opens a closed table, with nothing held, the greatest limits and the usual number of buckets. 1 where it finds no memory,
+/// and 8 where the table is open; then nothing changes.
+#[unsafe(no_mangle)]
+pub extern "C" fn sc_table_open(t: &mut ScTable, alloc: Global) -> u32
+    ensures number { (result ≡ 0) ⊎ (result ≡ 1) ⊎ (result ≡ not_closed) }
+    ensures not_closed { result ≡ not_closed ↔ IsSome t.old.seat.value }
+    ensures open { result ≡ 0 → IsSome t.new.seat.value }
+    ensures empty { result ≡ 0 → IfSome t.new.seat.value (λ words. map_of words.table ≡ empty_map usual_buckets) }
+    ensures limits { result ≡ 0 → IfSome t.new.seat.value (λ words. words.table.limits ≡ record { holders = holder_bound - 1; serials = serial_bound - 1 }) }
+    ensures err { result ≢ 0 → t.new.seat.value ≡ t.old.seat.value }
+{
+    if t.is_open() {
+        return NOT_CLOSED;
+    }
+    match Table::new(alloc) {
+        Ok(empty) => put_table(t, empty, alloc),
+        Err(_) => NO_MEMORY,
+    }
+}
+
+/// Opens a closed table, with nothing held, with these limits and 2 to this power of buckets. 1 where it finds no memory, 8
+/// where the table is open, and 10 where there are no such limits or buckets; then nothing changes.
+#[unsafe(no_mangle)]
+pub extern "C" fn sc_table_open_with(
+    t: &mut ScTable,
+    holders: u64,
+    serials: u64,
+    bucket_bits: u8,
+    alloc: Global,
+) -> u32
+    ensures number { (result ≡ 0) ⊎ (result ≡ 1) ⊎ (result ≡ not_closed) ⊎ (result ≡ not_limits) }
+    ensures not_closed { result ≡ not_closed ↔ IsSome t.old.seat.value }
+    ensures not_limits { t.old.seat.value ≡ None → result ≡ not_limits ↔ ¬ (AreBounds holders serials × (bucket_bits ≤ most_bits)) }
+    ensures open { result ≡ 0 → IsSome t.new.seat.value }
+    ensures empty { result ≡ 0 → IfSome t.new.seat.value (λ words. map_of words.table ≡ empty_map (2 ^ bucket_bits)) }
+    ensures limits { result ≡ 0 → IfSome t.new.seat.value (λ words. words.table.limits ≡ record { holders = holders; serials = serials }) }
+    ensures err { result ≢ 0 → t.new.seat.value ≡ t.old.seat.value }
+{
+    if t.is_open() {
+        return NOT_CLOSED;
+    }
+    let Some(limits) = Limits::new(holders, serials) else {
+        return NOT_LIMITS;
+    };
+    let Some(buckets) = Buckets::new(bucket_bits) else {
+        return NOT_LIMITS;
+    };
+    match Table::with_buckets(alloc, limits, buckets) {
+        Ok(table) => put_table(t, table, alloc),
+        Err(_) => NO_MEMORY,
+    }
+}
+
+/// Puts the table into a handle that is closed. 1 where it finds no memory for it.
+fn put_table(t: &mut ScTable, table: Table<EmptyStaticAtomSet>, alloc: Global) -> u32
+    ensures number { (result ≡ 0) ⊎ (result ≡ 1) }
+    ensures ok { result ≡ 0 → t.new.seat.value ≡ Some (record { table = table }) }
+    ensures err { result ≢ 0 → t.new.seat.value ≡ t.old.seat.value }
+{
+    let Ok(words) = Box::new(alloc, Words { table }) else {
+        return NO_MEMORY;
+    };
+    t.put(words);
+    0
+}
+
+/// Closes the table, and frees it with all that is held. A closed table stays closed.
+#[unsafe(no_mangle)]
+pub extern "C" fn sc_table_close(t: &mut ScTable)
+    ensures { t.new.seat.value ≡ None }
+{
+    drop(t.take());
+}
+
+/// Ends every entry, whoever holds it, and keeps the memory. No ticket comes again.
+#[unsafe(no_mangle)]
+pub extern "C" fn sc_table_clear(t: &mut ScTable) -> u32
+    ensures none { t.old.seat.value ≡ None → result ≡ closed }
+    ensures some { IsSome t.old.seat.value → result ≡ 0 }
+    ensures cleared { Within t.old.seat.value t.new.seat.value (λ old new. new ≡ record { limits = old.limits; lasts = old.lasts; pairs = [] }) }
+{
+    let Some(mut words) = t.take() else {
+        return CLOSED;
+    };
+    words.table.clear();
+    t.put(words);
+    0
+}
+
+/// Makes room for this number of texts of more than 7 bytes. 1 where it finds no memory. What is held stays.
+#[unsafe(no_mangle)]
+pub extern "C" fn sc_table_reserve(t: &mut ScTable, more: usize) -> u32
+    ensures none { t.old.seat.value ≡ None → result ≡ closed }
+    ensures some { IsSome t.old.seat.value → (result ≡ 0) ⊎ (result ≡ 1) }
+    ensures same { t.new.seat.value ≡ t.old.seat.value }
+{
+    let Some(mut words) = t.take() else {
+        return CLOSED;
+    };
+    let number = words.reserve(more);
+    t.put(words);
+    number
+}

@@ -1,0 +1,119 @@
+// What is asked of texts and words without a table.
+ghost use Rattle.std.specs.Prelude.{◌≡◌, ◌≢◌, ◌<◌, ◌≤◌, ◌⊎◌, ℕ, List, None, Some, length};
+ghost use Rattle.std.specs.Str.{IsUtf8};
+ghost use Rattle.string_cache_core.specs.Form.{IsFormOf};
+ghost use Rattle.string_cache_core.specs.Phf.{hashes_of};
+ghost use Rattle.string_cache_core.specs.Word.{IsInlineText, IsInlineWord, inline_word};
+ghost use Rattle.string_cache_core.specs.declared.word.Form.{Form};
+ghost use Rattle.string_cache_c.specs.Calls.{CopiesText};
+ghost use Rattle.string_cache_c.specs.Forms.{told};
+ghost use Rattle.string_cache_c.specs.Numbers.{not_utf8, not_word};
+
+use crate::copies::copy_text;
+use crate::forms::ScForm;
+use crate::numbers::{NOT_UTF8, NOT_WORD};
+use std::str;
+use string_cache_core::phf::{Hashes, hash};
+use string_cache_core::word::{Form, form_of, pack_inline_word, unpack_inline};
+
+const VERSION: u32 = 1; // of the calls for C
+
+/// The three hashes of a text under a key.
+#[repr(C)]
+#[derive(Drop)]
+pub struct ScHashes {
+    pub g: u32,
+    pub f1: u32,
+    pub f2: u32,
+}
+
+/// The version of these calls: C's header names the one that it is written for.
+#[unsafe(no_mangle)]
+pub extern "C" fn sc_table_version() -> u32
+    ensures { result ≡ 1 }
+{
+    VERSION
+}
+
+/// Writes the inline word of a text. 5 where the bytes aren't UTF-8, 11 where a text has more than 7 bytes.
+#[unsafe(no_mangle)]
+pub extern "C" fn sc_word_pack(text: &[u8], word: &mut u64) -> u32
+    ensures utf8 { ¬ (IsUtf8 text.now) → result ≡ not_utf8 }
+    ensures short { IsUtf8 text.now → length text.now ≤ 7 → (result ≡ 0) × (word.new ≡ inline_word text.now) }
+    ensures long { IsUtf8 text.now → 7 < length text.now → result ≡ not_word }
+    ensures err { result ≢ 0 → word.new ≡ word.old }
+{
+    let Ok(text) = str::from_utf8(text) else {
+        return NOT_UTF8;
+    };
+    match pack_inline_word(text) {
+        Some(own) => {
+            *word = own;
+            0
+        }
+        None => NOT_WORD,
+    }
+}
+
+/// Copies the text of an inline word to the front of the room where it has place. Its length is written in both cases. 9 where
+/// it has no place, 11 for any other word.
+#[unsafe(no_mangle)]
+pub extern "C" fn sc_word_unpack(word: u64, room: &mut [u8], len: &mut usize) -> u32
+    ensures text { IsInlineWord word → (text : List ℕ) × IsInlineText text × (inline_word text ≡ word) × CopiesText text result room.old room.new len.new }
+    ensures none { ¬ (IsInlineWord word) → (result ≡ not_word) × (room.new ≡ room.old) × (len.new ≡ len.old) }
+{
+    match unpack_inline(word) {
+        Some(text) => copy_text(text.as_str(), room, len),
+        None => NOT_WORD,
+    }
+}
+
+/// Writes what a word tells of itself. 11 where it is the word of nothing.
+#[unsafe(no_mangle)]
+pub extern "C" fn sc_word_form(word: u64, form: &mut ScForm) -> u32
+    ensures number { (result ≡ 0) ⊎ (result ≡ not_word) }
+    ensures form { result ≡ 0 → (own : Form) × IsFormOf word (Some own) × (form.new ≡ told own) }
+    ensures none { result ≡ not_word → IsFormOf word None }
+    ensures err { result ≢ 0 → form.new ≡ form.old }
+{
+    match form_of(word) {
+        Some(own) => {
+            *form = tell(own);
+            0
+        }
+        None => NOT_WORD,
+    }
+}
+
+fn tell(form: Form) -> ScForm
+    ensures { result ≡ told form }
+{
+    let (kind, bucket, index, serial) = match form {
+        Form::Inline(_) => (0, 0, 0, 0),
+        Form::Static(index) => (1, 0, index, 0),
+        Form::Dynamic { serial, bucket } => (2, bucket, 0, serial),
+    };
+    ScForm {
+        kind,
+        bucket,
+        index,
+        serial,
+    }
+}
+
+/// Writes the hashes of a text under a key. 5 where the bytes aren't UTF-8.
+#[unsafe(no_mangle)]
+pub extern "C" fn sc_text_hash(text: &[u8], key: u64, hashes: &mut ScHashes) -> u32
+    ensures utf8 { ¬ (IsUtf8 text.now) → (result ≡ not_utf8) × (hashes.new ≡ hashes.old) }
+    ensures ok { IsUtf8 text.now → result ≡ 0 }
+    ensures g { IsUtf8 text.now → hashes.new.g ≡ (hashes_of text.now key).g }
+    ensures f1 { IsUtf8 text.now → hashes.new.f1 ≡ (hashes_of text.now key).f1 }
+    ensures f2 { IsUtf8 text.now → hashes.new.f2 ≡ (hashes_of text.now key).f2 }
+{
+    let Ok(text) = str::from_utf8(text) else {
+        return NOT_UTF8;
+    };
+    let Hashes { g, f1, f2 } = hash(text, key);
+    *hashes = ScHashes { g, f1, f2 };
+    0
+}

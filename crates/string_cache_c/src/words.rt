@@ -1,0 +1,161 @@
+// The table that C has, of the empty static type, with a number for each outcome.
+ghost use Rattle.std.specs.Prelude.{◌≡◌, ◌≢◌, ◌∷◌, ◌++◌, ◌<◌, ◌≤◌, ◌⊎◌, ◌↔◌, ℕ, List, None, Some, slice_get, length};
+ghost use Rattle.std.specs.Str.{IsUtf8};
+ghost use Rattle.string_cache_core.specs.Kept.{Pair, map_of, tickets_of};
+ghost use Rattle.string_cache_core.specs.Map.{HasHolders, IsHeldTicket};
+ghost use Rattle.string_cache_core.specs.Order.{ComesLast, GoesFrom};
+ghost use Rattle.string_cache_core.specs.Table.{AreHeld, Gives, GivesOnce, HasOneTextEach, HasWord, IsHeld, IsTextOf, KeepsWord};
+ghost use Rattle.string_cache_core.specs.Tables.{empty_tables};
+ghost use Rattle.string_cache_core.specs.Word.{inline_word};
+ghost use Rattle.string_cache_c.specs.Calls.{ClonesWord, CopiesText, InternsText};
+ghost use Rattle.string_cache_c.specs.Numbers.{not_held, not_utf8};
+
+use crate::copies::copy_text;
+use crate::numbers::{NO_MEMORY, NOT_HELD, NOT_UTF8};
+use std::str;
+use string_cache_core::static_sets::EmptyStaticAtomSet;
+use string_cache_core::table::Table;
+
+#[derive(Drop)]
+pub struct Words {
+    pub table: Table<EmptyStaticAtomSet>,
+}
+
+impl Words {
+    pub fn intern(&mut self, text: &[u8], word: &mut u64) -> u32
+        ensures utf8 { ¬ (IsUtf8 text.now) → result ≡ not_utf8 }
+        ensures limits { self.new.table.limits ≡ self.old.table.limits }
+        ensures interns { InternsText self.old.table text.now result word.old word.new self.new.table }
+        ensures word { result ≡ 0 → HasWord empty_tables (map_of self.new.table) text.now word.new }
+        ensures short { result ≡ 0 → length text.now ≤ 7 → word.new ≡ inline_word text.now }
+        ensures lends { result ≡ 0 → 7 < length text.now → IsTextOf empty_tables (map_of self.new.table) word.new text.now }
+        ensures held { result ≡ 0 → IsHeld empty_tables (map_of self.new.table) word.new }
+        ensures listed { (words : List ℕ) → AreHeld empty_tables (map_of self.old.table) words → result ≡ 0 → AreHeld empty_tables (map_of self.new.table) (word.new ∷ words) }
+        ensures keeps { (other : ℕ) → KeepsWord empty_tables (map_of self.old.table) (map_of self.new.table) other }
+        ensures apart { IsUtf8 text.now → HasOneTextEach empty_tables (map_of self.new.table) }
+        ensures once { IsUtf8 text.now → GivesOnce (map_of self.old.table) (map_of self.new.table) }
+        ensures order { result ≡ 0 → ComesLast self.old.table word.new self.new.table }
+        ensures number { (result ≤ 3) ⊎ (result ≡ not_utf8) }
+        ensures err { result ≢ 0 → (self.new ≡ self.old) × (word.new ≡ word.old) }
+    {
+        let Ok(text) = str::from_utf8(text) else {
+            return NOT_UTF8;
+        };
+        match self.table.intern(text) {
+            Ok(own) => {
+                *word = own;
+                0
+            }
+            Err(fault) => u32::from(fault.number()),
+        }
+    }
+
+    pub fn get(&self, text: &[u8], word: &mut u64) -> u32
+        ensures utf8 { ¬ (IsUtf8 text.now) → result ≡ not_utf8 }
+        ensures word { result ≡ 0 → HasWord empty_tables (map_of self.now.table) text.now word.new }
+        ensures held { result ≡ 0 → IsHeld empty_tables (map_of self.now.table) word.new }
+        ensures unheld { result ≡ not_held → (other : ℕ) → ¬ (HasWord empty_tables (map_of self.now.table) text.now other) }
+        ensures number { IsUtf8 text.now → (result ≡ 0) ⊎ (result ≡ not_held) }
+        ensures err { result ≢ 0 → word.new ≡ word.old }
+    {
+        let Ok(text) = str::from_utf8(text) else {
+            return NOT_UTF8;
+        };
+        match self.table.get(text) {
+            Some(own) => {
+                *word = own;
+                0
+            }
+            None => NOT_HELD,
+        }
+    }
+
+    pub fn clone_word(&mut self, word: u64) -> u32
+        ensures limits { self.new.table.limits ≡ self.old.table.limits }
+        ensures clones { ClonesWord self.old.table word result self.new.table }
+        ensures unheld { ¬ (IsHeld empty_tables (map_of self.old.table) word) → result ≡ not_held }
+        ensures held { result ≡ 0 → IsHeld empty_tables (map_of self.new.table) word }
+        ensures listed { (words : List ℕ) → AreHeld empty_tables (map_of self.old.table) words → result ≡ 0 → AreHeld empty_tables (map_of self.new.table) (word ∷ words) }
+        ensures keeps { (other : ℕ) → KeepsWord empty_tables (map_of self.old.table) (map_of self.new.table) other }
+        ensures order { tickets_of self.new.table.pairs ≡ tickets_of self.old.table.pairs }
+        ensures number { (result ≡ 0) ⊎ (result ≡ 2) ⊎ (result ≡ not_held) }
+        ensures err { result ≢ 0 → self.new ≡ self.old }
+    {
+        if !self.table.holds(word) {
+            return NOT_HELD;
+        }
+        match self.table.clone_word(word) {
+            Ok(_) => 0,
+            Err(fault) => u32::from(fault.number()),
+        }
+    }
+
+    pub fn give(&mut self, word: u64) -> u32
+        ensures limits { self.new.table.limits ≡ self.old.table.limits }
+        ensures gives { IsHeld empty_tables (map_of self.old.table) word → (result ≡ 0) × Gives empty_tables self.old.table.limits (map_of self.old.table) word (map_of self.new.table) }
+        ensures unheld { ¬ (IsHeld empty_tables (map_of self.old.table) word) → result ≡ not_held }
+        ensures listed { (before after : List ℕ) → AreHeld empty_tables (map_of self.old.table) (before ++ word ∷ after) → AreHeld empty_tables (map_of self.new.table) (before ++ after) }
+        ensures keeps { (other : ℕ) → (other ≢ word) ⊎ IsHeld empty_tables (map_of self.new.table) other → KeepsWord empty_tables (map_of self.old.table) (map_of self.new.table) other }
+        ensures order { GoesFrom self.old.table word self.new.table }
+        ensures number { (result ≡ 0) ⊎ (result ≡ not_held) }
+        ensures err { result ≢ 0 → self.new ≡ self.old }
+    {
+        if !self.table.holds(word) {
+            return NOT_HELD;
+        }
+        self.table.give(word);
+        0
+    }
+
+    pub fn holders(&self, word: u64, holders: &mut u64) -> u32
+        ensures holders { result ≡ 0 → HasHolders (map_of self.now.table) word holders.new }
+        ensures unheld { result ≡ not_held → ¬ (IsHeldTicket (map_of self.now.table) word) }
+        ensures number { (result ≡ 0) ⊎ (result ≡ not_held) }
+        ensures err { result ≢ 0 → holders.new ≡ holders.old }
+    {
+        match self.table.holders(word) {
+            Some(number) => {
+                *holders = number;
+                0
+            }
+            None => NOT_HELD,
+        }
+    }
+
+    #[tactic(auto, unfolding(string_cache_core::specs::Table::IsHeld))]
+    pub fn text(&self, word: u64, room: &mut [u8], len: &mut usize) -> u32
+        ensures text { IsHeld empty_tables (map_of self.now.table) word → (text : List ℕ) × IsUtf8 text × HasWord empty_tables (map_of self.now.table) text word × CopiesText text result room.old room.new len.new }
+        ensures same { (text : List ℕ) → IsUtf8 text → HasWord empty_tables (map_of self.now.table) text word → CopiesText text result room.old room.new len.new }
+        ensures unheld { ¬ (IsHeld empty_tables (map_of self.now.table) word) → (result ≡ not_held) × (room.new ≡ room.old) × (len.new ≡ len.old) }
+    {
+        match self.table.text_of(word) {
+            Some(text) => copy_text(text.as_str(), room, len),
+            None => NOT_HELD,
+        }
+    }
+
+    pub fn entry(&self, at: usize, word: &mut u64, holders: &mut u64) -> u32
+        ensures entry { (pair : Pair) → slice_get self.now.table.pairs at ≡ Some pair → (result ≡ 0) × (word.new ≡ pair.1.ticket) × (holders.new ≡ pair.1.holders) }
+        ensures past { slice_get self.now.table.pairs at ≡ None → result ≡ not_held }
+        ensures err { result ≢ 0 → (word.new ≡ word.old) × (holders.new ≡ holders.old) }
+    {
+        match self.table.nth(at) {
+            Some(held) => {
+                *word = held.word;
+                *holders = held.holders;
+                0
+            }
+            None => NOT_HELD,
+        }
+    }
+
+    pub fn reserve(&mut self, more: usize) -> u32
+        ensures same { self.new ≡ self.old }
+        ensures number { (result ≡ 0) ⊎ (result ≡ 1) }
+    {
+        match self.table.reserve(more) {
+            Ok(()) => 0,
+            Err(_) => NO_MEMORY,
+        }
+    }
+}

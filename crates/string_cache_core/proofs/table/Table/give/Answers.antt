@@ -1,0 +1,9 @@
+use Rattle.string_cache_core.specs.Kept.{map_of}
+use Rattle.string_cache_core.proofs.calls.Found.{left-held, right-held}
+use Rattle.string_cache_core.proofs.table.Table.give.Goals as goal
+
+pub returns-clause-left : goal.returns-clause-left
+returns-clause-left g c = left-held g.S.StaticTables.tables (map_of c.args.self.now) (map_of c.release.new.self) c.args.word c.release.ensures.listed
+
+pub returns-clause-right : goal.returns-clause-right
+returns-clause-right g c = right-held g.S.StaticTables.tables (map_of c.args.self.now) (map_of c.release.new.self) c.args.word c.release.ensures.listed

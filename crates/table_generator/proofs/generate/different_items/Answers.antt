@@ -1,0 +1,15 @@
+use Rattle.std.proofs.Common.{inl, refl}
+use Rattle.std.proofs.lemmas.List.Sorted.{IsPermutation-sym}
+use Rattle.table_generator.proofs.Doubles.{double_permuted}
+use Rattle.table_generator.proofs.generate.different_items.Goals as goal
+
+pub has_repeat-requires-clause-grouped : goal.has_repeat-requires-clause-grouped
+has_repeat-requires-clause-grouped c = rw c.deref.ensures.value c.in-Ok.ensures.grouped
+
+pub returns-then-has_repeat-clause-fault : goal.returns-then-has_repeat-clause-fault
+returns-then-has_repeat-clause-fault c =
+    inl (refl, double_permuted _ _ (IsPermutation-sym _ _ c.in-Ok.ensures.texts) (rw c.deref.ensures.value at c.if-has_repeat.ensures.yes))
+
+pub returns-else-has_repeat-clause-differ : goal.returns-else-has_repeat-clause-differ
+returns-else-has_repeat-clause-differ c = λ double.
+    (rw c.deref.ensures.value at c.if-has_repeat.ensures.no) (double_permuted _ _ c.in-Ok.ensures.texts double)
