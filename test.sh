@@ -18,19 +18,26 @@ trap 'kill $(jobs -p) 2>/dev/null; rm -rf "$said"' EXIT
 passed=0
 failed=0
 
-# Runs a part of the gate under a name, which keeps what it says and its status.
+# What a line says that tells of something that failed.
+wrong='WRONG|FAILED|BAD EDIT|NOT (PROVED|REFUSED|TRIED|CHECKED)'
+
+# Runs a part of the gate under a name, which keeps what it says, its status and its time.
 run() {
-    local name=$1
+    local name=$1 begun=$SECONDS
     shift
     echo "== $*"
     "$@" 2>&1 | tee "$said/$name"
     echo "${PIPESTATUS[0]}" > "$said/$name.status"
+    echo $((SECONDS - begun)) > "$said/$name.seconds"
 }
 
-# Adds the numbers of a part's closing line 'N passed, M failed'. A part without one has failed.
+# Adds the numbers of a part's closing line 'N passed, M failed', and says them once more with its time and with what failed.
+# A part without that line has failed.
 add() {
     local line
     line=$(grep -E '^[0-9]+ passed, [0-9]+ failed$' "$said/$1" | tail -n 1)
+    echo "part $1: ${line:-no closing line}, $(< "$said/$1.seconds") s"
+    grep -E "$wrong" "$said/$1" | tail -n 20
     if [[ $line =~ ^([0-9]+)\ passed,\ ([0-9]+)\ failed$ ]]; then
         passed=$((passed + BASH_REMATCH[1]))
         failed=$((failed + BASH_REMATCH[2]))
@@ -62,6 +69,7 @@ cat "$said/bodies"
 wait "$scenes"
 cat "$said/scenes"
 
+echo "== by parts, on $(nproc) processors, some of them beside each other"
 add ci
 add refused
 add static

@@ -151,7 +151,7 @@ class Trials:
         self.tasks.put(functools.partial(task, *words))
 
     def tell(self, label, passed, text):
-        print(f"caught {label}: {text}", flush=True)
+        print(f"caught {label}: {'' if passed else 'WRONG: '}{text}", flush=True)
         self.results.append(passed)
 
 
