@@ -75,10 +75,11 @@ def compare_searches(program, scene):
     """Whether the search by order comes to each outcome of the plain search of all schedules, and to no other answers."""
     plain = search(program, Search(99).words(), scene.arguments())
     by_order = search(program, Search(is_by_order=True).words(), scene.arguments())
+    is_cut = plain.is_cut or by_order.is_cut
     missed = {tuple(it.lines) for it in plain.outcomes} - {tuple(it.lines) for it in by_order.outcomes}
     is_same = {untimed(it) for it in plain.outcomes} == {untimed(it) for it in by_order.outcomes}
-    well = not (plain.error or by_order.error or plain.is_cut or by_order.is_cut or missed) and is_same
-    said = "the same outcomes" if well else "WRONG: other outcomes"
+    well = not (plain.error or by_order.error or missed) and is_same and not is_cut
+    said = "the same outcomes" if well else "WRONG: cut, where all are to be tried" if is_cut else "WRONG: other outcomes"
     print(f"schedules {scene.name}, all of them: {plain.schedules}, by order {by_order.schedules}: {said}", flush=True)
     return well
 
@@ -120,11 +121,12 @@ def try_all(words, scenes, is_built):
     if not is_built:
         build(TOP / "crates" / "schedules", PROGRAM)
     totals = Counter()
-    results = [try_scene(PROGRAM, scene, totals) for scene in scenes if not words or any(word in scene.name for word in words)]
+    chosen = [scene for scene in scenes if not words or any(word in scene.name for word in words)]
+    results = [try_scene(PROGRAM, scene, totals) for scene in chosen]
     print(f"schedules in all: {'; '.join(f'{how}: {count}' for how, count in totals.items())}", flush=True)
+    results += [compare_searches(PROGRAM, scene) for scene in chosen if scene.is_compared]
     if words:
         return results
-    results += [compare_searches(PROGRAM, scene) for scene in scenes if scene.is_compared]
     results.append(try_unordered(PROGRAM, scenes[0]))
     if not is_built:
         build(TOP / "crates" / "atoms", COUNTING)
