@@ -32,7 +32,7 @@ WARNINGS = ["-Wall", "-Wextra", "-Wpedantic", "-Wshadow", "-Werror"]
 AS_C = ["-std=c11", *WARNINGS]
 AS_CPP = ["-std=c++17", *WARNINGS]
 SANITIZED = ["-g", "-O1", "-fsanitize=address,undefined", "-fno-sanitize-recover=all"]
-REFUSING = ["-Wl,--wrap=malloc", "-Wl,--wrap=realloc"]  # of tests/memory.c and tests/heap.c
+WRAPPED = {"heap": ("malloc", "realloc"), "memory": ("malloc", "realloc", "free"), "counted": ("malloc", "realloc", "free")}  # by programs of tests
 OUTCOME = re.compile(r"^test (.+) \.\.\. (\w+)$", re.MULTILINE)
 
 
@@ -110,7 +110,7 @@ def outcomes(said):
 def c_tests(name):
     """The ways in which a program of tests in C is run, by their names."""
     sources = [C / "tests" / f"{name}.c"]
-    more = REFUSING if name in ("memory", "heap") else []
+    more = [f"-Wl,--wrap={function}" for function in WRAPPED.get(name, ())]
 
     def plain(place):
         return outcomes(said_by(built(place, name, cc(), sources, *AS_C, "-O2", *more)))
@@ -247,7 +247,7 @@ def python_tests(place):
 def rows():
     """What is tested, by its name. Each gives the number of its tests that passed."""
     found = {"c example": example, "c header": header_alone, "c exports": exported, "c pkg-config": by_pkg_config}
-    for name in ("calls", "hostile", "memory", "heap", "model"):
+    for name in ("calls", "hostile", "memory", "heap", "counted", "model"):
         found.update(c_tests(name))
     found.update({"c lexer": lexer_tests, "c scopes": scopes, "c count_names": count_names, "cpp": cpp_tests, "cpp sanitized": cpp_checked})
     found.update({"rust": rust_tests, "rust facade": facade_tests, "python": python_tests})

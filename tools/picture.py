@@ -7,6 +7,7 @@
 import math
 import re
 import sys
+from dataclasses import dataclass
 from html import escape
 
 STYLE = """
@@ -28,14 +29,25 @@ LEFT, WIDTH, ROW = 330, 420, 20
 LOW, HIGH = 1 / 32, 32
 
 
+@dataclass
+class Bar:
+    """What is compared: the group that it stands in, its name there, our figure and the other's, and what they count."""
+
+    group: str
+    name: str
+    ours: float
+    plain: float
+    unit: str = "ns"
+
+
 def read(lines):
-    """The rows that have a ratio: what was run, the call, and both times."""
-    rows = []
+    """The lines that have a ratio, each with what was run as its group."""
+    bars = []
     for line in lines:
         words = re.split(r"\s{2,}", line.strip())
         if len(words) == 5 and re.fullmatch(r"[0-9.]+", words[4]):
-            rows.append((words[0], words[1], float(words[2]), float(words[3])))
-    return rows
+            bars.append(Bar(group_name(words[0]), words[1], float(words[2]), float(words[3])))
+    return bars
 
 
 def group_name(what):
@@ -56,26 +68,29 @@ def across(ratio):
     return LEFT + WIDTH * math.log(ratio / LOW) / math.log(HIGH / LOW)
 
 
-def bar(y, call, ours, plain):
-    ratio = ours / plain if plain else 1.0
+def drawn_bar(y, bar):
+    ratio = bar.ours / bar.plain if bar.plain else 1.0
     start, end = sorted((across(1), across(ratio)))
     kind = "faster" if ratio <= 1 else "slower"
-    yield f'<text x="{LEFT - 8}" y="{y + 14}" text-anchor="end">{escape(call)}</text>'
+    yield f'<text x="{LEFT - 8}" y="{y + 14}" text-anchor="end">{escape(bar.name)}</text>'
     yield f'<rect class="{kind}" x="{start:.1f}" y="{y + 4}" width="{max(end - start, 1):.1f}" height="{ROW - 7}" rx="2"/>'
-    label = f"{ours:,.0f} ns to {plain:,.0f} ns" if ours >= 20 else f"{ours:.1f} ns to {plain:.1f} ns"
+    figures = (bar.ours, bar.plain)
+    places = 0 if bar.ours >= 20 or all(figure.is_integer() for figure in figures) else 1
+    label = " to ".join(f"{figure:,.{places}f} {bar.unit}" for figure in figures)
     yield f'<text x="{LEFT + WIDTH + 12}" y="{y + 14}">{label}</text>'
 
 
-def drawn(rows):
+def drawn(bars, same):
+    """The lines of the picture, and how high it is. The words of `same` stand where a ratio is 1."""
     lines, y, last = [], 34, None
-    for what, call, ours, plain in rows:
-        if what != last:
-            lines.append(f'<text class="group" x="12" y="{y + 14}">{escape(group_name(what))}</text>')
-            y, last = y + ROW, what
-        lines.extend(bar(y, call, ours, plain))
+    for bar in bars:
+        if bar.group != last:
+            lines.append(f'<text class="group" x="12" y="{y + 14}">{escape(bar.group)}</text>')
+            y, last = y + ROW, bar.group
+        lines.extend(drawn_bar(y, bar))
         y += ROW
     scale = []
-    for ratio, name in ((1 / 16, "1/16"), (1 / 4, "1/4"), (1, "the same time"), (4, "4"), (16, "16")):
+    for ratio, name in ((1 / 16, "1/16"), (1 / 4, "1/4"), (1, same), (4, "4"), (16, "16")):
         x = across(ratio)
         kind = "one" if ratio == 1 else "axis"
         scale.append(f'<line class="{kind}" x1="{x:.1f}" y1="28" x2="{x:.1f}" y2="{y}"/>')
@@ -83,17 +98,22 @@ def drawn(rows):
     return scale + lines, y + 12
 
 
-def main():
-    rows = read(sys.stdin)
-    if not rows:
-        sys.exit("no line has a ratio: ask compare.sh")
-    body, height = drawn(rows)
+def print_picture(bars, what, same):
+    """Prints the picture of these bars, and what it shows for who doesn't see it."""
+    body, height = drawn(bars, same)
     width = LEFT + WIDTH + 190
     print(f'<svg xmlns="http://www.w3.org/2000/svg" viewBox="0 0 {width} {height}" role="img"')
-    print('  aria-label="The time of each call as a ratio to plain code over std; bars to the left are faster">')
+    print(f'  aria-label="{what}">')
     print(f"<style>{STYLE}</style>")
     print("\n".join(body))
     print("</svg>")
+
+
+def main():
+    bars = read(sys.stdin)
+    if not bars:
+        sys.exit("no line has a ratio: ask compare.sh")
+    print_picture(bars, "The time of each call as a ratio to plain code over std; bars to the left are faster", "the same time")
 
 
 if __name__ == "__main__":

@@ -26,6 +26,7 @@ uint32_t sc_table_holders(sc_table *table, uint64_t word, uint64_t *holders);
 uint32_t sc_table_text(sc_table *table, uint64_t word, uint8_t *room, size_t room_len, size_t *len);
 size_t sc_table_entries(sc_table *table);
 uint64_t sc_table_text_bytes(sc_table *table);
+uint64_t sc_table_memory(sc_table *table);
 uint32_t sc_table_entry(sc_table *table, size_t place, uint64_t *word, uint64_t *holders);
 uint32_t sc_table_clear(sc_table *table);
 uint32_t sc_table_reserve(sc_table *table, size_t more);

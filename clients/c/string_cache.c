@@ -153,6 +153,10 @@ uint64_t sc_text_bytes(sc_table *table) {
     return is_handle(table) ? sc_table_text_bytes(table) : 0;
 }
 
+uint64_t sc_memory(sc_table *table) {
+    return is_handle(table) ? sc_table_memory(table) : 0;
+}
+
 sc_number sc_entry(sc_table *table, size_t place, uint64_t *word, uint64_t *holders) {
     uint64_t found = 0;
     uint64_t count = 0;

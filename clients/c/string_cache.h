@@ -116,6 +116,11 @@ SC_EXPORT size_t sc_entries(sc_table *table);
 /* How many bytes these texts have together, or 2^64 - 1 where that is more. 0 for a closed table and for null. */
 SC_EXPORT uint64_t sc_text_bytes(sc_table *table);
 
+/* How many bytes the table has asked of malloc and still holds, as they were asked for; or 2^64 - 1 where that is more. A text that goes gives
+ * its bytes back, and the room of its entry stays until the table is closed. Where malloc refused while the table grew, what it got before
+ * that isn't counted until it has grown. The sc_table itself isn't counted. 0 for a closed table and for null. */
+SC_EXPORT uint64_t sc_memory(sc_table *table);
+
 /* The word and the holders of the entry at a place, from 0 on: a new entry comes last, and where one goes, the last one comes in its place.
  * Takes constant time. Either pointer may be null where it isn't asked for.
  * SC_NOT_HELD from sc_entries on, SC_CLOSED, SC_BAD_ARGUMENT. */

@@ -150,6 +150,9 @@ public:
     bool empty() const noexcept { return size() == 0; }
     std::uint64_t text_bytes() const noexcept { return sc_text_bytes(table_.get()); }
 
+    // How many bytes of memory the table has asked for and still holds: see sc_memory.
+    std::uint64_t memory() const noexcept { return sc_memory(table_.get()); }
+
     // The symbol and the number of holders at a place of the order, which is that in which texts came until one goes: then the last one comes
     // in its place. The symbol that is given is one more holder. std::out_of_range from size() on.
     std::pair<Symbol, std::uint64_t> at(std::size_t place) {

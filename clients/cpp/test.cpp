@@ -128,6 +128,23 @@ void refusals_are_thrown() {
     CHECK(names.size() == 2 && name.text() == "a longer name");
 }
 
+// With one bucket, a second text in the first group of places takes its own bytes and no more.
+void memory_is_told() {
+    Interner names(9, 9, 0);
+    const std::uint64_t empty = names.memory();
+    const Symbol first = names.intern("a longer name");
+    const std::uint64_t one = names.memory();
+    const Symbol copy = first, inline_name = names.intern("short");
+    CHECK(empty > 8 && one == empty + 13 + 496 + 208 + 1 && names.memory() == one);
+    {
+        const Symbol second = names.intern("another long name");
+        CHECK(names.memory() == one + 17);
+    }
+    CHECK(names.memory() == one);
+    names.reserve(1000);
+    CHECK(names.memory() > one + 64 * 1000);
+}
+
 void an_interner_is_moved() {
     Interner names;
     const Symbol name = names.intern("a longer name");
@@ -150,6 +167,7 @@ const Test tests[] = {
     {"names_stand_in_order", names_stand_in_order},
     {"symbols_are_keys", symbols_are_keys},
     {"refusals_are_thrown", refusals_are_thrown},
+    {"memory_is_told", memory_is_told},
     {"an_interner_is_moved", an_interner_is_moved},
 };
 

@@ -85,6 +85,7 @@ def _loaded(path: str) -> ctypes.CDLL:
         ("sc_text", number, [table, word, ctypes.c_char_p, size, sizes]),
         ("sc_entries", size, [table]),
         ("sc_text_bytes", word, [table]),
+        ("sc_memory", word, [table]),
         ("sc_entry", number, [table, size, words, words]),
         ("sc_clear", number, [table]),
         ("sc_reserve", number, [table, size]),
@@ -204,6 +205,11 @@ class Interner:
         """How many bytes the texts of more than 7 bytes have together."""
         with self._lock:
             return _library.sc_text_bytes(self._table)
+
+    def memory(self) -> int:
+        """How many bytes of memory the table has asked for and still holds. 0 once it is closed."""
+        with self._lock:
+            return _library.sc_memory(self._table)
 
     def close(self) -> None:
         """Frees all that is kept. Every later call raises Closed; a second close does nothing."""

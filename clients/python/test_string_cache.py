@@ -77,6 +77,21 @@ class Interning(unittest.TestCase):
         self.assertRaises(ValueError, self.names.reserve, -1)
         self.names.reserve(1000)
 
+    def test_memory_is_told(self) -> None:
+        with Interner(bucket_bits=0) as names:  # a second text in the first group of places takes its own bytes and no more
+            empty = names.memory()
+            names.intern("a longer name")
+            one = names.memory()
+            self.assertEqual((empty > 8, one), (True, empty + 13 + 496 + 208 + 1))
+            names.intern("short")
+            second = names.intern("日本語の名前")
+            self.assertEqual(names.memory(), one + 18)
+            names.release(second)
+            self.assertEqual(names.memory(), one)
+            names.reserve(1000)
+            self.assertGreater(names.memory(), one + 64 * 1000)
+        self.assertEqual(names.memory(), 0)
+
     def test_clearing_takes_all_away(self) -> None:
         word = self.names.intern("a longer name")
         self.names.clear()

@@ -72,7 +72,7 @@ static bool all_answer(sc_table *table, sc_number number) {
     same = same && sc_get(table, "abc", 3, &word) == number && sc_clone(table, 1) == number && sc_give(table, 1) == number;
     same = same && sc_holders(table, 1, &holders) == number && sc_text(table, 1, room, ROOM, &len) == number;
     same = same && sc_entry(table, 0, &word, &holders) == number && sc_clear(table) == number && sc_reserve(table, 1) == number;
-    same = same && !sc_holds(table, 1) && sc_entries(table) == 0 && sc_text_bytes(table) == 0;
+    same = same && !sc_holds(table, 1) && sc_entries(table) == 0 && sc_text_bytes(table) == 0 && sc_memory(table) == 0;
     sc_close(table);
     return same && word == 77 && holders == 77 && len == 77;
 }

@@ -1,30 +1,11 @@
-/* Each request for memory refused in turn: the call says so, changes nothing, and does its work when it is made again.
- * Linked with --wrap=malloc and --wrap=realloc. */
+/* Each request for memory refused in turn: the call says so, changes nothing, and does its work when it is made again. */
 #include <stdlib.h>
 
+#include "counted_heap.h"
 #include "string_cache.h"
 #include "texts.h"
 
 enum { TEXTS = 200, MOST = 2000 };
-
-static long before_refusal = -1; /* how many requests are still given; none is refused below 0 */
-
-void *__real_malloc(size_t size);
-void *__real_realloc(void *block, size_t size);
-void *__wrap_malloc(size_t size);
-void *__wrap_realloc(void *block, size_t size);
-
-static bool is_refused(void) {
-    return before_refusal >= 0 && before_refusal-- == 0;
-}
-
-void *__wrap_malloc(size_t size) {
-    return is_refused() ? NULL : __real_malloc(size);
-}
-
-void *__wrap_realloc(void *block, size_t size) {
-    return is_refused() ? NULL : __real_realloc(block, size);
-}
 
 /* Opens a table, again where memory was refused. How often it was. */
 static int open_again(sc_table *table) {

@@ -222,6 +222,12 @@ impl Interner {
         unsafe { sys::sc_text_bytes(self.table.get()) }
     }
 
+    /// How many bytes of memory the table has asked for and still holds. A name that goes gives its bytes back, and its place stays for the
+    /// next one. The `Interner` itself isn't counted.
+    pub fn memory(&self) -> u64 {
+        unsafe { sys::sc_memory(self.table.get()) }
+    }
+
     /// Takes all names away. No symbol that was given comes again.
     pub fn clear(&mut self) {
         // An open table refuses no clear.

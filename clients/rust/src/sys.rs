@@ -44,6 +44,7 @@ extern "C" {
     pub fn sc_text(table: *mut Table, word: u64, room: *mut c_char, room_len: usize, len: *mut usize) -> u32;
     pub fn sc_entries(table: *mut Table) -> usize;
     pub fn sc_text_bytes(table: *mut Table) -> u64;
+    pub fn sc_memory(table: *mut Table) -> u64;
     pub fn sc_entry(table: *mut Table, place: usize, word: *mut u64, holders: *mut u64) -> u32;
     pub fn sc_clear(table: *mut Table) -> u32;
     pub fn sc_reserve(table: *mut Table, more: usize) -> u32;

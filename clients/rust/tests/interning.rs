@@ -190,6 +190,25 @@ fn room_that_no_machine_has_is_refused() {
     assert!(names.is_empty());
 }
 
+/// With one bucket, a second name in the first group of places takes its own bytes and no more.
+#[test]
+fn memory_is_told() {
+    let mut names = Interner::with_limits(9, 9, 0).expect("an interner");
+    let empty = names.memory();
+    intern(&mut names, "a longer name");
+    let one = names.memory();
+    assert!(empty > 8 && one == empty + 13 + 496 + 208 + 1);
+    intern(&mut names, "short");
+    let second = intern(&mut names, "日本語の名前");
+    assert_eq!(names.memory(), one + 18);
+    assert!(names.release(second));
+    assert_eq!(names.memory(), one);
+    names.clear();
+    assert_eq!(names.memory(), one - 13);
+    names.reserve(1000).expect("room");
+    assert!(names.memory() > one + 64 * 1000);
+}
+
 #[test]
 fn an_interner_goes_to_another_thread() {
     let mut names = new_interner();

@@ -1,8 +1,9 @@
 -- What a call says of the table that C holds.
-use Rattle.std.specs.Prelude.{◌≡◌, ℕ, ◌⊎◌, ◌<◌, ◌≤◌, ◌++◌, ⊤, List, drop, length, Option, None, Some, Result}
+use Rattle.std.specs.Prelude.{◌≡◌, ℕ, ◌⊎◌, ◌<◌, ◌≤◌, ◌+◌, ◌-◌, ◌^◌, ◌++◌, ⊤, List, drop, length, min, Option, None, Some, Result}
 use Rattle.std.specs.List.{sum_by}
 use Rattle.std.specs.Str.{IsUtf8}
 use Rattle.string_cache_core.specs.Kept.{Kept, map_of}
+use Rattle.string_cache_core.specs.Memory.{IsMemory}
 use Rattle.string_cache_core.specs.Table.{Interns, Clones, IsHeld}
 use Rattle.string_cache_core.specs.Tables.{empty_tables}
 use Rattle.string_cache_core.specs.declared.faults.Fault.{Fault}
@@ -55,3 +56,11 @@ entries_of (Some words) = length words.table.pairs
 abbrev pub text_bytes_of : Option Words → ℕ
 text_bytes_of None = 0
 text_bytes_of (Some words) = sum_by (λ pair. length pair.0) words.table.pairs
+
+-- the bytes of the block in which the handle has a table
+abbrev pub block_size : ℕ
+block_size = 240
+
+-- The bytes that a table takes with its block, or the most that 64 bits tell.
+abbrev pub TellsMemory : Kept → ℕ → Type 0
+TellsMemory kept told = (bytes : ℕ) × IsMemory kept bytes × (told ≡ min (bytes + block_size) (2 ^ 64 - 1))

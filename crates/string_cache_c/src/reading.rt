@@ -7,7 +7,7 @@ ghost use Rattle.string_cache_core.specs.Kept.{Pair, map_of};
 ghost use Rattle.string_cache_core.specs.Map.{HasHolders, IsHeldTicket};
 ghost use Rattle.string_cache_core.specs.Table.{HasWord, IsHeld};
 ghost use Rattle.string_cache_core.specs.Tables.{empty_tables};
-ghost use Rattle.string_cache_c.specs.Calls.{CopiesText, HoldsWord, IfOpen, entries_of, text_bytes_of};
+ghost use Rattle.string_cache_c.specs.Calls.{CopiesText, HoldsWord, IfOpen, TellsMemory, entries_of, text_bytes_of};
 ghost use Rattle.string_cache_c.specs.Numbers.{closed, not_held};
 
 use crate::handle::ScTable;
@@ -115,6 +115,22 @@ pub extern "C" fn sc_table_text_bytes(t: &mut ScTable) -> u64
         Ok(bytes) => bytes,
         Err(_) => u64::MAX,
     };
+    t.put(words);
+    bytes
+}
+
+/// How many bytes the table has asked for and still holds: those that `Table::memory` tells, and the block in which the handle has the
+/// table; 2^64 - 1 where they are as many or more. A closed table holds none.
+#[unsafe(no_mangle)]
+pub extern "C" fn sc_table_memory(t: &mut ScTable) -> u64
+    ensures none { t.old.seat.value ≡ None → result ≡ 0 }
+    ensures memory { IfOpen t.old.seat.value (λ kept. TellsMemory kept result) }
+    ensures same { t.new.seat.value ≡ t.old.seat.value }
+{
+    let Some(words) = t.take() else {
+        return 0;
+    };
+    let bytes = words.memory();
     t.put(words);
     bytes
 }

@@ -7,11 +7,12 @@ ghost use Rattle.string_cache_core.specs.Order.{ComesLast, GoesFrom};
 ghost use Rattle.string_cache_core.specs.Table.{AreHeld, Gives, GivesOnce, HasOneTextEach, HasWord, IsHeld, IsTextOf, KeepsWord};
 ghost use Rattle.string_cache_core.specs.Tables.{empty_tables};
 ghost use Rattle.string_cache_core.specs.Word.{inline_word};
-ghost use Rattle.string_cache_c.specs.Calls.{ClonesWord, CopiesText, InternsText};
+ghost use Rattle.string_cache_c.specs.Calls.{ClonesWord, CopiesText, InternsText, TellsMemory};
 ghost use Rattle.string_cache_c.specs.Numbers.{not_held, not_utf8};
 
 use crate::copies::copy_text;
 use crate::numbers::{NO_MEMORY, NOT_HELD, NOT_UTF8};
+use std::mem::size_of;
 use std::str;
 use string_cache_core::static_sets::EmptyStaticAtomSet;
 use string_cache_core::table::Table;
@@ -156,6 +157,15 @@ impl Words {
         match self.table.reserve(more) {
             Ok(()) => 0,
             Err(_) => NO_MEMORY,
+        }
+    }
+
+    pub fn memory(&self) -> u64
+        ensures { TellsMemory self.now.table result }
+    {
+        match u64::try_from(self.table.memory()) {
+            Ok(bytes) => bytes.saturating_add(size_of::<Words>() as u64),
+            Err(_) => u64::MAX,
         }
     }
 }
