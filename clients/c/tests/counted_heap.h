@@ -8,8 +8,8 @@
 
 enum { BEFORE_BLOCK = 16 }; /* bytes in front of a block, which tell its size and keep its alignment */
 
-static size_t bytes_given;      /* as they were asked for, of all blocks that weren't given back */
-static size_t blocks_given;     /* the blocks that weren't given back */
+static size_t bytes_given;       /* as they were asked for, of all blocks that weren't given back */
+static size_t blocks_given;      /* the blocks that weren't given back */
 static long before_refusal = -1; /* how many requests are still given before one is refused; none is below 0 */
 
 void *__real_malloc(size_t size);
