@@ -59,7 +59,7 @@ text_bytes_of (Some words) = sum_by (λ pair. length pair.0) words.table.pairs
 
 -- the bytes of the block in which the handle has a table
 abbrev pub block_size : ℕ
-block_size = 240
+block_size = 304
 
 -- The bytes that a table takes with its block, or the most that 64 bits tell.
 abbrev pub TellsMemory : Kept → ℕ → Type 0
