@@ -16,8 +16,8 @@ pub use program::{File, Function, Program};
 pub use symbols::{is_keyword, reads_back, same_word};
 pub use tables::{first_text, is_known, lengths_of_both};
 pub use upkeep::{
-    all_held, bytes_for_each, last_text, make_room, shared_texts, small_table, start_over,
-    table_of, table_with_holders, takes_at_most, usual_length,
+    all_held, any_shared, bytes_for_each, last_text, make_room, small_table, start_over, table_of,
+    table_with_holders, takes_at_most, usual_length,
 };
 pub use words::{
     are_one_name, comes_and_goes, first_byte, hand_on, is_shared, lent_text, price_of, share,

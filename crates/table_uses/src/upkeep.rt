@@ -1,7 +1,7 @@
 //! The upkeep of a table: how one is made, what it holds, how much memory it takes, and how it starts over.
 
 ghost use Rattle.std.specs.Prelude.{◌≡◌, ◌↔◌, ◌/◌, ◌-◌, ◌^◌, ◌<◌, ◌≤◌, ℕ, List, IfOk, IfSome, IsSome, IsTrue, MatchOption, None, OnOk, Some, length, nat_lt, slice_get};
-ghost use Rattle.std.specs.List.{All, count_by, sum_by};
+ghost use Rattle.std.specs.List.{All, list_any, sum_by};
 ghost use Rattle.string_cache_core.specs.Bounds.{AreBounds};
 ghost use Rattle.string_cache_core.specs.Kept.{Pair, map_of};
 ghost use Rattle.string_cache_core.specs.Layout.{serial_bound};
@@ -72,11 +72,11 @@ pub fn all_held<S: StaticTables>(table: &Table<S>, words: &[u64]) -> bool
     words.iter().all(|word| table.holds(*word))
 }
 
-/// How many texts have more than one holder.
-pub fn shared_texts<S: StaticTables>(table: &Table<S>) -> usize
-    ensures { result ≡ count_by (λ (pair : Pair). nat_lt 1 pair.1.holders) table.now.pairs }
+/// Whether any text has more than one holder.
+pub fn any_shared<S: StaticTables>(table: &Table<S>) -> bool
+    ensures { result ≡ list_any (λ (pair : Pair). nat_lt 1 pair.1.holders) table.now.pairs }
 {
-    table.iter().filter(|held| held.holders > 1).count()
+    table.iter().any(|held| held.holders > 1)
 }
 
 /// The last of the dynamic texts that are held, in the table's order. `None` where none is.

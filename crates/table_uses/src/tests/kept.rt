@@ -2,7 +2,7 @@
 
 use super::{Plain, new_table, word_of};
 use crate::{
-    all_done, all_held, bytes_for_each, first_text, last_text, make_room, shared_texts,
+    all_done, all_held, any_shared, bytes_for_each, first_text, last_text, make_room, shared_texts,
     small_table, start_over, table_with_holders, takes_at_most, usual_length,
 };
 use std::alloc::Global;
@@ -32,27 +32,17 @@ fn tables_have_a_first_and_a_last_text(rt: HostRuntime) {
     );
 }
 
-/// How many texts are shared among these names.
-fn shared_among(rt: &impl Abort, alloc: Global, names: &[&str]) -> usize {
+/// Whether any text is shared among these names.
+fn shares_any(rt: &impl Abort, alloc: Global, names: &[&str]) -> bool {
     let table = new_table(rt, alloc, names);
-    shared_texts(&table)
+    any_shared(&table)
 }
 
 #[test]
-fn shared_texts_are_counted(rt: HostRuntime) {
-    assert_eq!(rt; shared_among(&rt, rt.alloc(), &[]), 0);
-    assert_eq!(rt;
-        shared_among(&rt, rt.alloc(), &["pear tree", "plum tree"]),
-        0
-    );
-    let names = [
-        "pear tree",
-        "plum tree",
-        "figs and dates",
-        "plum tree",
-        "pear tree",
-    ];
-    assert_eq!(rt; shared_among(&rt, rt.alloc(), &names), 2);
+fn shared_texts_are_seen(rt: HostRuntime) {
+    assert!(rt; !shares_any(&rt, rt.alloc(), &[]));
+    assert!(rt; !shares_any(&rt, rt.alloc(), &["pear tree", "plum tree", "tea", "tea"])); // inline
+    assert!(rt; shares_any(&rt, rt.alloc(), &["pear tree", "plum tree", "plum tree"]));
 }
 
 /// How long the texts of these names are on average.

@@ -6,7 +6,6 @@ use Rattle.string_cache_core.specs.Kept.{map_of}
 use Rattle.string_cache_core.specs.Map.{InternMap}
 use Rattle.string_cache_core.specs.Table.{IsWordOf}
 use Rattle.string_cache_core.specs.Tables.{empty_tables}
-use Rattle.table_uses.specs.Known.{AreKnown}
 use Rattle.table_uses.proofs.upkeep.table_of.Goals as goal
 
 abbrev IsKnown : InternMap → Bor (List ℕ) → Type 0
