@@ -2,8 +2,8 @@
 
 use super::{Plain, new_table, word_of};
 use crate::{
-    all_done, all_held, any_shared, bytes_for_each, first_text, last_text, make_room, shared_texts,
-    small_table, start_over, table_with_holders, takes_at_most, usual_length,
+    all_done, all_held, any_shared, bytes_for_each, first_text, last_text, make_room, small_table,
+    start_over, table_with_holders, takes_at_most, usual_length,
 };
 use std::alloc::Global;
 use std::process::Abort;

@@ -8,6 +8,7 @@ use crate::{
 use std::alloc::Global;
 use std::collections::HashMap;
 use std::process::Abort;
+use string_cache_core::Fault;
 use string_cache_core::samples::One;
 use string_cache_core::table::Table;
 
@@ -110,19 +111,18 @@ fn texts_are_lent(rt: HostRuntime) {
     assert!(rt; !lends(&rt, &table, "plum")); // inline
 }
 
-/// Prices by word, with one of this name.
-fn one_price(rt: &impl Abort, alloc: Global, table: &Plain, name: &str) -> HashMap<u64, u32> {
+/// Prices by word, with one of this word.
+fn one_price(alloc: Global, word: u64) -> Result<HashMap<u64, u32>, Fault> {
     let mut prices = HashMap::new(alloc);
-    prices
-        .insert(word_of(rt, table, name), 40)
-        .expect(rt, "room");
-    prices
+    prices.insert(word, 40)?;
+    Ok(prices)
 }
 
 #[test]
 fn prices_are_found_by_text(rt: HostRuntime) {
     let table = new_table(&rt, rt.alloc(), &["pear tree"]);
-    let prices = one_price(&rt, rt.alloc(), &table, "pear tree");
+    let pear = word_of(&rt, &table, "pear tree");
+    let prices = one_price(rt.alloc(), pear).expect(&rt, "prices");
     assert_eq!(rt; price_of(&table, &prices, "pear tree"), Some(40));
     assert_eq!(rt; price_of(&table, &prices, "plum tree"), None); // not held
     assert_eq!(rt; price_of(&table, &prices, "plum"), None);
