@@ -1,4 +1,3 @@
 -- The definitions that contracts cite.
-pub mod Lengths
 pub mod Prices
 pub mod Tags

@@ -1,11 +1,12 @@
-//! Atoms as JSON.
+//! Atoms as JSON, alone and in a struct.
 
 ghost use Rattle.std.specs.Prelude.{◌≡◌, ◌≢◌, Some, IfErr, IfOk, option_and_then, string_bytes};
 ghost use Rattle.serde_json.specs.Data.{Data, string};
 ghost use Rattle.serde_json.specs.Find.{as_str};
 ghost use Rattle.serde_json.specs.Read.{read};
 
-use serde_json::Value;
+use serde::Serialize;
+use serde_json::{Error, Value};
 use std::alloc::Global;
 use std::sync::Wait;
 use string_cache::dynamic_set::Set;
@@ -43,4 +44,16 @@ pub fn load<'s, R: Wait>(
 {
     let value = Value::from_str(alloc, json)?;
     Ok(DefaultAtom::from_json_in(rt, set, &value)?)
+}
+
+/// A name and its price.
+#[derive(Drop, Serialize)]
+pub struct Priced<'s> {
+    pub name: DefaultAtom<'s>,
+    pub price: u32,
+}
+
+/// The JSON text of a price, as `{"name":"tea","price":3}`.
+pub fn priced_json(alloc: Global, priced: &Priced<'_>) -> Result<String, Error> {
+    serde_json::to_string(alloc, priced)
 }

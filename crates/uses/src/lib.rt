@@ -8,20 +8,22 @@ ghost use Rattle.std.specs.Ordering.{nat_cmp};
 ghost use Rattle.std.specs.Str.{str_to_ascii_uppercase};
 
 mod dishes;
+mod generated;
 mod headers;
 mod json;
 mod prices;
+mod sets;
 mod sharing;
-mod symbols;
-mod tables;
 mod tags;
 #[cfg(test)]
 mod tests;
 
 pub use dishes::{DISHES_TABLES, Dishes};
+pub use generated::tables_of_names;
 pub use headers::header_name;
-pub use json::{load, save, through_json};
-pub use prices::{price_of, set_price};
+pub use json::{Priced, load, priced_json, save, through_json};
+pub use prices::{price_of, price_of_text, set_price};
+pub use sets::large_set;
 pub use sharing::{agree, agree_in_scope};
 use std::alloc::Global;
 use std::cmp::Ordering;
@@ -29,8 +31,6 @@ use std::collections::HashMap;
 use std::sync::Wait;
 use string_cache::dynamic_set::Set;
 use string_cache::{DefaultAtom, Fault};
-pub use symbols::{is_keyword, reads_back, same_word};
-pub use tables::{File, Function, Program, first_text, is_known, lengths_of_both};
 pub use tags::{TAGS, Tag, Tags, finds_all, is_field};
 
 /// How one name stands to another.

@@ -1,10 +1,12 @@
 //! A map whose keys are atoms.
 
-ghost use Rattle.std.specs.Prelude.{◌≡◌, ◌≢◌, ℕ, List, OnOk, Some};
+ghost use Rattle.std.specs.Prelude.{◌≡◌, ◌≢◌, ◌≤◌, ℕ, List, IfOk, IfSome, Ok, OnOk, Some, length};
 ghost use Rattle.uses.specs.Prices.{price_in};
 
 use std::collections::HashMap;
-use string_cache::{DefaultAtom, Fault};
+use std::sync::Wait;
+use string_cache::dynamic_set::Set;
+use string_cache::{DefaultAtom, EmptyStaticAtomSet, Fault};
 
 /// Prices by name.
 pub type Prices<'s> = HashMap<DefaultAtom<'s>, u32>;
@@ -27,4 +29,20 @@ pub fn price_of(prices: &Prices, name: &DefaultAtom) -> Option<u32>
     ensures { result ≡ price_in prices.now.entries name.now.text }
 {
     prices.get(name).copied()
+}
+
+/// The price of a name, which is looked up and not interned.
+pub fn price_of_text<'s, R: Wait>(
+    rt: &R,
+    set: &'s Set<EmptyStaticAtomSet>,
+    prices: &Prices<'s>,
+    name: &str,
+) -> Result<Option<u32>, Fault>
+    ensures found { IfOk result (λ price. IfSome price (λ _. price ≡ price_in prices.now.entries name.now)) }
+    ensures short { length name.now ≤ 7 → result ≡ Ok (price_in prices.now.entries name.now) }
+{
+    match DefaultAtom::get_in(rt, set, name)? {
+        Some(name) => Ok(price_of(prices, &name)),
+        None => Ok(None),
+    }
 }

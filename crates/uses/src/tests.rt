@@ -3,8 +3,6 @@
 use super::*;
 use crate::prices::Prices;
 use std::test::Fail;
-use string_cache::table::Table;
-use string_cache::word::{Form, form_of};
 use string_cache::{Atom, EmptyStaticAtomSet};
 
 #[test]
@@ -82,6 +80,85 @@ fn prices_are_found_by_text(rt: HostRuntime) -> Result<(), Fail> {
     Ok(())
 }
 
+/// What a price list with one name has for a text.
+fn priced<R: Wait>(rt: &R, alloc: Global, name: &str) -> Result<Option<u32>, Fault> {
+    let set = Set::new(alloc)?;
+    let prices = one_price(rt, alloc, &set)?;
+    price_of_text(rt, &set, &prices, name)
+}
+
+#[test]
+fn prices_are_found_without_interning(rt: HostRuntime) -> Result<(), Fail> {
+    assert_eq!(rt; priced(&rt, rt.alloc(), "pear tree")?, Some(40));
+    assert_eq!(rt; priced(&rt, rt.alloc(), "plum tree")?, None); // dynamic
+    assert_eq!(rt; priced(&rt, rt.alloc(), "plum")?, None); // inline
+    Ok(())
+}
+
+/// The JSON text of a price.
+fn json_of_price<R: Wait>(rt: &R, alloc: Global, name: &str, price: u32) -> Option<String> {
+    let set = Set::new(alloc).ok()?;
+    let name = DefaultAtom::from_str_in(rt, &set, name).ok()?;
+    priced_json(alloc, &Priced { name, price }).ok()
+}
+
+fn is_json_of_price<R: Wait>(rt: &R, alloc: Global, name: &str, price: u32, wanted: &str) -> bool {
+    match json_of_price(rt, alloc, name, price) {
+        Some(json) => json.as_str() == wanted,
+        None => false,
+    }
+}
+
+#[test]
+fn prices_are_written_as_json(rt: HostRuntime) {
+    for (name, price, wanted) in &[
+        ("tea", 3u32, r#"{"name":"tea","price":3}"#),
+        (
+            "m\u{f6}hrensuppe",
+            4_294_967_295,
+            "{\"name\":\"m\u{f6}hrensuppe\",\"price\":4294967295}",
+        ),
+    ] {
+        assert!(rt;
+            is_json_of_price(&rt, rt.alloc(), name, *price, wanted),
+            "of {name:?}"
+        );
+    }
+}
+
+fn has_large_set<R: Wait>(rt: &R, alloc: Global) -> Result<bool, Fault> {
+    let set = large_set(alloc)?;
+    let atom = DefaultAtom::from_str_in(rt, &set, "pear tree")?;
+    Ok(atom.is_dynamic() && set.linked(rt) == 1)
+}
+
+#[test]
+fn a_large_set_takes_texts(rt: HostRuntime) -> Result<(), Fail> {
+    assert!(rt; has_large_set(&rt, rt.alloc())?);
+    Ok(())
+}
+
+/// How many texts the tables of some names have.
+fn texts_in_tables(alloc: Global, names: &[&str]) -> Option<usize> {
+    match tables_of_names(alloc, names) {
+        Ok(tables) => Some(tables.atoms.len()),
+        Err(_) => None,
+    }
+}
+
+#[test]
+fn tables_are_made_of_names(rt: HostRuntime) {
+    assert_eq!(rt;
+        texts_in_tables(rt.alloc(), &["figcaption", "m\u{f6}hrensuppe"]),
+        Some(2)
+    );
+    assert_eq!(rt;
+        texts_in_tables(rt.alloc(), &["figcaption", "figcaption"]),
+        None
+    );
+    assert_eq!(rt; texts_in_tables(rt.alloc(), &[]), None);
+}
+
 #[test]
 fn threads_agree(rt: HostRuntime) -> Result<(), Fail> {
     assert!(rt; agree(&rt, rt.alloc(), "tokenised", "tokenised")?);
@@ -128,114 +205,7 @@ fn dishes_are_static(rt: HostRuntime) {
 }
 
 #[test]
-fn names_have_one_word_each(rt: HostRuntime) -> Result<(), Fail> {
-    for (left, right) in [
-        ("interned", "interned"),
-        ("interned", "internal"),
-        ("a", "b"),
-    ] {
-        assert_eq!(rt; same_word(rt.alloc(), left, right)?, left == right);
-    }
-    Ok(())
-}
-
-/// Whether a name is the keyword, asked in a table of its own, and how many texts the table holds after it.
-fn asked_of_keyword(alloc: Global, name: &str, keyword: &str) -> Result<(bool, usize), Fault> {
-    let mut table = Table::<EmptyStaticAtomSet>::new(alloc)?;
-    let same = is_keyword(&mut table, name, keyword)?;
-    Ok((same, table.entries()))
-}
-
-#[test]
-fn keywords_are_told_and_given_back(rt: HostRuntime) -> Result<(), Fail> {
-    for (name, keyword, wanted) in [
-        ("while", "while", true),
-        ("while", "where", false),
-        ("continue", "continue", true),
-        ("continue", "contrive", false),
-        ("m\u{f6}glich", "m\u{f6}glich", true),
-    ] {
-        let found = asked_of_keyword(rt.alloc(), name, keyword)?;
-        assert_eq!(rt; found, (wanted, 0), "of {name:?}");
-    }
-    Ok(())
-}
-
-#[test]
-fn words_of_all_forms_have_texts(rt: HostRuntime) -> Result<(), Fail> {
-    let mut table = Table::<Tags>::new(rt.alloc())?;
-    for name in ["", "table", "textarea", "sentence"] {
-        let text = reads_back(rt.alloc(), &mut table, name)?;
-        assert_eq!(rt; text.as_str(), name);
-    }
-    assert_eq!(rt; table.entries(), 0);
-    assert!(rt; table.text_of(3).is_none());
-    Ok(())
-}
-
-/// A table that holds these names.
-fn table_of(alloc: Global, names: &[&str]) -> Result<Table<EmptyStaticAtomSet>, Fault> {
-    let mut table = Table::new(alloc)?;
-    for name in names {
-        table.intern(name)?;
-    }
-    Ok(table)
-}
-
-#[test]
-fn names_are_looked_up(rt: HostRuntime) -> Result<(), Fail> {
-    let table = table_of(rt.alloc(), &["pear tree", "m\u{f6}glich"])?;
-    for (name, wanted) in [("pear tree", true), ("plum tree", false), ("plum", true)] {
-        assert_eq!(rt; is_known(&table, name), wanted, "of {name:?}");
-    }
-    assert_eq!(rt; first_text(&table), Some("pear tree"));
-    Ok(())
-}
-
-#[test]
-fn a_table_is_read_by_two_threads(rt: HostRuntime) -> Result<(), Fail> {
-    let table = table_of(rt.alloc(), &["pear tree", "m\u{f6}glich"])?;
-    let (Some(pear), Some(plum)) = (table.get("pear tree"), table.get("plum")) else {
-        panic!(rt; "both are known")
-    };
-    assert_eq!(rt;
-        lengths_of_both(&rt, &table, pear, plum),
-        (Some(9), Some(4))
-    );
-    assert_eq!(rt; lengths_of_both(&rt, &table, 0, plum), (None, Some(4)));
-    Ok(())
-}
-
-#[test]
-fn names_of_two_kinds_stand_apart(rt: HostRuntime) -> Result<(), Fail> {
-    let mut program = Program::new(rt.alloc())?;
-    let (file, function) = program.declare("source/main.rt", "main_function")?;
-    let (again, other) = program.declare("source/main.rt", "other_function")?;
-    assert!(rt; file == again && function != other);
-    assert!(rt; program.forget(function) && !program.forget(function));
-    Ok(())
-}
-
-#[test]
 fn an_atom_has_24_bytes(rt: HostRuntime) {
     assert_eq!(rt; size_of::<DefaultAtom>(), 24);
     assert_eq!(rt; size_of::<Tag>(), 24);
-}
-
-/// Of the words of the original's example, exactly four are dynamic.
-#[test]
-fn forms_of_the_example(rt: HostRuntime) -> Result<(), Fail> {
-    let text =
-        "here is a sentence of text that will be tokenised and\ninterned and some repeated tokens is of text and";
-    let mut table = Table::<EmptyStaticAtomSet>::new(rt.alloc())?;
-    for word in text.split_whitespace() {
-        let form = form_of(table.intern(word)?);
-        let is_dynamic = matches!(form, Some(Form::Dynamic { .. }));
-        let wanted = ["sentence", "tokenised", "interned", "repeated"];
-        assert_eq!(rt; is_dynamic, wanted.contains(&word), "of {word:?}");
-        if !is_dynamic {
-            assert!(rt; matches!(form, Some(Form::Inline(_))), "of {word:?}");
-        }
-    }
-    Ok(())
 }

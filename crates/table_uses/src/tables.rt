@@ -1,17 +1,16 @@
-//! The names of a program as a table keeps them: found without a holder more, read by several threads, and of kinds that aren't mixed up.
+//! The names of a program as a table keeps them: found without a holder more, and read by several threads.
 
 ghost use Rattle.std.specs.Prelude.{◌≡◌, ◌↔◌, ℕ, IfSome, IsTrue, Some};
 ghost use Rattle.string_cache_core.specs.Kept.{map_of};
 ghost use Rattle.string_cache_core.specs.Map.{Holding};
 ghost use Rattle.string_cache_core.specs.Table.{HasWord};
 ghost use Rattle.string_cache_core.specs.Tables.{empty_tables};
-ghost use Rattle.uses.specs.Lengths.{IsLengthOf};
+ghost use Rattle.table_uses.specs.Lengths.{IsLengthOf};
 
-use std::alloc::Global;
 use std::thread;
 use std::thread::Threads;
-use string_cache::table::{Name, Names, Table};
-use string_cache::{EmptyStaticAtomSet, Fault, StaticAtomSet};
+use string_cache_core::static_sets::{EmptyStaticAtomSet, StaticAtomSet};
+use string_cache_core::table::Table;
 
 /// Whether a name has a word: it is inline, static, or held.
 pub fn is_known<Static: StaticAtomSet>(table: &Table<Static>, name: &str) -> bool
@@ -49,41 +48,4 @@ pub fn lengths_of_both<R: Threads + Sync>(
     ensures right { IsLengthOf empty_tables (map_of table.now) right result.1 }
 {
     thread::join(rt, || length_of(table, left), || length_of(table, right))
-}
-
-/// Where a function stands.
-pub enum File {}
-
-/// What is called.
-pub enum Function {}
-
-/// The names of a program.
-#[derive(Drop)]
-pub struct Program {
-    files: Names<File>,
-    functions: Names<Function>,
-}
-
-impl Program {
-    /// One without names.
-    pub fn new(alloc: Global) -> Result<Self, Fault> {
-        Ok(Program {
-            files: Names::new(alloc)?,
-            functions: Names::new(alloc)?,
-        })
-    }
-
-    /// The names of a function and of the file where it stands. They are no numbers that can be taken for each other.
-    pub fn declare(
-        &mut self,
-        file: &str,
-        function: &str,
-    ) -> Result<(Name<File>, Name<Function>), Fault> {
-        Ok((self.files.intern(file)?, self.functions.intern(function)?))
-    }
-
-    /// Forgets a function that was declared: whether it was there.
-    pub fn forget(&mut self, function: Name<Function>) -> bool {
-        self.functions.release(function)
-    }
 }

@@ -5,8 +5,9 @@ ghost use Rattle.string_cache_core.specs.Kept.{map_of};
 ghost use Rattle.string_cache_core.specs.Table.{AreHeld};
 
 use std::alloc::Global;
-use string_cache::table::Table;
-use string_cache::{EmptyStaticAtomSet, Fault, StaticAtomSet};
+use string_cache_core::Fault;
+use string_cache_core::static_sets::{EmptyStaticAtomSet, StaticAtomSet};
+use string_cache_core::table::Table;
 
 /// Whether two identifiers have one word: exactly if they are one text.
 pub fn same_word(alloc: Global, left: &str, right: &str) -> Result<bool, Fault>

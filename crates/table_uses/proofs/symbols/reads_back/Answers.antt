@@ -1,7 +1,7 @@
 use Rattle.std.proofs.Common.{◌∙◌, [], subst, sym}
 use Rattle.string_cache_core.specs.Kept.{map_of}
 use Rattle.string_cache_core.specs.Table.{AreHeld}
-use Rattle.uses.proofs.symbols.reads_back.Goals as goal
+use Rattle.table_uses.proofs.symbols.reads_back.Goals as goal
 
 pub returns-in_err-word-clause-held : goal.returns-in_err-word-clause-held
 returns-in_err-word-clause-held g c = λ words held.

@@ -2,7 +2,7 @@ use Rattle.std.proofs.Common.{◌∙◌, ap, sym, List}
 use Rattle.std.specs.Prelude.{slice_get}
 use Rattle.string_cache_core.specs.HeldText.{pair_of}
 use Rattle.string_cache_core.specs.Kept.{Pair}
-use Rattle.uses.proofs.tables.first_text.Goals as goal
+use Rattle.table_uses.proofs.tables.first_text.Goals as goal
 
 -- the first pair of the table stands at place 0, and what stands there is held
 pub returns : goal.returns

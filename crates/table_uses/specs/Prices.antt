@@ -1,0 +1,12 @@
+-- What a map says of a name, whose keys are words.
+use Rattle.std.specs.Prelude.{◌≡◌, ℕ, ◌⊎◌, List, Option, None, nat_eq}
+use Rattle.std.specs.Map.{lookup}
+use Rattle.string_cache_core.specs.Map.{InternMap}
+use Rattle.string_cache_core.specs.Table.{HasWord}
+use Rattle.string_cache_core.specs.Tables.{Tables}
+
+-- the price under the name's word; None of a name that has no word
+abbrev pub IsPriceOf : Tables → InternMap → List (ℕ × ℕ) → List ℕ → Option ℕ → Type 0
+IsPriceOf t m prices name price =
+    ((word : ℕ) × HasWord t m name word × (price ≡ lookup (nat_eq word) prices))
+    ⊎ (((word : ℕ) → ¬ (HasWord t m name word)) × (price ≡ None))

@@ -1,0 +1,12 @@
+-- Replies of a table's calls.
+use Rattle.std.specs.Prelude.{ℕ, ⊤}
+use Rattle.string_cache_core.specs.declared.faults.Fault.{Fault}
+use Rattle.string_cache_core.specs.declared.table.call.TableReply.{TableReply}
+use Rattle.string_cache_core.specs.declared.table.call.TableReply.TheVariants.{Word, Given, NotHeld, Refused}
+
+-- the call was done: the word was held, and no limit and no want of memory refused it
+abbrev pub IsDone : TableReply → Type 0
+IsDone (Word word) = ⊤
+IsDone Given = ⊤
+IsDone NotHeld = ⊥
+IsDone (Refused fault) = ⊥
