@@ -7,14 +7,30 @@ import sys
 import tempfile
 from pathlib import Path
 
-from static_forms import MOST_PACKED, MOST_PRODUCT, Listed, Name, Packed, Refused, read
+from static_forms import MANY, MOST_PACKED, MOST_PRODUCT, Listed, Name, Packed, Refused, Tables, read
 from static_type import TOP, alias_of, listed_of, names_of, tables_of
 
 CRATES = TOP / "crates"
 
-# The types of this repository: the form, the module's file below src, the names (none: the type alone) and the table text.
+# The table text of a type whose crate has none.
+ELEMENTS = """key 1
+disp 7 0
+disp 43 1
+atom 7e2f39ca8e6c17ed noscript
+atom 42ca62e856db04ad template
+atom 8c819ea2ba8a8bc5 blockquote
+atom bf25ab629a4d8006 datalist
+atom 708dbf4d19526e84 figcaption
+atom 4adca3a8d7da27f8 fieldset
+atom 42aab8034f99b555 progress
+atom ed58bbed132153fc optgroup
+atom fc81a3dd79fb4e5e colgroup
+"""
+
+# The types of this repository: the module, the file of its names (none: the type alone), and that of its table text, or the text.
 MODULES = [
     (Listed("Dishes", "Dish", "uses", "dishes"), None, "dishes.tables"),
+    (Listed("Elements", "Element", "interning_speed", "elements"), None, ELEMENTS),
     (Listed("Names", "Name", "rows", "names/static_names"), "names", "names.tables"),
     (Packed("Dishes", "Dish", "packed_rows", "dishes"), None, "dishes.tables"),
     (Packed("Elements", "Element", "packed_rows", "elements"), None, "elements.tables"),
@@ -82,7 +98,8 @@ def is_written(module, names, tables):
     """Whether the module that lies in its crate is what is written of the names and the tables."""
     data = CRATES / module.crate / "data"
     made = names_of((data / names).read_bytes()) if names else ()
-    written = module.source(read((data / tables).read_text(encoding="utf-8")), made)
+    text = tables if "\n" in tables else (data / tables).read_text(encoding="utf-8")
+    written = module.source(read(text), made)
     return written == (CRATES / module.crate / "src" / f"{module.place}.rt").read_text(encoding="utf-8")
 
 
@@ -125,6 +142,10 @@ def wrong_limits():
             said = refusal_of(module.refuse_many, names, [name.text for name in names])
             is_right = wanted in said if wanted else not said
             yield None if is_right else f"of {len(names)} {form.__name__} names it says {said!r}"
+    module = Listed("Names", "Name", "mine", "words/names")
+    few, enough = (module.answers(Tables("0", (), ("a",) * count, ())) for count in (MANY - 1, MANY))
+    is_cited = few is None and "use Rattle.mine.proofs.words.names.NamesStaticAtomSet.get.Goals" in enough
+    yield None if is_cited else f"the proof of many listed names is {enough!r}, and of fewer {few!r}"
 
 
 @contextlib.contextmanager
@@ -189,7 +210,7 @@ def wrong_calls():
 def wrong_files():
     """What is wrong in the types that lie in this repository."""
     for module, names, tables in MODULES:
-        yield None if is_written(module, names, tables) else f"{module.crate}/src/{module.place}.rt isn't what is written of {tables}"
+        yield None if is_written(module, names, tables) else f"{module.crate}/src/{module.place}.rt isn't what the script writes"
 
 
 def check():
