@@ -1,7 +1,7 @@
 #!/usr/bin/env bash
 # The gate: every proof from nothing, every edit that the prover has to refuse, every test, each program as two compilers
 # build it (rt ci), then each request for memory or a thread refused under the tests that rt ci built, the schedules of small
-# scenes, the static type that a script wrote, the scripts that count over many machines and that review wrong bodies, what is said of
+# scenes, the static types that a script writes, the scripts that count over many machines and that review wrong bodies, what is said of
 # wrong bodies that no test sees, the library for C with its clients and their wrong bodies, and each wrong body that a test has to catch,
 # which begin where rt ci leaves a processor idle. The last line sums up.
 #

@@ -1,12 +1,40 @@
-"""The tests of tools/static_type.py: the types that lie in this repository are what it writes, and lists that give no type are refused."""
+"""The tests of tools/static_type.py: the types that lie in this repository are what it writes, what it writes is in `rt fmt`'s layout, lists
+that give no type are refused, and whole calls of it write what they have to, or nothing."""
 
-from static_type import MOST_PRODUCT, TOP, Module, Name, Refused, listed_of, names_of, read
+import contextlib
+import subprocess
+import sys
+import tempfile
+from pathlib import Path
 
-# The name of a type and of an atom of it, the names (none: the type alone), the table text and the module.
-USES, ROWS = TOP / "crates" / "uses", TOP / "crates" / "rows"
+from static_forms import MANY, MOST_PACKED, MOST_PRODUCT, Listed, Name, Packed, Refused, Tables, read
+from static_type import TOP, alias_of, listed_of, names_of, tables_of
+
+CRATES = TOP / "crates"
+
+# The table text of a type whose crate has none.
+ELEMENTS = """key 1
+disp 7 0
+disp 43 1
+atom 7e2f39ca8e6c17ed noscript
+atom 42ca62e856db04ad template
+atom 8c819ea2ba8a8bc5 blockquote
+atom bf25ab629a4d8006 datalist
+atom 708dbf4d19526e84 figcaption
+atom 4adca3a8d7da27f8 fieldset
+atom 42aab8034f99b555 progress
+atom ed58bbed132153fc optgroup
+atom fc81a3dd79fb4e5e colgroup
+"""
+
+# The types of this repository: the module, the file of its names (none: the type alone), and that of its table text, or the text.
 MODULES = [
-    (Module("Dishes", "Dish"), None, USES / "data" / "dishes.tables", USES / "src" / "dishes.rt"),
-    (Module("Names", "Name"), ROWS / "data" / "names", ROWS / "data" / "names.tables", ROWS / "src" / "names" / "static_names.rt"),
+    (Listed("Dishes", "Dish", "uses", "dishes"), None, "dishes.tables"),
+    (Listed("Elements", "Element", "interning_speed", "elements"), None, ELEMENTS),
+    (Listed("Names", "Name", "rows", "names/static_names"), "names", "names.tables"),
+    (Packed("Dishes", "Dish", "packed_rows", "dishes"), None, "dishes.tables"),
+    (Packed("Elements", "Element", "packed_rows", "elements"), None, "elements.tables"),
+    (Packed("PageNames", "PageName", "page_names", "names"), "names", "names.tables"),
 ]
 
 # Lists, and a part of what is said of each.
@@ -36,11 +64,43 @@ NAMES = [
     ("味噌汁\tMISO_SOUP\n".encode(), Name("味噌汁", "MISO_SOUP")),
 ]
 
+# Two names with the table text that the program prints of them, in which the second stands first.
+PAIR = b"minestrone\nsoup \"du jour\" \\ bread\tSOUP\n"
+TABLES = "key 2\ndisp 0 1\natom a88f6f8b8dd470e4 soup \"du jour\" \\ bread\natom 89ec7caec7b87cfe minestrone\n"
 
-def is_written(module, names, tables, file):
-    """Whether the module in the file is what is written of the names and the tables."""
-    made = names_of(names.read_bytes()) if names else ()
-    return module.source(read(tables.read_text(encoding="utf-8")), made) == file.read_text(encoding="utf-8")
+# A stand-in for the program, which places names under the key 2 alone.
+PROGRAM = f"""#!{sys.executable}
+import sys
+given = sys.stdin.buffer.read()
+if given != {"".join(f"{name.text}{chr(10)}" for name in names_of(PAIR)).encode()!r}:
+    sys.exit("atoms: other texts")
+if sys.argv[1:] != ["generate", "2", "1024"]:
+    sys.exit("atoms: no tables within the bound")
+sys.stdout.buffer.write({TABLES.encode()!r})
+"""
+
+# Whole calls that are refused: the arguments behind the program and the crate, the input, and a part of what is said.
+CALLS = [
+    (["--packed", "Soups"], b"", "no names"),
+    (["--packed", "Soups"], b"max-width\nmaxWidth\n", "are both MAX_WIDTH"),
+    (["--packed", "Soups"], b"soup\n", "inline under any type"),
+    (["--packed", "Soups"], b"minestrone\n", "other texts"),
+    (["--packed", "Soups", "--bound", "7"], PAIR, "no key below 100 places these names"),
+    (["--packed", "Soups", "--module", "lib"], PAIR, "not written by this script"),
+    (["--packed", "Soups", "--module", "../lib"], PAIR, "is no module's file"),
+    (["--tables", "Soups"], b"key 0\n", "no table text"),
+    (["--tables", "Soups"], b"key 0\ndisp 0 0\nsoup\n", "line 3 is none of a table text"),
+    (["soups"], PAIR, "no type's name"),
+]
+
+
+def is_written(module, names, tables):
+    """Whether the module that lies in its crate is what is written of the names and the tables."""
+    data = CRATES / module.crate / "data"
+    made = names_of((data / names).read_bytes()) if names else ()
+    text = tables if "\n" in tables else (data / tables).read_text(encoding="utf-8")
+    written = module.source(read(text), made)
+    return written == (CRATES / module.crate / "src" / f"{module.place}.rt").read_text(encoding="utf-8")
 
 
 def refusal_of(call, *args):
@@ -52,10 +112,13 @@ def refusal_of(call, *args):
     return ""
 
 
-def failures():
-    """What is wrong, and None for what isn't, one after another."""
-    for module, names, tables, file in MODULES:
-        yield None if is_written(module, names, tables, file) else f"{file} isn't what is written of {tables}"
+def many(count, length):
+    """So many names of this length."""
+    return [Name(f"{number:0{length}}", f"N{number}") for number in range(count)]
+
+
+def wrong_names():
+    """What is wrong in what lists are, and None for what isn't, one after another."""
     for data, wanted in REFUSED:
         said = refusal_of(names_of, data)
         yield None if wanted in said else f"of {data} it says {said!r}, and not {wanted!r}"
@@ -66,14 +129,93 @@ def failures():
     yield None if listed_of(short, True) == ["figure"] else "a short name that is asked for is left out"
     # The tag of six bytes, and the bytes behind it: 1 + 16 * 6 is 0x61.
     yield None if short[0].inline_word() == 0x65_7275_6769_6661 else f"the word of figure is {short[0].inline_word():#x}"
-    many = [Name(f"{number:013}", f"N{number}") for number in range(700)]
-    yield None if f"{MOST_PRODUCT:,}" in refusal_of(listed_of, many, False) else "more names are taken than the checker can"
-    yield None if len(listed_of(many[:550], False)) == 550 else "550 names are refused"
+    yield None if [alias_of(it) for it in ("Names", "Glass", "Sheep")] == ["Name", "GlassAtom", "SheepAtom"] else "an alias is another"
+
+
+def wrong_limits():
+    """What is wrong in how many names are taken."""
+    for form, limit, taken, refused in [
+        (Listed, MOST_PRODUCT, many(550, 13), many(700, 13)), (Packed, MOST_PACKED, many(10_000, 13), many(10_000, 24)),
+    ]:
+        module = form("Names", "Name", "mine", "names")
+        for names, wanted in [(taken, ""), (refused, f"{limit:,}")]:
+            said = refusal_of(module.refuse_many, names, [name.text for name in names])
+            is_right = wanted in said if wanted else not said
+            yield None if is_right else f"of {len(names)} {form.__name__} names it says {said!r}"
+    module = Listed("Names", "Name", "mine", "words/names")
+    few, enough = (module.answers(Tables("0", (), ("a",) * count, ())) for count in (MANY - 1, MANY))
+    is_cited = few is None and "use Rattle.mine.proofs.words.names.NamesStaticAtomSet.get.Goals" in enough
+    yield None if is_cited else f"the proof of many listed names is {enough!r}, and of fewer {few!r}"
+
+
+@contextlib.contextmanager
+def small_crate():
+    """A crate in a folder of its own, and a stand-in for the program there."""
+    with tempfile.TemporaryDirectory() as top:
+        crate, program = Path(top) / "crates" / "mine", Path(top) / "atoms"
+        (crate / "src").mkdir(parents=True)
+        (crate / "src" / "lib.rt").write_text("//! Soups.\n#![tactic(auto)]\n\npub mod soups;\n", encoding="utf-8")
+        (Path(top) / "crates.txt").write_text("mine: string_cache string_cache_core\n", encoding="utf-8")
+        program.write_text(PROGRAM, encoding="utf-8")
+        program.chmod(0o755)
+        yield crate, program
+
+
+def call(crate, program, args, data):
+    """A whole call of the script."""
+    words = [sys.executable, TOP / "tools" / "static_type.py", "--atoms", program, *args, crate]
+    return subprocess.run(words, input=data, capture_output=True, check=False)
+
+
+def wrong_call(crate, program, args, data, wanted):
+    """What is wrong in a call that has to be refused: it says why, has another status than 0, and writes nothing."""
+    before = {file: file.read_bytes() for file in crate.rglob("*.*") if file.is_file()}
+    ran = call(crate, program, args, data)
+    after = {file: file.read_bytes() for file in crate.rglob("*.*") if file.is_file()}
+    if ran.returncode == 0 or wanted.encode() not in ran.stderr or b"Traceback" in ran.stderr:
+        return f"{args} of {data} has the status {ran.returncode} and says {ran.stderr.decode()!r}"
+    return None if before == after else f"{args} of {data} writes though it is refused"
+
+
+def wrong_module(crate, program, form, args, data):
+    """What is wrong in a call that writes a module: it is what the form has of these tables, and `rt fmt` changes nothing in it."""
+    names = [] if "--tables" in args else names_of(data)
+    wanted = form("Soups", "Soup", "mine", "soups").source(read(TABLES), names)
+    ran = call(crate, program, [*args, "Soups"], data)
+    if ran.returncode != 0:
+        return f"{args} has the status {ran.returncode} and says {ran.stderr.decode()!r}"
+    file = crate / "src" / "soups.rt"
+    if file.read_text(encoding="utf-8") != wanted:
+        return f"{args} writes another module"
+    laid = subprocess.run(["rt", "fmt"], cwd=crate, capture_output=True, check=False)
+    is_laid = laid.returncode == 0 and file.read_text(encoding="utf-8") == wanted
+    return None if is_laid else f"rt fmt changes what {args} writes: {laid.stdout.decode()}{laid.stderr.decode()}"
+
+
+def wrong_calls():
+    """What is wrong in whole calls, over a stand-in for the program."""
+    with small_crate() as (crate, program):
+        for args, data, wanted in CALLS:
+            yield wrong_call(crate, program, args, data, wanted)
+        yield wrong_call(crate, program.with_name("none"), ["Soups"], PAIR, "there is no program")
+        yield wrong_call(crate / "none", program, ["Soups"], PAIR, "is no crate")
+        for form, args, data in [
+            (Listed, [], PAIR), (Packed, ["--packed"], PAIR), (Listed, ["--tables"], TABLES.encode()), (Packed, ["--packed", "--tables"], TABLES.encode()),
+        ]:
+            yield wrong_module(crate, program, form, args, data)
+        first = tables_of([name.text for name in names_of(PAIR)], 1024, program)
+        yield None if first == TABLES else f"the tables under the first key that has some are {first!r}"
+
+
+def wrong_files():
+    """What is wrong in the types that lie in this repository."""
+    for module, names, tables in MODULES:
+        yield None if is_written(module, names, tables) else f"{module.crate}/src/{module.place}.rt isn't what the script writes"
 
 
 def check():
     """Says how many of these are right, and what is wrong."""
-    found = list(failures())
+    found = [it for rows in (wrong_files(), wrong_names(), wrong_limits(), wrong_calls()) for it in rows]
     wrong = [it for it in found if it]
     for it in wrong:
         print(f"WRONG: {it}")

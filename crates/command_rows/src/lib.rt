@@ -8,6 +8,8 @@ mod generate;
 #[cfg(test)]
 mod memory;
 #[cfg(test)]
+mod packed;
+#[cfg(test)]
 mod program;
 #[cfg(test)]
 mod refusals;

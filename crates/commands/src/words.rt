@@ -17,7 +17,7 @@ use std::sync::Wait;
 use string_cache::dynamic_set::Set;
 use string_cache::table::Table;
 use string_cache::word::Limits;
-use string_cache::{Atom, EmptyStaticAtomSet, Fault, StaticAtomSet};
+use string_cache::{Atom, EmptyStaticAtomSet, Fault, StaticTables};
 use text_streams::faults::AppFault;
 use text_streams::streams::{PIECE, Sink, Source, read_text, write_whole};
 use word_counts::buckets::buckets_for;
@@ -38,13 +38,13 @@ impl Interner for Table<EmptyStaticAtomSet> {
 /// Interns words in a set, and holds the atom of each place of a dynamic one. Inline and static atoms hold nothing of the
 /// set, so they aren't kept.
 #[derive(Drop)]
-struct Holder<'r, 's, R: Wait, Static: StaticAtomSet> {
+struct Holder<'r, 's, R: Wait, Static: StaticTables> {
     rt: &'r R,
     set: &'s Set<Static>,
     atoms: Vec<Atom<'s, Static>>,
 }
 
-impl<'r, 's, R: Wait, Static: StaticAtomSet> Holder<'r, 's, R, Static> {
+impl<'r, 's, R: Wait, Static: StaticTables> Holder<'r, 's, R, Static> {
     fn new(rt: &'r R, set: &'s Set<Static>) -> Self {
         Holder {
             rt,
@@ -54,7 +54,7 @@ impl<'r, 's, R: Wait, Static: StaticAtomSet> Holder<'r, 's, R, Static> {
     }
 }
 
-impl<R: Wait, Static: StaticAtomSet> Interner for Holder<'_, '_, R, Static> {
+impl<R: Wait, Static: StaticTables> Interner for Holder<'_, '_, R, Static> {
     fn intern(&mut self, word: &str) -> Result<(), Fault> {
         let atom = Atom::from_str_in(self.rt, self.set, word)?;
         if atom.is_dynamic() {
@@ -138,7 +138,7 @@ fn tell<I: Interner, S: Source, K: Sink>(
 ///
 /// `Read` and `Text`, input that isn't UTF-8, come before anything is written, and so does `Intern(Memory)` while the
 /// input is read. After another fault a beginning of the lines is written.
-pub fn words<R: Wait, Static: StaticAtomSet, S: Source, K: Sink>(
+pub fn words<R: Wait, Static: StaticTables, S: Source, K: Sink>(
     rt: &R,
     set: &Set<Static>,
     reader: &mut S,

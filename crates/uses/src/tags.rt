@@ -5,7 +5,7 @@ ghost use Rattle.std.specs.List.{All, Contains};
 ghost use Rattle.string_cache_core.specs.Tables.{IsPerfectTable, form_of_text, is_static_form};
 ghost use Rattle.uses.specs.Tags.{tag_tables};
 
-use string_cache::{Atom, PhfStrSet, StaticAtomSet};
+use string_cache::{Atom, PhfStrSet, StaticAtomSet, StaticTables};
 
 /// The tags that are known when the program is built. Each stands at its place: `TAGS.check()` says so.
 pub static TAGS: PhfStrSet = PhfStrSet {
@@ -50,7 +50,7 @@ impl StaticAtomSet for Tags {
 pub type Tag<'s> = Atom<'s, Tags>;
 
 /// Whether each of the names is found without a set. Those of more than 7 bytes in tables that pass `check` are.
-pub fn finds_all<Static: StaticAtomSet>(names: &[&str]) -> bool
+pub fn finds_all<Static: StaticTables>(names: &[&str]) -> bool
     ensures found { IsTrue result ↔ All (λ name. IsTrue (is_static_form (form_of_text Static.tables name.now))) names.now }
     ensures listed { IsPerfectTable Static.tables → All (λ name. Contains Static.tables.atoms name.now × (7 < length name.now)) names.now → IsTrue result }
 {

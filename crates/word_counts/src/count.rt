@@ -18,7 +18,7 @@ pub use parts::sections;
 use std::sync::Wait;
 use std::thread::Threads;
 use string_cache::dynamic_set::Set;
-use string_cache::{Atom, StaticAtomSet};
+use string_cache::{Atom, StaticTables};
 use text_streams::faults::AppFault;
 use workers::counts_by_workers;
 
@@ -52,7 +52,7 @@ pub type WordCounts<'e, Static> = Vec<(Atom<'e, Static>, u64)>;
 /// `Worker` comes where a thread couldn't be started, and `Intern` where interning was refused, or memory. Where several
 /// workers are refused it is the fault of the lowest piece. After a fault no worker is left running, and none of their
 /// atoms is held.
-pub fn count<'s, R: Threads + Wait + Sync, Static: StaticAtomSet + Send + Sync, G: Gate>(
+pub fn count<'s, R: Threads + Wait + Sync, Static: StaticTables + Send + Sync, G: Gate>(
     rt: &'s R,
     set: &'s Set<Static>,
     text: &'s str,

@@ -1,7 +1,7 @@
 //! A text with its counts, for the tests of this crate and of those above it, and for nothing else.
 
 use crate::count::WordCounts;
-use string_cache::EmptyStaticAtomSet;
+use string_cache::StaticTables;
 
 /// The example of the original's documentation.
 pub const EXAMPLE: &[u8] =
@@ -26,7 +26,7 @@ pub const EXAMPLE_COUNTS: [(&str, u64); 15] = [
 ];
 
 /// Whether these are the words and numbers of the counts.
-pub fn are(counts: &WordCounts<EmptyStaticAtomSet>, wanted: &[(&str, u64)]) -> bool {
+pub fn are<Static: StaticTables>(counts: &WordCounts<'_, Static>, wanted: &[(&str, u64)]) -> bool {
     if counts.len() != wanted.len() {
         return false;
     }

@@ -16,7 +16,7 @@ use std::sync::Wait;
 use std::thread::Threads;
 use string_cache::dynamic_set::Set;
 use string_cache::word::Limits;
-use string_cache::{Atom, EmptyStaticAtomSet, StaticAtomSet};
+use string_cache::{Atom, EmptyStaticAtomSet, StaticTables};
 use text_streams::faults::AppFault;
 use text_streams::streams::{PIECE, Sink, Source, read_text, write_whole};
 
@@ -28,7 +28,7 @@ fn append_count(out: &mut String, word: &str, n: u64) -> Result<(), AllocError>
 }
 
 /// Writes a line for each word, in order.
-fn write_lines<Static: StaticAtomSet, K: Sink>(
+fn write_lines<Static: StaticTables, K: Sink>(
     alloc: Global,
     counts: &[(Atom<'_, Static>, u64)],
     writer: &mut K,

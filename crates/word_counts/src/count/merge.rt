@@ -10,13 +10,13 @@ use super::WordCounts;
 use std::alloc::{AllocError, Global};
 use std::cmp::Ordering;
 use std::collections::VecDeque;
-use string_cache::{Atom, StaticAtomSet};
+use string_cache::{Atom, StaticTables};
 
 /// What is left of counts that are being merged.
 type Rest<'e, Static> = VecDeque<(Atom<'e, Static>, u64)>;
 
 /// How the first words of the two stand to each other. Where a list has none, the other's comes first.
-fn order_of_first<Static: StaticAtomSet>(
+fn order_of_first<Static: StaticTables>(
     front: &Rest<'_, Static>,
     back: &Rest<'_, Static>,
 ) -> Ordering
@@ -30,7 +30,7 @@ fn order_of_first<Static: StaticAtomSet>(
 }
 
 /// Takes the pair of the lowest word off the list that has it, or off both as one pair.
-fn take_lowest<'e, Static: StaticAtomSet>(
+fn take_lowest<'e, Static: StaticTables>(
     front: &mut Rest<'e, Static>,
     back: &mut Rest<'e, Static>,
 ) -> Option<(Atom<'e, Static>, u64)>
@@ -56,7 +56,7 @@ fn take_lowest<'e, Static: StaticAtomSet>(
 }
 
 /// The counts of both lists of words together.
-fn merge<'e, Static: StaticAtomSet>(
+fn merge<'e, Static: StaticTables>(
     alloc: Global,
     front: WordCounts<'e, Static>,
     back: WordCounts<'e, Static>,
@@ -75,7 +75,7 @@ fn merge<'e, Static: StaticAtomSet>(
 }
 
 /// The lists merged in pairs: the first with the second, the third with the fourth, and so on. The last of an odd number stays.
-fn merge_pairs<'e, Static: StaticAtomSet>(
+fn merge_pairs<'e, Static: StaticTables>(
     alloc: Global,
     lists: VecDeque<WordCounts<'e, Static>>,
 ) -> Result<VecDeque<WordCounts<'e, Static>>, AllocError>
@@ -97,7 +97,7 @@ fn merge_pairs<'e, Static: StaticAtomSet>(
 }
 
 /// The counts of the words of all lists together. They are merged in pairs, and what this gives again, until one list is left.
-pub fn merge_all<'e, Static: StaticAtomSet>(
+pub fn merge_all<'e, Static: StaticTables>(
     alloc: Global,
     lists: VecDeque<WordCounts<'e, Static>>,
 ) -> Result<WordCounts<'e, Static>, AllocError>

@@ -11,13 +11,13 @@ ghost use Rattle.word_counts.specs.WordCounts.{counted_texts, word_counts};
 use super::WordCounts;
 use std::alloc::{AllocError, Global};
 use std::collections::{BTreeMap, HashMap};
-use string_cache::{Atom, StaticAtomSet};
+use string_cache::{Atom, StaticTables};
 
 /// An atom of each word and how often the word came, found by the word where it lies in the text.
 pub type Tally<'e, Static> = HashMap<&'e str, (Atom<'e, Static>, u64)>;
 
 /// Counts the word once more, with this atom. The atom comes back where the tally has one of the word.
-pub fn add<'e, Static: StaticAtomSet>(
+pub fn add<'e, Static: StaticTables>(
     tally: &mut Tally<'e, Static>,
     word: &'e str,
     atom: Atom<'e, Static>,
@@ -41,7 +41,7 @@ pub fn add<'e, Static: StaticAtomSet>(
 }
 
 /// The atoms with their numbers, in the order of texts.
-fn in_order<'e, Static: StaticAtomSet>(
+fn in_order<'e, Static: StaticTables>(
     alloc: Global,
     tally: Tally<'e, Static>,
 ) -> Result<BTreeMap<Atom<'e, Static>, u64>, AllocError>
@@ -51,7 +51,7 @@ fn in_order<'e, Static: StaticAtomSet>(
 }
 
 /// The entries of a map, in order.
-fn entries_of<'e, Static: StaticAtomSet>(
+fn entries_of<'e, Static: StaticTables>(
     alloc: Global,
     counts: BTreeMap<Atom<'e, Static>, u64>,
 ) -> Result<WordCounts<'e, Static>, AllocError>
@@ -61,7 +61,7 @@ fn entries_of<'e, Static: StaticAtomSet>(
 }
 
 /// The atoms with their numbers, in the order of texts.
-pub fn into_pairs<'e, Static: StaticAtomSet>(
+pub fn into_pairs<'e, Static: StaticTables>(
     alloc: Global,
     tally: Tally<'e, Static>,
 ) -> Result<WordCounts<'e, Static>, AllocError>

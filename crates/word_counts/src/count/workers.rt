@@ -17,18 +17,18 @@ use std::sync::Wait;
 use std::thread;
 use std::thread::{Promise, Scope, Threads};
 use string_cache::dynamic_set::Set;
-use string_cache::{Atom, Fault, StaticAtomSet};
+use string_cache::{Atom, Fault, StaticTables};
 use text_streams::faults::AppFault;
 
 /// A worker promises the counts of the words of its part, unless it is refused.
-impl<'e, Static: StaticAtomSet> Promise<Result<WordCounts<'e, Static>, Fault>> for Part<'e> {
+impl<'e, Static: StaticTables> Promise<Result<WordCounts<'e, Static>, Fault>> for Part<'e> {
     ghost kept_by = { λ part result.
         IfOk result (λ counts. counted_texts counts.items ≡ word_counts (words_of_part part)) × IfErr result IsInternFault };
 }
 
 /// Interns a place of a word and counts it. The atom of a further place is held beside those of the tally, if it is dynamic:
 /// others hold nothing of the set.
-fn intern_place<'e, R: Wait, Static: StaticAtomSet>(
+fn intern_place<'e, R: Wait, Static: StaticTables>(
     rt: &R,
     set: &'e Set<Static>,
     word: &'e str,
@@ -51,7 +51,7 @@ fn intern_place<'e, R: Wait, Static: StaticAtomSet>(
 }
 
 /// Interns the words of the part in order and counts them. The atoms of further places are held beside those of the tally.
-fn intern_words<'e, R: Wait, Static: StaticAtomSet>(
+fn intern_words<'e, R: Wait, Static: StaticTables>(
     rt: &R,
     set: &'e Set<Static>,
     part: Part<'e>,
@@ -77,7 +77,7 @@ fn intern_words<'e, R: Wait, Static: StaticAtomSet>(
 
 /// What a worker does: it interns its words between the gate's two calls, and holds past both an atom of each word, and of each
 /// place of a dynamic one.
-fn count_part<'e, R: Wait, Static: StaticAtomSet, G: Gate>(
+fn count_part<'e, R: Wait, Static: StaticTables, G: Gate>(
     rt: &R,
     set: &'e Set<Static>,
     gate: &G,
@@ -103,7 +103,7 @@ fn counts_of_each<
     'x,
     'e: 'x,
     R: Threads + Wait + Sync,
-    Static: StaticAtomSet + Send + Sync,
+    Static: StaticTables + Send + Sync,
     G: Gate,
 >(
     scope: &Scope<'x, &'e ()>,
@@ -136,7 +136,7 @@ fn counts_of_each<
 }
 
 /// The counts of the words of the text, by `n` workers of the scope.
-fn counts_in<'x, 'e: 'x, R: Threads + Wait + Sync, Static: StaticAtomSet + Send + Sync, G: Gate>(
+fn counts_in<'x, 'e: 'x, R: Threads + Wait + Sync, Static: StaticTables + Send + Sync, G: Gate>(
     scope: &Scope<'x, &'e ()>,
     rt: &'e R,
     set: &'e Set<Static>,
@@ -155,12 +155,7 @@ fn counts_in<'x, 'e: 'x, R: Threads + Wait + Sync, Static: StaticAtomSet + Send 
 }
 
 /// The counts of the words of the text, by `n` workers.
-pub fn counts_by_workers<
-    'e,
-    R: Threads + Wait + Sync,
-    Static: StaticAtomSet + Send + Sync,
-    G: Gate,
->(
+pub fn counts_by_workers<'e, R: Threads + Wait + Sync, Static: StaticTables + Send + Sync, G: Gate>(
     rt: &'e R,
     set: &'e Set<Static>,
     gate: &'e G,
