@@ -1,6 +1,5 @@
 -- Replies of a table's calls.
-use Rattle.std.specs.Prelude.{ℕ, ⊤}
-use Rattle.string_cache_core.specs.declared.faults.Fault.{Fault}
+use Rattle.std.specs.Prelude.{⊤}
 use Rattle.string_cache_core.specs.declared.table.call.TableReply.{TableReply}
 use Rattle.string_cache_core.specs.declared.table.call.TableReply.TheVariants.{Word, Given, NotHeld, Refused}
 

@@ -1,6 +1,6 @@
 //! The upkeep of a table: how one is made, what it holds, how much memory it takes, and how it starts over.
 
-ghost use Rattle.std.specs.Prelude.{◌≡◌, ◌↔◌, ◌/◌, ◌-◌, ◌^◌, ◌<◌, ◌≤◌, ℕ, List, IfOk, IfSome, IsSome, IsTrue, MatchOption, None, OnOk, Some, length, nat_lt, slice_get};
+ghost use Rattle.std.specs.Prelude.{◌≡◌, ◌↔◌, ◌/◌, ◌-◌, ◌<◌, ◌≤◌, ℕ, List, IfOk, IfSome, IsSome, IsTrue, MatchOption, None, Some, length, nat_lt, slice_get};
 ghost use Rattle.std.specs.List.{All, list_any, sum_by};
 ghost use Rattle.string_cache_core.specs.Bounds.{AreBounds};
 ghost use Rattle.string_cache_core.specs.Kept.{Pair, map_of};

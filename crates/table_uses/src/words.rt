@@ -1,7 +1,6 @@
 //! Words that come and go: interned, shared, handed on, read and given back. None of these functions has a proof file.
 
-ghost use Rattle.std.specs.Prelude.{◌≡◌, ◌↔◌, ℕ, List, IfOk, IfSome, IsSome, IsTrue, MatchOption, OnErr, OnOk, Some, slice_get};
-ghost use Rattle.std.specs.Str.{IsUtf8};
+ghost use Rattle.std.specs.Prelude.{◌≡◌, ◌↔◌, ℕ, List, IfOk, IsSome, IsTrue, MatchOption, OnErr, slice_get};
 ghost use Rattle.string_cache_core.specs.Kept.{map_of};
 ghost use Rattle.string_cache_core.specs.Table.{HasWord, IsHeld, IsTextOf, IsWordOf};
 ghost use Rattle.table_uses.specs.Prices.{IsPriceOf};

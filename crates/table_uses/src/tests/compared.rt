@@ -1,11 +1,12 @@
 //! Names that are compared.
 
-use super::Plain;
 use crate::{are_one_name, is_keyword, same_word, two_come_and_go};
 use std::alloc::Global;
 use string_cache_core::static_sets::EmptyStaticAtomSet;
 use string_cache_core::table::Table;
 use string_cache_core::word::{Form, form_of};
+
+type Plain = Table<EmptyStaticAtomSet>;
 
 /// Two names, and whether they are one.
 const PAIRS: [(&str, &str, bool); 7] = [
@@ -103,7 +104,8 @@ fn three_names_are_compared(rt: HostRuntime) {
 }
 
 /// Whether the word of a text is a ticket. `None` where it is neither that nor inline.
-fn is_dynamic(table: &mut Plain, text: &str) -> Option<bool> {
+fn is_dynamic(alloc: Global, text: &str) -> Option<bool> {
+    let mut table = empty(alloc)?;
     match form_of(table.intern(text).ok()?)? {
         Form::Dynamic { .. } => Some(true),
         Form::Inline(_) => Some(false),
@@ -111,14 +113,20 @@ fn is_dynamic(table: &mut Plain, text: &str) -> Option<bool> {
     }
 }
 
+fn is_long(word: &str) -> bool {
+    ["sentence", "tokenised", "interned", "repeated"].contains(&word)
+}
+
 /// Of the words of the original's example, exactly four are dynamic.
 #[test]
 fn forms_of_the_example(rt: HostRuntime) {
     let text =
         "here is a sentence of text that will be tokenised and\ninterned and some repeated tokens is of text and";
-    let mut table = empty(rt.alloc()).expect(&rt, "a table");
     for word in text.split_whitespace() {
-        let wanted = ["sentence", "tokenised", "interned", "repeated"].contains(&word);
-        assert_eq!(rt; is_dynamic(&mut table, word), Some(wanted), "of {word:?}");
+        assert_eq!(rt;
+            is_dynamic(rt.alloc(), word),
+            Some(is_long(word)),
+            "of {word:?}"
+        );
     }
 }

@@ -1,86 +1,134 @@
 //! Names of two kinds, and a table that two threads read.
 
-use super::{new_table, word_of};
-use crate::{Function, Program, lengths_of_both};
+use crate::{Function, Program, lengths_of_both, table_of};
 use std::alloc::Global;
-use std::process::Abort;
+use std::thread::Threads;
 use string_cache_core::table::Name;
+
+/// The first ticket of "interned" in a table of 4096 buckets.
+const FIRST: u64 = 0x1_0840;
+
+/// The inline word of "abcdefg".
+const SHORT: u64 = 0x6766_6564_6362_6171;
+
+/// The lengths of the texts of two words in a table of "interned".
+fn lengths<R: Threads + Sync>(
+    rt: &R,
+    alloc: Global,
+    left: u64,
+    right: u64,
+) -> Option<(Option<usize>, Option<usize>)> {
+    let table = table_of(alloc, &["interned"]).ok()?;
+    Some(lengths_of_both(rt, &table, left, right))
+}
 
 #[test]
 fn a_table_is_read_by_two_threads(rt: HostRuntime) {
-    let table = new_table(&rt, rt.alloc(), &["pear tree", "m\u{f6}glich"]);
-    let pear = word_of(&rt, &table, "pear tree");
-    let plum = word_of(&rt, &table, "plum");
     assert_eq!(rt;
-        lengths_of_both(&rt, &table, pear, plum),
-        (Some(9), Some(4))
+        lengths(&rt, rt.alloc(), FIRST, SHORT),
+        Some((Some(8), Some(7)))
     );
-    assert_eq!(rt; lengths_of_both(&rt, &table, 0, plum), (None, Some(4)));
+    assert_eq!(rt; lengths(&rt, rt.alloc(), 0, SHORT), Some((None, Some(7))));
 }
 
-fn new_program(rt: &impl Abort, alloc: Global) -> Program {
-    Program::new(alloc).expect(rt, "a program")
+/// A program with one function, and that one's name.
+fn one_function(alloc: Global, function: &str) -> Option<(Program, Name<Function>)> {
+    let mut program = Program::new(alloc).ok()?;
+    let (_, name) = program.declare("source/main.rt", function).ok()?;
+    Some((program, name))
 }
 
-/// The name of a function in the file.
-fn declared(rt: &impl Abort, program: &mut Program, function: &str) -> Name<Function> {
-    let (_, name) = program
-        .declare("source/main.rt", function)
-        .expect(rt, "names");
-    name
-}
-
-/// Whether a text has this name.
-fn has_name(program: &Program, text: &str, name: Name<Function>) -> bool {
-    program.function(text) == Some(name)
+/// Whether a text has the name of a function that was declared.
+fn is_named(alloc: Global, function: &str, text: &str) -> Option<bool> {
+    let (program, name) = one_function(alloc, function)?;
+    Some(program.function(text) == Some(name))
 }
 
 #[test]
 fn functions_are_declared(rt: HostRuntime) {
-    let mut program = new_program(&rt, rt.alloc());
-    let main = declared(&rt, &mut program, "main_function");
-    let other = declared(&rt, &mut program, "other_function");
-    assert!(rt; main != other);
-    assert!(rt; has_name(&program, "main_function", main));
-    assert!(rt; has_name(&program, "other_function", other));
-    assert!(rt; program.function("source/main.rt").is_none()); // a file
-    assert_eq!(rt; program.functions(), 2);
+    for (text, wanted) in &[
+        ("main_function", true),
+        ("other_function", false),
+        ("source/main.rt", false), // a file
+    ] {
+        assert_eq!(rt;
+            is_named(rt.alloc(), "main_function", text),
+            Some(*wanted),
+            "of {text}"
+        );
+    }
 }
 
-/// Whether a name is found by its word.
-fn is_saved(program: &Program, name: Name<Function>) -> bool {
-    program.function_of_word(Program::word_of(name)) == Some(name)
+/// The name of a function whose word is known.
+fn name_of(alloc: Global, word: u64) -> Option<Name<Function>> {
+    let (program, _) = one_function(alloc, "interned")?;
+    program.function_of_word(word)
+}
+
+/// The word of that name.
+fn word_of(alloc: Global, word: u64) -> Option<u64> {
+    Some(Program::word_of(name_of(alloc, word)?))
 }
 
 #[test]
 fn functions_are_saved_by_word(rt: HostRuntime) {
-    let mut program = new_program(&rt, rt.alloc());
-    let main = declared(&rt, &mut program, "main_function");
-    assert!(rt; is_saved(&program, main));
-    assert!(rt; program.function_of_word(0).is_none());
-    assert_eq!(rt; program.length_of(main), Some(13));
+    assert_eq!(rt; word_of(rt.alloc(), FIRST), Some(FIRST));
+    assert_eq!(rt; word_of(rt.alloc(), 0), None);
 }
 
-fn is_declared_again(program: &mut Program, name: Name<Function>) -> Option<bool> {
+/// How long a function's name is.
+fn length(alloc: Global, function: &str) -> Option<usize> {
+    let (program, name) = one_function(alloc, function)?;
+    program.length_of(name)
+}
+
+#[test]
+fn functions_have_lengths(rt: HostRuntime) {
+    assert_eq!(rt; length(rt.alloc(), "main_function"), Some(13));
+    assert_eq!(rt; length(rt.alloc(), "m\u{f6}glich"), Some(8));
+}
+
+/// Whether a function that is declared twice is forgotten three times.
+fn forgotten_thrice(alloc: Global) -> Option<[bool; 4]> {
+    let (mut program, name) = one_function(alloc, "main_function")?;
+    let is_there = program.declare_again(name).ok()?;
+    Some([
+        is_there,
+        program.forget(name),
+        program.forget(name),
+        program.forget(name),
+    ])
+}
+
+/// Whether a function is there that was forgotten.
+fn is_declared_after(alloc: Global) -> Option<bool> {
+    let (mut program, name) = one_function(alloc, "main_function")?;
+    if !program.forget(name) {
+        return None;
+    }
     program.declare_again(name).ok()
 }
 
 #[test]
 fn functions_are_forgotten_as_often_as_declared(rt: HostRuntime) {
-    let mut program = new_program(&rt, rt.alloc());
-    let main = declared(&rt, &mut program, "main_function");
-    assert_eq!(rt; is_declared_again(&mut program, main), Some(true));
-    assert!(rt; program.forget(main) && program.forget(main) && !program.forget(main));
-    assert_eq!(rt; is_declared_again(&mut program, main), Some(false));
-    assert_eq!(rt; program.length_of(main), None);
+    assert_eq!(rt;
+        forgotten_thrice(rt.alloc()),
+        Some([true, true, true, false])
+    );
+    assert_eq!(rt; is_declared_after(rt.alloc()), Some(false));
+}
+
+/// How many functions a program of two tables has, and how many once all are forgotten.
+fn functions_of_tables(alloc: Global) -> Option<(usize, usize)> {
+    let files = table_of(alloc, &["source/main.rt"]).ok()?;
+    let functions = table_of(alloc, &["main_function", "other_function"]).ok()?;
+    let mut program = Program::of_tables(files, functions);
+    let before = program.functions();
+    program.forget_all();
+    Some((before, program.functions()))
 }
 
 #[test]
 fn functions_are_all_forgotten(rt: HostRuntime) {
-    let files = new_table(&rt, rt.alloc(), &["source/main.rt"]);
-    let functions = new_table(&rt, rt.alloc(), &["main_function", "other_function"]);
-    let mut program = Program::of_tables(files, functions);
-    assert_eq!(rt; program.functions(), 2);
-    program.forget_all();
-    assert_eq!(rt; program.functions(), 0);
+    assert_eq!(rt; functions_of_tables(rt.alloc()), Some((2, 0)));
 }
