@@ -1,23 +1,19 @@
-//! Calls whose bytes a set or a table tells: `tools/refused.py` compares what each of these tests prints with what the call asked for.
+//! Calls whose bytes a set tells: `tools/refused.py` compares what each of these tests prints with what the call asked for.
 
-use crate::begun::{new_set, new_table};
+use crate::begun::new_set;
 use std::alloc::Global;
 use std::io::Print;
 use std::process::Abort;
 use std::sync::Wait;
 use string_cache::dynamic_set::Set;
-use string_cache::table::Table;
 use string_cache::word::{Buckets, Limits};
-use string_cache::{DefaultAtom, EmptyStaticAtomSet, Fault};
+use string_cache::{DefaultAtom, EmptyStaticAtomSet};
 use text_streams::samples::{End, begin, finish};
 
 /// A set without static texts.
 type DefaultSet = Set<EmptyStaticAtomSet>;
 
-/// A table without static texts.
-type DefaultTable = Table<EmptyStaticAtomSet>;
-
-/// Prints how many bytes the call asked for, as the set or the table tells.
+/// Prints how many bytes the call asked for, as the set tells.
 fn tell<R: Print>(rt: &R, bytes: u128) {
     let _ = println!(rt; "-- {bytes} bytes");
 }
@@ -75,50 +71,4 @@ fn second_text_of_a_node(rt: HostRuntime) {
 #[test]
 fn short_text(rt: HostRuntime) {
     intern(&rt, &new_set(&rt, rt.alloc()), "short");
-}
-
-/// A table that is made tells all that it asked for.
-fn tell_made<R: Print + Abort>(rt: &R, table: Result<DefaultTable, Fault>) {
-    tell(rt, table.expect(rt, "a table").memory());
-}
-
-#[test]
-fn table_of_one_bucket(rt: HostRuntime) {
-    let buckets = Buckets::new(0).expect(&rt, "bits");
-    begin(&rt);
-    let table = Table::with_buckets(rt.alloc(), Limits::greatest(), buckets);
-    finish(&rt, End::Given);
-    tell_made(&rt, table);
-}
-
-#[test]
-fn table_with_room(rt: HostRuntime) {
-    let alloc = rt.alloc();
-    begin(&rt);
-    let table = Table::with_capacity(alloc, 577);
-    finish(&rt, End::Given);
-    tell_made(&rt, table);
-}
-
-/// The text is interned, which a table tells of.
-fn intern_in_table<R: Print + Abort>(rt: &R, table: &mut DefaultTable, text: &str) {
-    let before = table.memory();
-    begin(rt);
-    let word = table.intern(text);
-    finish(rt, End::Given);
-    tell(rt, table.memory().saturating_sub(before));
-    assert!(rt; word.is_ok());
-}
-
-#[test]
-fn first_text_of_a_table(rt: HostRuntime) {
-    let mut table: DefaultTable = new_table(&rt, rt.alloc());
-    intern_in_table(&rt, &mut table, "interned");
-}
-
-/// It asks for its bytes alone.
-#[test]
-fn text_of_a_table_with_room(rt: HostRuntime) {
-    let mut table = DefaultTable::with_capacity(rt.alloc(), 9).expect(&rt, "a table");
-    intern_in_table(&rt, &mut table, "interned");
 }
