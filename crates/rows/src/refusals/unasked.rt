@@ -215,6 +215,8 @@ fn table_is_looked_into(rt: HostRuntime) {
     let word = table.intern("interned").expect(&rt, "a word");
     begin(&rt);
     let is_told = is_told(&mut table, word);
+    let bytes = table.memory();
     finish(&rt, End::Given);
     assert!(rt; is_told && table.entries() == 0);
+    assert!(rt; bytes == 4096 * 8 + 496 + 208 + 1); // the groups stay
 }
