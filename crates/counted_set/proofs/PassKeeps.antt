@@ -1,11 +1,12 @@
 -- What a bucket keeps after a pass.
-use Rattle.std.proofs.Common.{◌≡◌, ◌≢◌, ℕ, ◌≤◌, List, [], ◌∷◌, ◌++◌, Bool, refl, sym, ◌∙◌, ap, subst}
+use Rattle.std.proofs.Common.{◌≡◌, ◌≢◌, ℕ, ◌≤◌, List, [], ◌∷◌, ◌++◌, length, Bool, sym, ◌∙◌, ap, subst, arith}
 use Rattle.std.proofs.lemmas.List.{append-nil}
 use Rattle.std.specs.List.{AllByRecursion}
 use Rattle.std.specs.Prelude.{Option}
 use Rattle.string_cache_core.specs.Pass.{PassReply, added, full, died, gone, stays, kept}
 use Rattle.string_cache_core.specs.Tables.{Tables}
-use Rattle.counted_set.specs.Chain.{Linked, IsKept, IsRightOf, SerialsDiffer, serial_of}
+use Rattle.counted_set.specs.Chain.{Linked, Chain, IsKept, IsRightOf, SerialsDiffer, serial_of}
+use Rattle.counted_set.specs.Counted.{IsPass}
 use Rattle.counted_set.specs.PassLeft.{IsPassLeft}
 use Rattle.node_chain.specs.Walked.{Walked, at_start}
 use Rattle.counted_set.specs.declared.dynamic_set.counts.CountReply.{CountReply}
@@ -30,6 +31,15 @@ differ_of_kept (e ∷ es) (died ∷ rs) h = differ_of_kept es rs h.1
 differ_of_kept (e ∷ es) (gone ∷ rs) h = differ_of_kept es rs h.1
 differ_of_kept (e ∷ es) (stays ∷ rs) h = (all_of_kept (λ x. serial_of x.ticket ≢ serial_of e.ticket) es rs h.0, differ_of_kept es rs h.1)
 
+few_of_kept : {S : Type 0} → (es : List Linked) (rs : List (PassReply S)) → length (kept es rs) ≤ length es
+few_of_kept [] rs = omega arith
+few_of_kept (e ∷ es) [] = omega arith
+few_of_kept (e ∷ es) (added s ∷ rs) = let few = few_of_kept es rs in omega (arith, few)
+few_of_kept (e ∷ es) (full ∷ rs) = let few = few_of_kept es rs in omega (arith, few)
+few_of_kept (e ∷ es) (died ∷ rs) = let few = few_of_kept es rs in omega (arith, few)
+few_of_kept (e ∷ es) (gone ∷ rs) = let few = few_of_kept es rs in omega (arith, few)
+few_of_kept (e ∷ es) (stays ∷ rs) = let few = few_of_kept es rs in omega (arith, few)
+
 -- a bucket keeps its promises where entries go
 pub is_kept_of_kept : {S : Type 0} → (t : Tables) (bits last : ℕ) (es : List Linked) (rs : List (PassReply S))
     → IsKept t (record { bits = bits; entries = es; last = last }) → IsKept t (record { bits = bits; entries = kept es rs; last = last })
@@ -38,15 +48,21 @@ is_kept_of_kept t bits last es rs h = record {
   right = all_of_kept (IsRightOf t bits) es rs h.right;
   differ = differ_of_kept es rs h.differ;
   bound = all_of_kept (λ x. serial_of x.ticket ≤ last) es rs h.bound;
+  number = (let few = few_of_kept es rs in let n = h.number in omega (arith, few, n));
 }
 
--- after a pass over the whole list, and back at its start
+-- after a pass over the whole list
 module _ {C S : Type 0} (adds : C → Linked → CountReply S → C → Type 0) (dies : C → Linked → Bool → C → Type 0) where
-  pub is_kept_after : (t : Tables) (bits last : ℕ) (wanted : Option (List ℕ)) (c d : C) (w v u : Walked Linked) (answer : Pass S)
-      → (w.passed ≡ []) × IsKept t (record { bits = bits; entries = w.left; last = last })
-      → IsPassLeft adds dies wanted c w answer d v → u ≡ at_start (v.passed ++ v.left)
-      → (u.passed ≡ []) × IsKept t (record { bits = bits; entries = u.left; last = last })
-  is_kept_after t bits last wanted c d w v u answer was p is =
-      let all : v.passed ++ v.left ≡ kept w.left p.pass.replies = ap (λ l. v.passed ++ l) p.none ∙ append-nil v.passed ∙ p.passed ∙ ap (λ l. l ++ p.after) was.0 ∙ p.pass.left in
-      let here : u ≡ at_start (kept w.left p.pass.replies) = is ∙ ap at_start all in
-      subst (λ (x : Walked Linked). (x.passed ≡ []) × IsKept t (record { bits = bits; entries = x.left; last = last })) (sym here) (refl, is_kept_of_kept t bits last w.left p.pass.replies was.1)
+  module _ (t : Tables) (b : Chain) (wanted : Option (List ℕ)) (c d : C) (w v : Walked Linked) (answer : Pass S) (start : w ≡ at_start b.entries) (p : IsPassLeft adds dies wanted c w answer d v) where
+    all_after : v.passed ++ v.left ≡ p.after
+    all_after = ap (λ l. v.passed ++ l) p.none ∙ append-nil v.passed ∙ p.passed ∙ ap (λ (u : Walked Linked). u.passed ++ p.after) start
+
+    -- what is left is what the pass leaves of the bucket's entries
+    pub is_pass_after : IsPass adds dies wanted c b.entries answer d (v.passed ++ v.left)
+    is_pass_after = subst (IsPass adds dies wanted c b.entries answer d) (sym all_after) (subst (λ (u : Walked Linked). IsPass adds dies wanted c u.left answer d p.after) start p.pass)
+
+    -- and the bucket can keep it
+    pub is_kept_after : IsKept t b → IsKept t (record { bits = b.bits; entries = v.passed ++ v.left; last = b.last })
+    is_kept_after was =
+        let q = is_pass_after in
+        subst (λ l. IsKept t (record { bits = b.bits; entries = l; last = b.last })) (sym q.left) (is_kept_of_kept t b.bits b.last b.entries q.replies was)

@@ -35,13 +35,23 @@ module _ {F : Type 0} (g : Mut F (Bor (List ℕ) × (ℕ × Unit {0})) (Unit {0}
   pub visited_all : (f p : F) (w u : Walked Linked) → u.left ≡ [] → Visited f w p u → VisitsEach g f w.left p
   visited_all f p w u none before = before p (subst (λ l. VisitsEach g p l p) (sym none) refl)
 
--- n was added up from w to u: with what is left it is the whole, and no more than the number of entries allows
-abbrev pub IsSummed : ℕ → Walked Linked → ℕ → Walked Linked → Type 0
-IsSummed count w n u = (n + cells_size u.left ≡ cells_size w.left) × (n + length u.left * 2 ^ 63 ≤ count * 2 ^ 63)
+-- n was counted from w to u
+abbrev pub IsCounted : Walked Linked → ℕ → Walked Linked → Type 0
+IsCounted w n u = n + length u.left ≡ length w.left
 
-pub summed_on : (count n m : ℕ) (w u v : Walked Linked) (e : Linked) (rest : List Linked) → u.left ≡ e ∷ rest → v ≡ passed_by u u.left
-    → m ≡ n + block_size (length e.text) → block_size (length e.text) < 2 ^ 63 → IsSummed count w n u → IsSummed count w m v
-summed_on count n m w u v e rest at is more few before =
+pub counted_on : (n : ℕ) (w u v : Walked Linked) (e : Linked) (rest : List Linked) → u.left ≡ e ∷ rest → v ≡ passed_by u u.left → IsCounted w n u → IsCounted w (n + 1) v
+counted_on n w u v e rest at is before =
+    let a : length u.left ≡ length rest + 1 = ap length at ∙ (omega arith) in
+    let b : length v.left ≡ length rest = ap (λ (x : Walked Linked). length x.left) (kept_next u v e rest at is) in
+    omega (arith, a, b, before)
+
+-- n was added up from w to u: with what is left it is the whole, and no more than the number of entries allows
+abbrev pub IsSummed : Walked Linked → ℕ → Walked Linked → Type 0
+IsSummed w n u = (n + cells_size u.left ≡ cells_size w.left) × (n + length u.left * 2 ^ 63 ≤ length w.left * 2 ^ 63)
+
+pub summed_on : (n m : ℕ) (w u v : Walked Linked) (e : Linked) (rest : List Linked) → u.left ≡ e ∷ rest → v ≡ passed_by u u.left
+    → m ≡ n + block_size (length e.text) → block_size (length e.text) < 2 ^ 63 → IsSummed w n u → IsSummed w m v
+summed_on n m w u v e rest at is more few before =
     let left : v.left ≡ rest = ap (λ (x : Walked Linked). x.left) (kept_next u v e rest at is) in
     let a : cells_size u.left ≡ block_size (length e.text) + cells_size rest = ap cells_size at in
     let b : cells_size v.left ≡ cells_size rest = ap cells_size left in

@@ -1,5 +1,5 @@
 -- What clauses see of a bucket.
-use Rattle.std.specs.Prelude.{◌≡◌, ◌≢◌, ℕ, ◌/◌, ◌%◌, ◌^◌, ◌≤◌, List, [], ◌∷◌}
+use Rattle.std.specs.Prelude.{◌≡◌, ◌≢◌, ℕ, ◌/◌, ◌%◌, ◌^◌, ◌≤◌, List, [], ◌∷◌, length}
 use Rattle.std.specs.List.{AllByRecursion}
 use Rattle.string_cache_core.specs.Layout.{most_bits, ticket_unit}
 use Rattle.string_cache_core.specs.Tables.{Tables, entry_hash}
@@ -52,3 +52,4 @@ pub record IsKept (t : Tables) (c : Chain) : Type 0 where
   pub right : AllByRecursion (IsRightOf t c.bits) c.entries
   pub differ : SerialsDiffer c.entries
   pub bound : AllByRecursion (λ e. serial_of e.ticket ≤ c.last) c.entries
+  pub number : length c.entries ≤ c.last

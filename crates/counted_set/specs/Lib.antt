@@ -6,4 +6,5 @@ pub mod Memory
 pub mod PassLeft
 pub mod SetValue
 pub mod Share
+pub mod Stored
 pub mod Visits

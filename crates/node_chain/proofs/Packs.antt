@@ -75,21 +75,9 @@ module _ {X : Type 0} where
       let step : items_at to v ≡ record { passed = joined w.passed ++ before at w.left; left = m.rest } = λ i. record { passed = same i; left = m.left i } in
       step ∙ sym (ap (taken_out (items_at at w)) m.was)
 
-  pub kept_packed : (at len to : ℕ) (w v : Walked (List X)) → ArePacked at len w → Moved one at w to v → ArePacked to len v
-  kept_packed at len to w v c m =
-      let a : length (from_on at w.left) ≡ length m.rest + 1 = ap length m.was ∙ (omega arith) in
-      let b : length (from_on to v.left) ≡ length m.rest = ap length m.left in
-      let d : length (joined v.passed ++ before to v.left) ≡ length (joined w.passed ++ before at w.left) + 1 = ap length m.passed ∙ length_push (joined w.passed ++ before at w.left) m.item in
-      let c0 = c.0 in
-      ((omega (arith, c0, a, b, d)), m.within, m.ones, m.others)
-
-  pub taken_packed : (at len to : ℕ) (w v : Walked (List X)) → ArePacked at len w → Moved none at w to v → ArePacked to (len - 1) v
-  taken_packed at len to w v c m =
-      let a : length (from_on at w.left) ≡ length m.rest + 1 = ap length m.was ∙ (omega arith) in
-      let b : length (from_on to v.left) ≡ length m.rest = ap length m.left in
-      let d : length (joined v.passed ++ before to v.left) ≡ length (joined w.passed ++ before at w.left) = ap length (m.passed ∙ append-nil (joined w.passed ++ before at w.left)) in
-      let c0 = c.0 in
-      ((omega (arith, c0, a, b, d)), m.within, m.ones, m.others)
+  -- a move leaves packs as they have to be
+  pub packed_on : {kept : X → List X} (at to : ℕ) (w v : Walked (List X)) → Moved kept at w to v → ArePacked to v
+  packed_on at to w v m = (m.within, m.ones, m.others)
 
   -- the next item is passed by
   keep_more : (gone qs : List (List X)) (p : List X) (at : ℕ) → at + 1 < length p → HaveItems gone → HaveItems (p ∷ qs)
@@ -121,15 +109,15 @@ module _ {X : Type 0} where
     others = h.1;
   }
 
-  pub stays : (at len : ℕ) (w : Walked (List X)) (p : List X) (qs : List (List X)) → ArePacked at len w → w.left ≡ p ∷ qs → at + 1 < length p → Moved one at w (at + 1) w
-  stays at len w p qs c is more =
-      subst (λ (l : List (List X)). Moved one at (record { passed = w.passed; left = l }) (at + 1) (record { passed = w.passed; left = l })) (sym is) (keep_more w.passed qs p at more c.2 (subst HaveItems is c.3))
+  pub stays : (at : ℕ) (w : Walked (List X)) (p : List X) (qs : List (List X)) → ArePacked at w → w.left ≡ p ∷ qs → at + 1 < length p → Moved one at w (at + 1) w
+  stays at w p qs c is more =
+      subst (λ (l : List (List X)). Moved one at (record { passed = w.passed; left = l }) (at + 1) (record { passed = w.passed; left = l })) (sym is) (keep_more w.passed qs p at more c.1 (subst HaveItems is c.2))
 
-  pub leaves : (at len : ℕ) (w v : Walked (List X)) (p : List X) (qs : List (List X)) → ArePacked at len w → w.left ≡ p ∷ qs → length p ≤ at + 1 → v ≡ passed_by w w.left → Moved one at w 0 v
-  leaves at len w v p qs c is last next =
+  pub leaves : (at : ℕ) (w v : Walked (List X)) (p : List X) (qs : List (List X)) → ArePacked at w → w.left ≡ p ∷ qs → length p ≤ at + 1 → v ≡ passed_by w w.left → Moved one at w 0 v
+  leaves at w v p qs c is last next =
       subst (Moved one at w 0) (sym (next ∙ ap (passed_by w) is))
       (subst (λ (l : List (List X)). Moved one at (record { passed = w.passed; left = l }) 0 (record { passed = w.passed ++ p ∷ []; left = qs })) (sym is)
-      (keep_last w.passed qs p at (subst (IsWithin at) is c.1) last c.2 (subst HaveItems is c.3)))
+      (keep_last w.passed qs p at (subst (IsWithin at) is c.0) last c.1 (subst HaveItems is c.2)))
 
   -- The next item is taken out. Of the pack p of which it was a part, q is left.
   lost : (p q : List X) (at : ℕ) → at < length p → q ≡ take at p ++ drop (at + 1) p → length q ≡ at + length (drop (at + 1) p)
@@ -189,24 +177,24 @@ module _ {X : Type 0} where
   moved_from at to w m v p is moved =
       subst (λ (u : Walked (List X)). Moved none at u to v) (λ i. record { passed = is.1 i; left = (sym is.0) i }) moved
 
-  have_from : (at len : ℕ) (w m : Walked (List X)) (p : List X) → ArePacked at len w → Unlinked w m p → (at < length p) × HaveItems m.passed × HaveItems (p ∷ m.left)
-  have_from at len w m p c is = (subst (IsWithin at) is.0 c.1, subst HaveItems (sym is.1) c.2, subst HaveItems is.0 c.3)
+  have_from : (at : ℕ) (w m : Walked (List X)) (p : List X) → ArePacked at w → Unlinked w m p → (at < length p) × HaveItems m.passed × HaveItems (p ∷ m.left)
+  have_from at w m p c is = (subst (IsWithin at) is.0 c.0, subst HaveItems (sym is.1) c.1, subst HaveItems is.0 c.2)
 
-  pub out_lone : (at len : ℕ) (w m : Walked (List X)) (p : List X) → ArePacked at len w → Unlinked w m p → length p ≡ 1 → Moved none at w at m
-  out_lone at len w m p c is single =
-      let h = have_from at len w m p c is in moved_from at at w m m p is (lone m.passed m.left p at h.0 single h.1 h.2)
+  pub out_lone : (at : ℕ) (w m : Walked (List X)) (p : List X) → ArePacked at w → Unlinked w m p → length p ≡ 1 → Moved none at w at m
+  out_lone at w m p c is single =
+      let h = have_from at w m p c is in moved_from at at w m m p is (lone m.passed m.left p at h.0 single h.1 h.2)
 
-  pub out_inside : (at len : ℕ) (w m v : Walked (List X)) (p q : List X) (e : X) → ArePacked at len w → Unlinked w m p → drop at p ≡ e ∷ drop (at + 1) p → q ≡ take at p ++ drop (at + 1) p
+  pub out_inside : (at : ℕ) (w m v : Walked (List X)) (p q : List X) (e : X) → ArePacked at w → Unlinked w m p → drop at p ≡ e ∷ drop (at + 1) p → q ≡ take at p ++ drop (at + 1) p
       → v ≡ linked m q → (at + 1 ≡ length p → ⊥) → Moved none at w at v
-  out_inside at len w m v p q e c is taken rest back still =
-      let h = have_from at len w m p c is in let below = h.0 in
+  out_inside at w m v p q e c is taken rest back still =
+      let h = have_from at w m p c is in let below = h.0 in
       let n = lost p q at below rest in let k : length p ≡ at + (1 + length (drop (at + 1) p)) = sym (ap length (take-append-drop at p)) ∙ length-append (take at p) (drop at p) ∙ ap (λ j. j + length (drop at p)) (length-take-le at p (omega (arith, below))) ∙ ap (λ l. at + length l) taken ∙ (omega arith) in
       subst (Moved none at w at) (sym back) (moved_from at at w m (linked m q) p is (inside m.passed m.left p q e at below taken rest (omega (arith, n, k, below, still)) h.1 h.2))
 
-  pub out_last : (at len : ℕ) (w m v u : Walked (List X)) (p q : List X) (e : X) → ArePacked at len w → Unlinked w m p → drop at p ≡ e ∷ drop (at + 1) p → q ≡ take at p ++ drop (at + 1) p
+  pub out_last : (at : ℕ) (w m v u : Walked (List X)) (p q : List X) (e : X) → ArePacked at w → Unlinked w m p → drop at p ≡ e ∷ drop (at + 1) p → q ≡ take at p ++ drop (at + 1) p
       → v ≡ linked m q → u ≡ passed_by v v.left → at + 1 ≡ length p → (length p ≡ 1 → ⊥) → Moved none at w 0 u
-  out_last at len w m v u p q e c is taken rest back next end more =
-      let h = have_from at len w m p c is in
+  out_last at w m v u p q e c is taken rest back next end more =
+      let h = have_from at w m p c is in
       subst (Moved none at w 0) (sym (next ∙ ap (λ (i : Walked (List X)). passed_by i i.left) back))
       (moved_from at 0 w m (record { passed = m.passed ++ q ∷ []; left = m.left }) p is (last m.passed m.left p q e at h.0 taken rest end (omega (arith, end, more)) h.1 h.2))
 
@@ -217,24 +205,54 @@ module _ {X : Type 0} where
       let step : items_at 0 (at_start (w.passed ++ w.left)) ≡ at_start ((joined w.passed ++ before at w.left) ++ from_on at w.left) = λ i. record { passed = before_zero (w.passed ++ w.left) i; left = (from_zero (w.passed ++ w.left) ∙ all) i } in
       ap (items_at 0) new ∙ step
 
-  pub again_packed : (at len : ℕ) (w v : Walked (List X)) → ArePacked at len w → v ≡ at_start (w.passed ++ w.left) → ArePacked 0 len v
-  again_packed at len w v c new =
-      let view = again_view at w v new in
-      let a : length (items_at 0 v).passed ≡ 0 = ap (λ (u : Walked X). length u.passed) view in
-      let b : length (items_at 0 v).left ≡ length (items_at at w).passed + length (items_at at w).left = ap (λ (u : Walked X). length u.left) view ∙ length-append (items_at at w).passed (items_at at w).left in
-      let have = have_append w.passed w.left c.2 c.3 in let c0 = c.0 in
-      let fits = subst (λ (u : Walked (List X)). IsWithin 0 u.left × HaveItems u.passed × HaveItems u.left) (sym new) (within_zero (w.passed ++ w.left) have, tt, have) in
-      ((omega (arith, a, b, c0)), fits.0, fits.1, fits.2)
+  pub again_packed : (at : ℕ) (w v : Walked (List X)) → ArePacked at w → v ≡ at_start (w.passed ++ w.left) → ArePacked 0 v
+  again_packed at w v c new =
+      let have = have_append w.passed w.left c.1 c.2 in
+      subst (λ (u : Walked (List X)). ArePacked 0 u) (sym new) (within_zero (w.passed ++ w.left) have, tt, have)
+
+  -- packs at rest, and opened
+  pub start_packed : (ps : List (List X)) (w : Walked (List X)) → HaveItems ps → w ≡ at_start ps → ArePacked 0 w
+  start_packed ps w have is = subst (λ (u : Walked (List X)). ArePacked 0 u) (sym is) (within_zero ps have, tt, have)
+
+  pub start_view : (ps : List (List X)) (w : Walked (List X)) → w ≡ at_start ps → items_at 0 w ≡ at_start (joined ps)
+  start_view ps w is = ap (items_at 0) is ∙ (λ i. record { passed = before_zero ps i; left = from_zero ps i })
 
   -- what is seen at the place
-  pub seen_at : (at len : ℕ) (w : Walked (List X)) (p : List X) (qs : List (List X)) → ArePacked at len w → w.left ≡ p ∷ qs → (r : Option (Bor X)) → IsAt p at r → IsNext (from_on at w.left) r
-  seen_at at len w p qs c is (Some x) e = (drop (at + 1) p ++ joined qs, ap (from_on at) is ∙ ap (λ l. l ++ joined qs) e)
-  seen_at at len w [] qs c is None e = let below = subst (IsWithin at) is c.1 in absurd (omega (arith, below))
-  seen_at at len w (x ∷ xs) qs c is None e = let n = ap length (sym e ∙ drop_more (x ∷ xs) at x (subst (IsWithin at) is c.1)) in absurd (omega (arith, n))
+  pub seen_at : (at : ℕ) (w : Walked (List X)) (p : List X) (qs : List (List X)) → ArePacked at w → w.left ≡ p ∷ qs → (r : Option (Bor X)) → IsAt p at r → IsNext (from_on at w.left) r
+  seen_at at w p qs c is (Some x) e = (drop (at + 1) p ++ joined qs, ap (from_on at) is ∙ ap (λ l. l ++ joined qs) e)
+  seen_at at w [] qs c is None e = let below = subst (IsWithin at) is c.0 in absurd (omega (arith, below))
+  seen_at at w (x ∷ xs) qs c is None e = let n = ap length (sym e ∙ drop_more (x ∷ xs) at x (subst (IsWithin at) is c.0)) in absurd (omega (arith, n))
 
   -- no pack was passed where no item was
-  pub none_passed : (at len : ℕ) (w : Walked (List X)) → ArePacked at len w → (items_at at w).passed ≡ [] → (w.passed ≡ []) × (at ≡ 0)
-  none_passed at len w c is = none_before w.passed w.left at c.2 c.1 is
+  pub none_passed : (at : ℕ) (w : Walked (List X)) → ArePacked at w → (items_at at w).passed ≡ [] → (w.passed ≡ []) × (at ≡ 0)
+  none_passed at w c is = none_before w.passed w.left at c.1 c.0 is
+
+  -- an item is added before all, to the first pack or in one of its own
+  pub grown_view : (at : ℕ) (w m v : Walked (List X)) (p q : List X) (x : X) → ArePacked at w → (items_at at w).passed ≡ [] → Unlinked w m p → q ≡ x ∷ p → v ≡ linked m q
+      → items_at at v ≡ at_start (x ∷ (items_at at w).left)
+  grown_view at w m v p q x c none is more back =
+      let z = none_passed at w c none in
+      let whole : v ≡ at_start ((x ∷ p) ∷ m.left) = back ∙ ap (linked m) more ∙ ap (λ (l : List (List X)). record { passed = l; left = (x ∷ p) ∷ m.left }) (is.1 ∙ z.0) in
+      let there = subst (λ k. items_at k (at_start ((x ∷ p) ∷ m.left)) ≡ at_start (x ∷ from_on k (p ∷ m.left))) (sym z.1) refl in
+      ap (items_at at) whole ∙ there ∙ ap (λ (l : List (List X)). at_start (x ∷ from_on at l)) (sym is.0)
+
+  pub put_packed : (at : ℕ) (w v : Walked (List X)) (p : List X) (x : X) → ArePacked at w → (items_at at w).passed ≡ [] → p ≡ x ∷ [] → v ≡ at_start (p ∷ w.left) → ArePacked at v
+  put_packed at w v p x c none one is =
+      let z = none_passed at w c none in let some : 0 < length p = subst (λ (l : List X). 0 < length l) (sym one) (omega arith) in
+      subst (λ (u : Walked (List X)). ArePacked at u) (sym is) (subst (λ k. k < length p) (sym z.1) some, tt, (some, c.2))
+
+  pub put_view : (at : ℕ) (w v : Walked (List X)) (p : List X) (x : X) → ArePacked at w → (items_at at w).passed ≡ [] → p ≡ x ∷ [] → v ≡ at_start (p ∷ w.left)
+      → items_at at v ≡ at_start (x ∷ (items_at at w).left)
+  put_view at w v p x c none one is =
+      let z = none_passed at w c none in
+      let there = subst (λ k. items_at k (at_start ((x ∷ []) ∷ w.left)) ≡ at_start (x ∷ from_on k w.left)) (sym z.1) (ap (λ (l : List X). at_start (x ∷ l)) (sym (from_zero w.left))) in
+      ap (items_at at) (is ∙ ap (λ (l : List X). at_start (l ∷ w.left)) one) ∙ there
+
+  -- packs that are all before their first item have these items
+  pub at_start_stored : (at : ℕ) (w : Walked (List X)) (items : List X) → ArePacked at w → items_at at w ≡ at_start items → (w.passed ≡ []) × (joined w.left ≡ items) × HaveItems w.left
+  at_start_stored at w items c is =
+      let none = none_passed at w c (ap (λ (u : Walked X). u.passed) is) in
+      (none.0, sym (from_zero w.left) ∙ ap (λ k. from_on k w.left) (sym none.1) ∙ ap (λ (u : Walked X). u.left) is, c.2)
 
   -- from the place on there are no more packs than items, and a pack where there are items
   joined_few : (ps : List (List X)) → HaveItems ps → length ps ≤ length (joined ps)

@@ -18,6 +18,7 @@ use Rattle.std.proofs.Crossing.{frees}
 use Rattle.node_chain.specs.Nodes.{heap_token, node_owns, nodes_own, passed_own, next_lent}
 use Rattle.node_chain.specs.contracts.nodes.Node as node
 use Rattle.node_chain.specs.contracts.nodes.Nodes as nodes
+use Rattle.node_chain.specs.contracts.nodes.StoredNodes as stored
 
 quiet : {D X : Type 0} (to : D → X) (e : Exit X) → Quiet e → Quiet (hidden (under to e))
 quiet to unchanged q = λ x w. tt
@@ -59,6 +60,11 @@ module _ (T : RattleType) where
     nodes_send =
         let O = nodes.the_type T in let all : AllSend (fields O) = (pointer_send, (pointer_send, (pointer_send, tt))) in
         owning_send O all (λ d. (left_keyless d.next d.nexts d.left, passed_keyless d.head d.previous d.next d.priors d.passed)) (λ k. quiet (to O) (exits_of k (fields O)) ((struct_send (shape O) all).leaving k))
+
+    pub stored_send : IsSend (stored.the_row T)
+    stored_send =
+        let O = stored.the_type T in let all : AllSend (fields O) = (pointer_send, tt) in
+        owning_send O all (λ d. left_keyless d.head d.nexts d.items) (λ k. quiet (to O) (exits_of k (fields O)) ((struct_send (shape O) all).leaving k))
 
   module _ (s : IsSync T) where
     node_common : (p n : Ptr) (x : T.Denot) (ns : List Ptr) (xs : List T.Denot) → Common (next_lent T p (n ∷ ns) (x ∷ xs))

@@ -1,10 +1,12 @@
 -- The steps that the walks over nodes share. Assumes `Logic`.
 use Rattle.std.proofs.Common.{◌≡◌, ℕ, ◌<◌, List, [], ◌∷◌, ◌++◌, refl, ap, ◌+◌, ◌∙◌, arith, length, reverse, sym, append_assoc}
+use mathlib.Core.Bool.{Bool, true, false, ◌&&◌}
 use mathlib.Core.List.{reverse-cons}
 use seplogic.Ra.Ura.{Ura}
-use mir.Syntax.{impl, tnil, dnil}
+use mir.Syntax.{impl, tnil, dnil, ty_ptr}
 use mir.Raw.{raw as bare}
-use mir.Val.{Val, vstruct, vcons, vnil, of_list}
+use mir.Val.{Val, WT, has_ty, vstruct, vcons, vnil, of_list}
+use lib.Dec.{T}
 use base.Fraction.{full_share}
 use base.Stored.{Gv}
 use base.Logic.{never, never_e, fst∗}
@@ -31,10 +33,12 @@ use Rattle.core.proofs.alloc.Calls.{Al}
 use Rattle.std.specs.contracts.alloc.Global as heap
 use Rattle.std.proofs.alloc.Global.TheLaws as heap_laws
 use Rattle.std.specs.contracts.impls.GlobalAllocator.TheImpl.{ghosts}
+use Rattle.core.proofs.atomic.Steps.{Ptr-Good}
 use Rattle.core.proofs.cell.Inside.{Good, one}
 use Rattle.node_chain.specs.Nodes.{heap_token, node_owns, nodes_own, passed_own, both_own, next_lent}
 use Rattle.node_chain.specs.contracts.nodes.Node as node
 use Rattle.node_chain.specs.contracts.nodes.Nodes as nodes
+use Rattle.node_chain.specs.contracts.nodes.StoredNodes as stored
 use Rattle.node_chain.proofs.Values.{both}
 
 -- the C heap
@@ -43,6 +47,22 @@ al = record { row = heap.the_row; laws = heap_laws.the_row_laws; g = ghosts; d =
 
 abbrev pub word : Ptr → Ptr → Ptr → Val
 word h p n = vstruct (vcons (ptr_val h) (vcons (ptr_val p) (vcons (ptr_val n) vnil)))
+
+abbrev pub one_word : Ptr → Val
+one_word h = vstruct (vcons (ptr_val h) vnil)
+
+both_true : (b d : Bool) → T b → T d → T (b && d)
+both_true true true s t = tt
+both_true false d s t = absurd s
+both_true true false s t = absurd t
+
+pub one_word_good : (h : Ptr) → T (has_ty ty_ptr (ptr_val h) && true) × WT (one_word h)
+one_word_good h = let a = Ptr-Good h in (both_true (has_ty ty_ptr (ptr_val h)) true a.0 tt, (a.1, tt))
+
+pub word_good : (h p n : Ptr) → T (has_ty ty_ptr (ptr_val h) && (has_ty ty_ptr (ptr_val p) && (has_ty ty_ptr (ptr_val n) && true))) × WT (word h p n)
+word_good h p n =
+    let a = Ptr-Good h in let b = Ptr-Good p in let c = Ptr-Good n in
+    (both_true (has_ty ty_ptr (ptr_val h)) _ a.0 (both_true (has_ty ty_ptr (ptr_val p)) _ b.0 (both_true (has_ty ty_ptr (ptr_val n)) true c.0 tt)), (a.1, (b.1, (c.1, tt))))
 
 back : {Y : Type 0} (x : Y) (xs ys : List Y) → reverse xs ++ x ∷ ys ≡ reverse (x ∷ xs) ++ ys
 back x xs ys = sym (append_assoc (reverse xs) (x ∷ []) ys) ∙ ap (λ l. l ++ ys) (sym (reverse-cons x xs))
@@ -56,6 +76,9 @@ module _ (X : RattleType) (L : Laws X) where
 
   abbrev pub NodesRow : RattleType
   NodesRow = nodes.the_row R
+
+  abbrev pub StoredRow : RattleType
+  StoredRow = stored.the_row R
 
   abbrev pub Owned : NodesRow.Denot → Fml
   Owned d = both_own R d.head d.previous d.next d.priors d.passed d.nexts d.left
@@ -86,6 +109,14 @@ module _ (X : RattleType) (L : Laws X) where
     node_made t n x v = step (λ s. let w : Val = both (ptr_val n) v in
         nothing t $ move t (1 ∷ 0 ∷ []) $ fjoin t $ feq_i t (List Val) (ptr_val n ∷ []) (ptr_val n ∷ []) refl $ fjoin t $ feq_i t (List Val) (w ∷ []) (w ∷ []) refl $ fjoin t $
         fpack t (Valss (RawPtr ∷ R ∷ [])) (within (Declared.shape (node.the_type R)) (n, (x, tt)) (w ∷ [])) (ptr_val n ∷ [], (v ∷ [], tt)) $ s)
+
+    pub stored_had : K → (d : StoredRow.Denot) (vs : List Val) → (vs ≡ one_word d.head ∷ [] → Seq K 𝓛 (‵ (nodes_own R d.head d.nexts d.items) ∷ Γ) G) → Seq K 𝓛 (‵ (StoredRow.own_val d vs) ∷ Γ) G
+    stored_had t d vs k = fsplit t $ fpick t (λ vss. fsplit t $ feq_l t (λ all. fsplit t $ feq_l t (λ e. drop t $ k (all ∙ (λ i. vstruct (of_list (e i ++ [])) ∷ [])))))
+
+    pub stored_made : K → (d : StoredRow.Denot) → Step K 𝓛 (‵ (StoredRow.own_val d (one_word d.head ∷ [])) ∷ Γ) G (‵ (nodes_own R d.head d.nexts d.items) ∷ Γ) G
+    stored_made t d = step (λ s. let v : Val = one_word d.head in
+        nothing t $ feq_i t (List Val) (ptr_val d.head ∷ []) (ptr_val d.head ∷ []) refl $ fjoin t $ feq_i t (List Val) (v ∷ []) (v ∷ []) refl $ fjoin t $
+        fpack t (Valss (RawPtr ∷ [])) (within (shape (stored.the_type R)) (d.head, tt) (v ∷ [])) (ptr_val d.head ∷ [], tt) $ fjoin t $ s)
 
     pub nodes_had : K → (d : NodesRow.Denot) (vs : List Val) → (vs ≡ word d.head d.previous d.next ∷ [] → Seq K 𝓛 (‵ (Owned d) ∷ Γ) G) → Seq K 𝓛 (‵ (NodesRow.own_val d vs) ∷ Γ) G
     nodes_had t d vs k = fsplit t $ fpick t (λ vss. fsplit t $ feq_l t (λ all. fsplit t $ feq_l t (λ e. fsplit t $ feq_l t (λ f. fsplit t $ feq_l t (λ g. drop t $ k (all ∙ (λ i. vstruct (of_list (e i ++ (f i ++ (g i ++ [])))) ∷ [])))))))

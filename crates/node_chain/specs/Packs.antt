@@ -51,6 +51,6 @@ module _ {X : Type 0} where
   abbrev pub HaveItems : List (List X) → Type 0
   HaveItems ps = AllByRecursion (λ p. 0 < length p) ps
 
-  -- the place is before an item, or behind all, no pack is empty, and there are `len` items
-  abbrev pub ArePacked : ℕ → ℕ → Walked (List X) → Type 0
-  ArePacked at len w = (len ≡ length (items_at at w).passed + length (items_at at w).left) × IsWithin at w.left × HaveItems w.passed × HaveItems w.left
+  -- the place is before an item, or behind all, and no pack is empty
+  abbrev pub ArePacked : ℕ → Walked (List X) → Type 0
+  ArePacked at w = IsWithin at w.left × HaveItems w.passed × HaveItems w.left

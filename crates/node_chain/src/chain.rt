@@ -3,7 +3,7 @@
 ghost use Rattle.std.specs.Prelude.{◌≡◌, ◌+◌, ◌<◌, ◌^◌, List, [], ◌∷◌, ◌++◌, length, IfOk, IfErr};
 ghost use Rattle.node_chain.specs.Walked.{IsNext, at_start, linked, passed_by, taken_out};
 
-use crate::nodes::{Node, Nodes, RawBox};
+use crate::nodes::{Node, Nodes, RawBox, StoredNodes};
 use std::alloc::{AllocFailed, Global};
 use std::marker::Model;
 use std::ptr::null_mut;
@@ -14,8 +14,8 @@ use std::ptr::null_mut;
 /// first to last, in a loop.
 pub struct NodeChain<T> {
     nodes: Nodes<T>,
-    len: usize,
-    passed: usize,
+    len: u32,
+    passed: u32,
     alloc: Global,
 }
 
@@ -47,7 +47,7 @@ impl<T> NodeChain<T> {
     pub fn remaining(&self) -> usize
         ensures { result ≡ length self.now.left }
     {
-        self.len - self.passed
+        (self.len - self.passed) as usize
     }
 
     /// The next item: the first that is left, or `None` where none is.
@@ -76,6 +76,69 @@ impl<T> NodeChain<T> {
     {
         self.nodes.rewind();
         self.passed = 0;
+    }
+
+    /// Puts the chain to rest, where no item was passed: its items, and how many they are.
+    pub fn store(self) -> (StoredChain<T>, u32)
+        requires { self.passed ≡ [] }
+        ensures items { result.0 ≡ self.left }
+        ensures number { result.1 ≡ length self.left }
+    {
+        let NodeChain {
+            nodes,
+            len,
+            passed: _,
+            alloc: _,
+        } = self;
+        let stored = StoredChain {
+            nodes: nodes.store(),
+        };
+        (stored, len)
+    }
+}
+
+/// A chain at rest: its items behind one pointer. Contracts see their list.
+///
+/// How many they are stands beside it, with who keeps it: `open` makes a chain of both. Its drop frees no node and drops no item, so
+/// who ends one opens it first.
+#[derive(Drop)]
+pub struct StoredChain<T> {
+    nodes: StoredNodes<T>,
+}
+
+impl<T> Model for StoredChain<T> {
+    ghost use Rattle.std.specs.Prelude.{List};
+    ghost use Rattle.std.specs.Coded.{coded_list};
+
+    ghost Value = { List T };
+
+    ghost coded = { coded_list T.code };
+
+    ghost view = { λ c. c.nodes.items };
+}
+
+impl<T> StoredChain<T> {
+    /// One without items.
+    pub fn new() -> StoredChain<T>
+        ensures { result ≡ [] }
+    {
+        StoredChain {
+            nodes: StoredNodes::new(),
+        }
+    }
+
+    /// The chain of these items, all of which are left, where their number is right. It takes its memory from `alloc`.
+    pub fn open(self, number: u32, alloc: Global) -> NodeChain<T>
+        requires { number ≡ length self }
+        ensures { result ≡ at_start self }
+    {
+        let StoredChain { nodes } = self;
+        NodeChain {
+            nodes: nodes.open(),
+            len: number,
+            passed: 0,
+            alloc,
+        }
     }
 }
 
@@ -123,7 +186,7 @@ impl<T: Drop> NodeChain<T> {
         requires { 0 < length self.old.left }
         ensures taken { self.old.left ≡ result.value.item ∷ self.new.left }
         ensures passed { self.new.passed ≡ self.old.passed }
-        ensures room { length self.new.passed + length self.new.left + 1 < 2 ^ 64 }
+        ensures room { length self.new.passed + length self.new.left + 1 < 2 ^ 32 }
     {
         let node = if self.passed == 0 {
             self.nodes.take_head(self.alloc)
@@ -136,7 +199,7 @@ impl<T: Drop> NodeChain<T> {
 
     /// Puts a node before the items that are left, so that its item is the next. It takes no memory.
     pub fn link(&mut self, node: Box<Node<T>, Global>)
-        requires { length self.old.passed + length self.old.left + 1 < 2 ^ 64 }
+        requires { length self.old.passed + length self.old.left + 1 < 2 ^ 32 }
         ensures { self.new ≡ linked self.old node.value.item }
     {
         let node = RawBox::from_box(node);

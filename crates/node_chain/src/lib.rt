@@ -8,6 +8,6 @@ mod chain;
 mod nodes;
 mod pack;
 
-pub use chain::NodeChain;
+pub use chain::{NodeChain, StoredChain};
 pub use nodes::Node;
 pub use pack::Pack;

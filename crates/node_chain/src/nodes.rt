@@ -3,7 +3,7 @@
 ghost use Rattle.std.specs.Prelude.{◌≡◌, ◌<◌, List, [], ◌∷◌, ◌++◌, length, reverse};
 ghost use denote.RawPtr.{Ptr};
 ghost use Rattle.std_alloc.specs.Box.Ownership.{box_owns};
-ghost use Rattle.node_chain.specs.Nodes.{both_own, next_lent};
+ghost use Rattle.node_chain.specs.Nodes.{both_own, next_lent, nodes_own};
 
 use std::alloc::{Allocator, Global};
 use std::marker::Model;
@@ -72,6 +72,43 @@ unsafe impl<T: Send> Send for Nodes<T> {}
 
 unsafe impl<T: Sync> Sync for Nodes<T> {}
 
+/// Nodes at rest: `head` leads to the first of them. `items` are their items, and `nexts` where each node leads.
+///
+/// Its drop frees nothing.
+#[derive(Drop)]
+pub(crate) struct StoredNodes<T> {
+    head: *mut Node<T>,
+    ghost nexts: { List Ptr },
+    ghost items: { List T },
+}
+
+impl<T> Model for StoredNodes<T> {
+    ghost also_owns = { λ s. nodes_own T.row s.head s.nexts s.items };
+}
+
+unsafe impl<T: Send> Send for StoredNodes<T> {}
+
+impl<T> StoredNodes<T> {
+    /// No nodes.
+    pub(crate) fn new() -> StoredNodes<T>
+        ensures { result.items ≡ [] }
+    {
+        StoredNodes { head: null_mut() }
+    }
+
+    /// The same nodes, all of which are left.
+    pub(crate) fn open(self) -> Nodes<T>
+        ensures { (result.passed ≡ []) × (result.left ≡ self.items) }
+    {
+        let StoredNodes { head } = self;
+        Nodes {
+            head,
+            previous: null_mut(),
+            next: head,
+        }
+    }
+}
+
 impl<T> Nodes<T> {
     /// No nodes.
     pub(crate) fn new() -> Nodes<T>
@@ -135,6 +172,19 @@ impl<T> Nodes<T> {
         ensures { (self.new.passed ≡ []) × (self.new.left ≡ reverse self.old.passed ++ self.old.left) }
     {
         self.next = self.head;
+    }
+
+    /// The same nodes at rest, where none was passed.
+    pub(crate) fn store(self) -> StoredNodes<T>
+        requires { self.passed ≡ [] }
+        ensures { result.items ≡ self.left }
+    {
+        let Nodes {
+            head: _,
+            previous: _,
+            next,
+        } = self;
+        StoredNodes { head: next }
     }
 
     /// Takes the first node of all out, where none was passed.

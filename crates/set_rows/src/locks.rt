@@ -278,7 +278,7 @@ fn memory_waits_for_each_lock(rt: HostRuntime) {
     let (handle, shared) = (&rt, &set);
     let (bytes, ended) = beside(&rt, 1_000, held, || shared.memory(handle));
     assert!(rt; !ended);
-    assert!(rt; bytes == 4096 * 80 + 2 * (80 + 64));
+    assert!(rt; bytes == 4096 * 32 + 2 * (80 + 64));
     assert!(rt; are_free(&set, usize::MAX));
 }
 

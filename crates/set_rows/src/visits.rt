@@ -92,7 +92,7 @@ fn each_node_is_visited(rt: HostRuntime) {
 
 /// The bytes of a bucket with its lock, of a node, which has room for four entries, and of a cell before its text. A cell's bytes are
 /// rounded up to eights.
-const BUCKET: u128 = 80;
+const BUCKET: u128 = 32;
 
 const NODE: u128 = 80;
 

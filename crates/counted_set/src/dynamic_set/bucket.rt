@@ -1,24 +1,26 @@
 //! A bucket: what one lock holds.
 
-ghost use Rattle.std.specs.Prelude.{◌≡◌, ◌<◌, [], length, IfOk, IfErr, IfSome, Some, None};
+ghost use Rattle.std.specs.Prelude.{◌≡◌, ◌+◌, ◌^◌, ◌<◌, [], ◌∷◌, ◌++◌, length, IfOk, IfErr, IfSome, Some, None};
 ghost use Rattle.std.specs.List.{AllByRecursion};
 ghost use Rattle.string_cache_core.specs.Tables.{entry_hash};
 ghost use Rattle.string_cache_core.specs.Faults.{IsInternFault};
-ghost use Rattle.counted_set.specs.Chain.{IsRightOf};
+ghost use Rattle.counted_set.specs.Chain.{IsKept, IsRightOf};
 ghost use Rattle.counted_set.specs.Counted.{GivesShares, IsPass};
 ghost use Rattle.counted_set.specs.Find.{IsFind};
 ghost use Rattle.counted_set.specs.Link.{IsLink, IsIntern};
 ghost use Rattle.counted_set.specs.Memory.{IsMemory};
 ghost use Rattle.counted_set.specs.PassLeft.{IsPassLeft};
 ghost use Rattle.counted_set.specs.Visits.{VisitsEach};
-ghost use Rattle.node_chain.specs.Walked.{passed_by};
+ghost use Rattle.node_chain.specs.Walked.{at_start, passed_by};
 
 use super::counts::{CountReply, Counts, OwnCounts, Pass};
 use super::entries::Entries;
 use super::share::{Entry, Share};
-use super::visits::{memory_of, visit_each};
-use std::alloc::Global;
+use super::visits::{memory_of, number_of, visit_each};
+use node_chain::{Pack, StoredChain};
+use std::alloc::{AllocFailed, Global};
 use std::marker::{Model, PhantomData};
+use std::mem::replace;
 use std::sync::Wait;
 use string_cache_core::Fault;
 use string_cache_core::static_sets::StaticTables;
@@ -28,24 +30,41 @@ use string_cache_core::word::{Buckets, Limits, ticket_word};
 ///
 /// It is one of some number of buckets. Each entry names that number, its hash is that of its text, its ticket is that of its serial in
 /// the bucket of the hash, and no serial is given twice. Which lock a bucket stands under isn't known here.
-#[derive(Drop)]
+///
+/// Its entries are at rest: a walk over them takes them out, and puts them back. So it has 24 bytes.
 pub struct Bucket<Static: StaticTables> {
-    buckets: Buckets,
-    entries: Entries,
+    nodes: StoredChain<Pack<Entry>>,
     last: u64,
+    number: u32, // of nodes
+    buckets: Buckets,
     alloc: Global,
     of: PhantomData<Static>,
 }
 
 impl<Static: StaticTables> Model for Bucket<Static> {
-    ghost use Rattle.std.specs.Prelude.{◌≡◌, []};
     ghost use Rattle.counted_set.specs.Chain.{Chain, IsKept};
+    ghost use Rattle.counted_set.specs.Stored.{AreStored};
+    ghost use Rattle.node_chain.specs.Packs.{joined};
 
     ghost Value = { Chain };
 
-    ghost view = { λ b. record { bits = b.buckets; entries = b.entries.left; last = b.last } };
+    ghost view = { λ b. record { bits = b.buckets; entries = joined b.nodes; last = b.last } };
 
-    ghost invariant = { λ b. (b.entries.passed ≡ []) × IsKept Static.tables (record { bits = b.buckets; entries = b.entries.left; last = b.last }) };
+    ghost invariant = { λ b. AreStored b.number b.nodes × IsKept Static.tables (record { bits = b.buckets; entries = joined b.nodes; last = b.last }) };
+}
+
+impl<Static: StaticTables> Drop for Bucket<Static> {
+    fn drop(mut self) {
+        drop(self.take_entries());
+        let Self {
+            nodes: _,
+            last: _,
+            number: _,
+            buckets: _,
+            alloc: _,
+            of: _,
+        } = self;
+    }
 }
 
 impl<Static: StaticTables> Bucket<Static> {
@@ -54,20 +73,47 @@ impl<Static: StaticTables> Bucket<Static> {
         ensures { result ≡ record { bits = buckets; entries = []; last = 0 } }
     {
         Bucket {
-            buckets,
-            entries: Entries::new(alloc),
+            nodes: StoredChain::new(),
             last: 0,
+            number: 0,
+            buckets,
             alloc,
             of: PhantomData,
         }
     }
 
-    /// How many entries are linked.
+    /// How many entries are linked. The bucket is as it was.
     #[doc(hidden)]
-    pub fn len(&self) -> usize
-        ensures { result ≡ length self.now.entries }
+    pub fn len(&mut self) -> usize
+        ensures number { result ≡ length self.old.entries }
+        ensures same { self.new ≡ self.old }
     {
-        self.entries.len()
+        let mut entries = self.take_entries();
+        let number = number_of(&mut entries);
+        self.put_entries(entries);
+        number
+    }
+
+    /// Takes its entries out, for a walk over them, which begins at the first. It has none until it gets them back.
+    fn take_entries(&mut self) -> Entries
+        ensures entries { result ≡ at_start self.old.entries }
+        ensures kept { IsKept Static.tables self.old }
+        ensures few { length self.old.entries < 2 ^ 64 }
+        ensures left { self.new ≡ record { bits = self.old.bits; entries = []; last = self.old.last } }
+    {
+        let nodes = replace(&mut self.nodes, StoredChain::new());
+        let number = replace(&mut self.number, 0);
+        Entries::open(nodes, number, self.alloc)
+    }
+
+    /// Puts entries back, from the first on, in the place of those that it had.
+    fn put_entries(&mut self, entries: Entries)
+        requires { IsKept Static.tables (record { bits = self.old.bits; entries = entries.passed ++ entries.left; last = self.old.last }) }
+        ensures { self.new ≡ record { bits = self.old.bits; entries = entries.passed ++ entries.left; last = self.old.last } }
+    {
+        let (nodes, number) = entries.store();
+        self.nodes = nodes;
+        self.number = number;
     }
 
     /// One pass over all entries, which looks for the text: asks `counts` about each in order, and unlinks those that it
@@ -87,8 +133,9 @@ impl<Static: StaticTables> Bucket<Static> {
         ensures bits { self.new.bits ≡ self.old.bits }
         ensures last { self.new.last ≡ self.old.last }
     {
-        let answer = pass_left(rt, &mut self.entries, text, hash, counts);
-        self.entries.rewind();
+        let mut entries = self.take_entries();
+        let answer = pass_left(rt, &mut entries, text, hash, counts);
+        self.put_entries(entries);
         answer
     }
 
@@ -98,8 +145,9 @@ impl<Static: StaticTables> Bucket<Static> {
         ensures bits { self.new.bits ≡ self.old.bits }
         ensures last { self.new.last ≡ self.old.last }
     {
-        prune_left(&mut self.entries, counts);
-        self.entries.rewind();
+        let mut entries = self.take_entries();
+        prune_left(&mut entries, counts);
+        self.put_entries(entries);
     }
 
     /// Calls `visit` once for each entry, newest first, with its text and the number of its holders as one look at its count reads it.
@@ -110,7 +158,9 @@ impl<Static: StaticTables> Bucket<Static> {
         ensures visits { VisitsEach F.FnMut visit.old self.old.entries visit.new }
         ensures same { self.new ≡ self.old }
     {
-        visit_each(&mut self.entries, visit);
+        let mut entries = self.take_entries();
+        visit_each(&mut entries, visit);
+        self.put_entries(entries);
     }
 
     /// How many bytes its nodes have, and the cells of its entries with their texts. The bucket is as it was.
@@ -118,7 +168,10 @@ impl<Static: StaticTables> Bucket<Static> {
         ensures memory { IsMemory self.old.entries result }
         ensures same { self.new ≡ self.old }
     {
-        memory_of(&mut self.entries)
+        let mut entries = self.take_entries();
+        let bytes = memory_of(&mut entries);
+        self.put_entries(entries);
+        bytes
     }
 
     /// Links one new entry as the first, with the next serial, and gives its only share. `hash` is that of the text,
@@ -145,14 +198,33 @@ impl<Static: StaticTables> Bucket<Static> {
             hash,
             limits.holders(),
         )?;
-        if let Err(refused) = self.entries.add_head(entry) {
+        if let Err(refused) = self.link_entry(entry, serial) {
             // The share goes first, so that the entry ends without any.
             drop(share);
             drop(refused);
             return Err(Fault::Memory);
         }
-        self.last = serial;
         Ok(share)
+    }
+
+    /// Links an entry as the first, which has this serial. A refusal changes nothing, and gives the entry back.
+    fn link_entry(&mut self, entry: Entry, serial: u64) -> Result<(), AllocFailed<Entry>>
+        requires { IsKept Static.tables (record { bits = self.old.bits; entries = entry ∷ self.old.entries; last = serial }) }
+        ensures linked { IfOk result (λ _. self.new ≡ record { bits = self.old.bits; entries = entry ∷ self.old.entries; last = serial }) }
+        ensures refused { IfErr result (λ e. (e.value ≡ entry) × (self.new ≡ self.old)) }
+    {
+        let mut entries = self.take_entries();
+        match entries.add_head(entry) {
+            Ok(()) => {
+                self.last = serial;
+                self.put_entries(entries);
+                Ok(())
+            }
+            Err(refused) => {
+                self.put_entries(entries);
+                Err(refused)
+            }
+        }
     }
 
     /// A pass for the text, which goes on to `link` where it is absent. `hash` is that of the text, as for
@@ -173,7 +245,7 @@ impl<Static: StaticTables> Bucket<Static> {
         ensures intern { IsIntern C.adds C.dies limits.now text.now hash counts.old self.old result counts.new self.new }
         ensures share { GivesShares C.adds → IfOk result (λ s. (s.text ≡ text.now) × IsRightOf Static.tables self.old.bits s) }
     {
-        let _ = &self.entries; // so that the proof sees what the bucket keeps
+        let _ = &self.nodes; // so that the proof sees what the bucket keeps
         match self.pass(rt, text, hash, counts) {
             Pass::Found(share) => Ok(share),
             Pass::Full => Err(Fault::FullCount),
@@ -197,7 +269,7 @@ impl<Static: StaticTables> Bucket<Static> {
         ensures find { IsFind C.adds C.dies text.now counts.old self.old result counts.new self.new }
         ensures share { GivesShares C.adds → IfOk result (λ found. IfSome found (λ s. (s.text ≡ text.now) × IsRightOf Static.tables self.old.bits s)) }
     {
-        let _ = &self.entries; // so that the proof sees what the bucket keeps
+        let _ = &self.nodes; // so that the proof sees what the bucket keeps
         match self.pass(rt, text, hash, counts) {
             Pass::Found(share) => Ok(Some(share)),
             Pass::Full => Err(Fault::FullCount),

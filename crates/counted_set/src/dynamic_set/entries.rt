@@ -1,10 +1,12 @@
 //! The entries of a bucket, with a place in them. Only this file knows how they are kept.
 
 ghost use Rattle.std.specs.Prelude.{◌≡◌, ◌+◌, ◌<◌, ◌≤◌, ◌∷◌, ◌++◌, [], length, IfOk, IfErr};
+ghost use Rattle.counted_set.specs.Stored.{AreStored};
+ghost use Rattle.node_chain.specs.Packs.{joined};
 ghost use Rattle.node_chain.specs.Walked.{IsNext, at_start, passed_by, taken_out};
 
 use super::share::Entry;
-use node_chain::{Node, NodeChain, Pack};
+use node_chain::{Node, NodeChain, Pack, StoredChain};
 use std::alloc::{AllocFailed, Global};
 use std::marker::Model;
 use std::mem::size_of;
@@ -17,7 +19,6 @@ pub(super) const NODE_SIZE: usize = size_of::<Node<Pack<Entry>>>();
 pub(super) struct Entries {
     chain: NodeChain<Pack<Entry>>,
     at: usize,
-    len: usize,
 }
 
 impl Model for Entries {
@@ -29,25 +30,29 @@ impl Model for Entries {
 
     ghost view = { λ e. items_at e.at e.chain };
 
-    ghost invariant = { λ e. ArePacked e.at e.len e.chain };
+    ghost invariant = { λ e. ArePacked e.at e.chain };
 }
 
 impl Entries {
-    pub(super) fn new(alloc: Global) -> Entries
-        ensures { result ≡ at_start [] }
+    /// The entries of nodes at rest, of which there are this many. All of them are left.
+    pub(super) fn open(nodes: StoredChain<Pack<Entry>>, number: u32, alloc: Global) -> Entries
+        requires { AreStored number nodes }
+        ensures { result ≡ at_start (joined nodes) }
     {
         Entries {
-            chain: NodeChain::new(alloc),
+            chain: nodes.open(number, alloc),
             at: 0,
-            len: 0,
         }
     }
 
-    /// How many entries there are.
-    pub(super) fn len(&self) -> usize
-        ensures { result ≡ length self.now.passed + length self.now.left }
+    /// Puts them to rest, from the first on: their nodes, and how many these are.
+    pub(super) fn store(mut self) -> (StoredChain<Pack<Entry>>, u32)
+        ensures entries { joined result.0 ≡ self.passed ++ self.left }
+        ensures stored { AreStored result.1 result.0 }
     {
-        self.len
+        self.rewind();
+        let Entries { chain, at: _ } = self;
+        chain.store()
     }
 
     /// How many nodes have an entry that is left.
@@ -103,7 +108,6 @@ impl Entries {
             }
             drop(entry);
         }
-        self.len -= 1;
     }
 
     /// Goes back to the first entry.
@@ -121,9 +125,6 @@ impl Entries {
         ensures added { IfOk result (λ _. self.new ≡ at_start (entry ∷ self.old.left)) }
         ensures refused { IfErr result (λ e. (e.value ≡ entry) × (self.new ≡ self.old)) }
     {
-        let Some(len) = self.len.checked_add(1) else {
-            return Err(AllocFailed { value: entry });
-        };
         let has_room = match self.chain.look() {
             Some(pack) => pack.has_room(),
             None => false,
@@ -137,7 +138,6 @@ impl Entries {
                 value: value.into_item(),
             });
         }
-        self.len = len;
         Ok(())
     }
 }

@@ -19,10 +19,24 @@ pub(super) fn visit_each<F: FnMut(&str, u64)>(entries: &mut Entries, visit: &mut
     entries.rewind();
 }
 
+/// How many entries there are.
+#[tactic(auto, using(crate::proofs::Visits::same_again))]
+pub(super) fn number_of(entries: &mut Entries) -> usize
+    requires start { entries.old.passed ≡ [] }
+    requires few { length entries.old.left < 2 ^ 64 }
+    ensures number { result ≡ length entries.old.left }
+    ensures same { entries.new ≡ entries.old }
+{
+    let number = number_left(entries);
+    entries.rewind();
+    number
+}
+
 /// How many bytes the nodes have, and the cells of the entries.
 #[tactic(auto, using(crate::proofs::Visits::same_again, crate::proofs::Visits::is_memory))]
 pub(super) fn memory_of(entries: &mut Entries) -> u128
     requires start { entries.old.passed ≡ [] }
+    requires few { length entries.old.left < 2 ^ 64 }
     ensures memory { IsMemory entries.old.left result }
     ensures same { entries.new ≡ entries.old }
 {
@@ -55,13 +69,27 @@ fn visit_one<F: FnMut(&str, u64)>(visit: &mut F, text: &str, holders: u64)
     visit(text, holders);
 }
 
+// How many entries are left. It passes all by.
+fn number_left(entries: &mut Entries) -> usize
+    requires { length entries.old.left < 2 ^ 64 }
+    ensures number { result ≡ length entries.old.left }
+    ensures same { entries.new.passed ++ entries.new.left ≡ entries.old.passed ++ entries.old.left }
+{
+    let mut number = 0;
+    while let Some(_entry) = entries.look() {
+        number += 1;
+        entries.keep();
+    }
+    number
+}
+
 // How many bytes the cells of the entries that are left have. It passes all by.
 fn cells_left(entries: &mut Entries) -> u128
+    requires { length entries.old.left < 2 ^ 64 }
     ensures sum { result ≡ cells_size entries.old.left }
     ensures few { result ≤ 2 ^ 64 * 2 ^ 63 }
     ensures same { entries.new.passed ++ entries.new.left ≡ entries.old.passed ++ entries.old.left }
 {
-    let count = entries.len(); // so that the proof knows how many there may be
     let mut bytes = 0u128;
     while let Some(entry) = entries.look() {
         bytes += entry.cell_size() as u128;

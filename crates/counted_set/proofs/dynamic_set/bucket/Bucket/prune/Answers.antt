@@ -1,5 +1,10 @@
+use Rattle.std.proofs.Common.{◌++◌, subst, sym}
 use Rattle.counted_set.proofs.PassKeeps.{is_kept_after}
+use Rattle.counted_set.specs.Chain.{Chain, IsKept}
 use Rattle.counted_set.proofs.dynamic_set.bucket.Bucket.prune.Goals as goal
 
-pub invariant_of-self : goal.invariant_of-self
-invariant_of-self g c = is_kept_after g.C.Counts.adds g.C.Counts.dies _ _ _ _ _ _ _ _ _ _ c.self.invariant c.prune_left.ensures c.rewind.ensures
+pub put_entries-requires : goal.put_entries-requires
+put_entries-requires g c =
+    let taken = c.take_entries-entries.ensures in let v = c.prune_left.new.entries in
+    subst (λ (b : Chain). IsKept g.Static.StaticTables.tables (record { bits = b.bits; entries = v.passed ++ v.left; last = b.last })) (sym taken.left)
+    (is_kept_after g.C.Counts.adds g.C.Counts.dies _ _ _ _ _ _ _ _ taken.entries c.prune_left.ensures taken.kept)

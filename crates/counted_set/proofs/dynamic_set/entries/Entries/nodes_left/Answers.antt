@@ -6,7 +6,7 @@ use Rattle.counted_set.proofs.dynamic_set.entries.Entries.nodes_left.Goals as go
 
 pub returns-clause-few : goal.returns-clause-few
 returns-clause-few c =
-    let s = c.self.inside in let v = c.self.invariant in let few = packs_few s.at s.chain.left v.1 v.3 in
+    let s = c.self.inside in let v = c.self.invariant in let few = packs_few s.at s.chain.left v.0 v.2 in
     let shown = ap (λ (w : Walked Linked). length w.left) c.self.view_is in let is = c.remaining.ensures in
     omega (arith, few, shown, is)
 
