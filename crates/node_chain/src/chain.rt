@@ -145,7 +145,7 @@ impl<T> StoredChain<T> {
 impl<T: Drop> NodeChain<T> {
     /// Adds an item before all others, where none was passed.
     ///
-    /// A refusal is for want of memory. It gives the item back, and leaves the chain as it was.
+    /// A refusal is for want of memory, or comes at 2^32 - 1 items. It gives the item back, and leaves the chain as it was.
     pub fn add_head(&mut self, item: T) -> Result<(), AllocFailed<T>>
         requires { self.old.passed ≡ [] }
         ensures added { IfOk result (λ _. self.new ≡ at_start (item ∷ self.old.left)) }
