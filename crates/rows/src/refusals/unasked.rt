@@ -4,6 +4,7 @@ use crate::begun::{new_set, new_table};
 use serde_json::Value;
 use std::alloc::Global;
 use std::cmp::Ordering;
+use std::process::Abort;
 use std::sync::Wait;
 use string_cache::dynamic_set::Set;
 use string_cache::static_sets::StaticAtomSet;
@@ -123,7 +124,28 @@ fn entries_are_visited(rt: HostRuntime) {
     let bytes = set.memory(&rt);
     finish(&rt, End::Given);
     assert!(rt; atom.as_str() == "interned");
-    assert!(rt; holders == 1 && bytes == 4096 * 80 + 80 + 56);
+    assert!(rt; holders == 1 && bytes == 4096 * 32 + 80 + 56);
+}
+
+/// A set whose one entry died under the lock of its bucket, which is that of "interned", and is still linked.
+fn with_dying_entry<R: Wait + Abort>(rt: &R, alloc: Global) -> Set<EmptyStaticAtomSet> {
+    let set = new_set(rt, alloc);
+    let atom = DefaultAtom::from_str_in(rt, &set, "interned").expect(rt, "an atom");
+    let held = set.buckets().get(0x210).expect(rt, "a bucket").lock(rt);
+    drop(atom);
+    drop(held);
+    set
+}
+
+/// What is left in it goes with it.
+#[test]
+fn set_ends_with_an_entry(rt: HostRuntime) {
+    let set = with_dying_entry(&rt, rt.alloc());
+    let linked = set.linked(&rt);
+    begin(&rt);
+    drop(set);
+    finish(&rt, End::Given);
+    assert!(rt; linked == 1);
 }
 
 /// Whether the atom's text is found, and an inline and a static text are, and no other.
