@@ -34,13 +34,15 @@ NAMES = {"memory": "requests for memory", "starts": "starts of threads"}  # what
 # How many requests a call may do without, by its test's name: in each worker that has words (the text has 20), each of two lists that
 # are collected asks ahead for the room that it may need, and goes on without it. Threads ask in another order in each run, so that a
 # number may meet such a request twice: with more than one worker there may be twice as many. Equal texts are looked for with two requests,
-# and where one of them is refused, without.
+# and where one of them is refused, without. A thread for half of the lists that are merged can be done without as well.
 SPARED = {
     "refusals::generated::doubles_are_told": 2,
     "refusals::programs::counts_by_one": 2,
     "refusals::programs::counts_by_two": 8,
     "refusals::programs::counts_by_three": 12,
     "refusals::programs::counts_by_sixty_four": 80,
+    "refusals::programs::counts_of_many_by_four": 16,
+    "refusals::starts::counts_of_many_by_four": 1,
 }
 
 # The most requests that a call may make, by its test's name: a new text has a cell, and a node where its bucket's first one has no room; in a

@@ -38,6 +38,36 @@ fn counts_of_a_long_text(rt: HostRuntime) {
     assert!(rt; set.linked(&rt) == 1);
 }
 
+/// Whether the counts by this many workers have so many words, each twice, and nothing stays linked once they are gone.
+fn come_twice<R: Threads + Wait + Sync>(
+    rt: &R,
+    alloc: Global,
+    text: &str,
+    words: usize,
+    n: u32,
+) -> Result<bool, AppFault>
+    requires low { 1 ≤ n }
+    requires high { n ≤ 64 }
+{
+    let set = Set::<EmptyStaticAtomSet>::new(alloc)?;
+    let counts = count(rt, &set, text, n, &Open)?;
+    let are_right = counts.len() == words && counts.iter().all(|(_, places)| *places == 2);
+    drop(counts);
+    Ok(are_right && set.linked(rt) == 0)
+}
+
+/// Lists of many words, which halves of them share, and so many lists that some are left over.
+#[test]
+fn halves_of_lists_are_merged(rt: HostRuntime) {
+    let mut text = words_before(rt.alloc(), 8_192, 8, ' ').expect(&rt, "room");
+    let again = words_before(rt.alloc(), 8_192, 8, ' ').expect(&rt, "room");
+    text.push_str(&again).expect(&rt, "room");
+    for n in [4, 5, 6, 7, 8] {
+        let are_right = come_twice(&rt, rt.alloc(), &text, 8_192, n).expect(&rt, "counts");
+        assert!(rt; are_right, "by {n}");
+    }
+}
+
 /// Two workers are in their pieces at once.
 #[test]
 fn workers_run_at_once(rt: HostRuntime) {

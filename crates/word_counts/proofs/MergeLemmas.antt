@@ -1,5 +1,5 @@
 -- The counts of lists of words, merged, are those of the words joined.
-use Rattle.std.proofs.Common.{◌≡◌, ℕ, ◌+◌, ◌<◌, ◌≤◌, ◌^◌, Bool, true, false, cond, ◌||◌, List, [], ◌∷◌, ◌++◌, length, length-append, drop, map, refl, sym, ap, append_assoc, append-nil, ◌∙◌, subst, arith, is_eq, is_lt, Ordering, Less, Equal, Greater}
+use Rattle.std.proofs.Common.{◌≡◌, ℕ, ◌+◌, ◌<◌, ◌≤◌, ◌^◌, Bool, true, false, cond, ◌||◌, List, [], ◌∷◌, ◌++◌, length, length-append, drop, take, map, refl, sym, ap, ap₂, append_assoc, append-nil, ◌∙◌, subst, arith, is_eq, is_lt, Ordering, Less, Equal, Greater}
 use Rattle.std.specs.Prelude.{Option, Some, None, MatchOption, option_to_list, unwrap_or}
 use Rattle.std.specs.Cmp.Lexicographic.{bytes_decides, nat_list_eq_equiv, nat_list_cmp_total}
 use Rattle.std.specs.List.{All, AllByRecursion, list_any}
@@ -7,7 +7,7 @@ use Rattle.std.specs.List.Sorted.{IsStrictlySortedBy}
 use Rattle.std.specs.Map.{keys_of, lookup}
 use Rattle.std.specs.Ordering.{match_ordering, ordering_reverse}
 use Rattle.std.specs.Str.{bytes_eq}
-use Rattle.std.proofs.lemmas.List.{map-append, nil_from_length}
+use Rattle.std.proofs.lemmas.List.{map-append, nil_from_length, take-append-drop}
 use Rattle.std.proofs.lemmas.List.Elements.{All-cons, All-head, All-tail, All-nil}
 use Rattle.std.proofs.lemmas.List.Folds.{list_any-append}
 use Rattle.std.proofs.lemmas.List.Sums.{sum_by-append, count_by-le-length}
@@ -230,3 +230,42 @@ module _ {V : Type 0} (t : V → List (List ℕ × ℕ)) where
       of_one (p, more, whole, first, ended) = first ∙ ap word_counts (sym (whole ∙ ap (λ l. p ++ l) ended ∙ append-nil p))
   last_counts lists rest None none ws is left few nothing counts =
       nothing ∙ ap word_counts (sym (subst (λ l. AreCountsOf ws (map t l)) (none_first lists (is ∙ left)) counts))
+
+-- ---- the lists in two halves
+
+-- the words are those of some lists and then those of others
+abbrev Halves : List (List ℕ) → List (List (List ℕ × ℕ)) → List (List (List ℕ × ℕ)) → Type 0
+Halves ws xs ys = (p : List (List ℕ)) × (q : List (List ℕ)) × (ws ≡ p ++ q) × AreCountsOf p xs × AreCountsOf q ys
+
+halves : (xs ys : List (List (List ℕ × ℕ))) (ws : List (List ℕ)) → AreCountsOf ws (xs ++ ys) → Halves ws xs ys
+halves [] ys ws counts = ([], ws, refl, refl, counts)
+halves (x ∷ xs) ys ws (part, rest, is, first, others) = behind (halves xs ys rest others)
+  where
+    behind : Halves rest xs ys → Halves ws (x ∷ xs) ys
+    behind (p, q, both, front, back) = (part ++ p, q, is ∙ ap (λ l. part ++ l) both ∙ sym (append_assoc part p q), (part, p, refl, first, front), back)
+
+few_halves : (xs ys : List (List (List ℕ × ℕ))) (ws : List (List ℕ)) → length ws < 2 ^ 63 → Halves ws xs ys → AreCountsOfFew xs × AreCountsOfFew ys
+few_halves xs ys ws few (p, q, both, front, back) = (
+  (p, omega (arith, few, ap length both, length-append p q), front),
+  (q, omega (arith, few, ap length both, length-append p q), back),
+)
+
+counts_of_halves : (xs ys : List (List (List ℕ × ℕ))) (a b c : List (List ℕ × ℕ)) (ws : List (List ℕ)) → Halves ws xs ys → ((p : List (List ℕ)) → AreCountsOf p xs → a ≡ word_counts p)
+    → ((q : List (List ℕ)) → AreCountsOf q ys → b ≡ word_counts q) → c ≡ merged a b → c ≡ word_counts ws
+counts_of_halves xs ys a b c ws (p, q, both, front, back) of_front of_back is =
+    is ∙ ap (λ l. merged l b) (of_front p front) ∙ ap (merged (word_counts p)) (of_back q back) ∙ merged_counts p q ∙ ap word_counts (sym both)
+
+-- the numbers of lists that are so few fit once these are one
+pub few_fit : (xs : List (List (List ℕ × ℕ))) (a : List (List ℕ × ℕ)) → AreCountsOfFew xs → ((ws : List (List ℕ)) → AreCountsOf ws xs → a ≡ word_counts ws) → FitsHalf a
+few_fit xs a (ws, few, counts) is = subst FitsHalf (sym (is ws counts)) (counts_fit ws few)
+
+module _ {V : Type 0} (t : V → List (List ℕ × ℕ)) (n : ℕ) (lists front back : List V) where
+  cut : front ≡ take n lists → back ≡ drop n lists → map t lists ≡ map t front ++ map t back
+  cut first rest = ap (map t) (sym (take-append-drop n lists) ∙ sym (ap₂ ◌++◌ first rest)) ∙ map-append t front back
+
+  pub both_few : front ≡ take n lists → back ≡ drop n lists → AreCountsOfFew (map t lists) → AreCountsOfFew (map t front) × AreCountsOfFew (map t back)
+  both_few first rest (ws, few, counts) = few_halves (map t front) (map t back) ws few (halves (map t front) (map t back) ws (subst (AreCountsOf ws) (cut first rest) counts))
+
+  pub both_counts : (a b c : List (List ℕ × ℕ)) (ws : List (List ℕ)) → front ≡ take n lists → back ≡ drop n lists → AreCountsOf ws (map t lists) → ((p : List (List ℕ)) → AreCountsOf p (map t front) → a ≡ word_counts p)
+      → ((q : List (List ℕ)) → AreCountsOf q (map t back) → b ≡ word_counts q) → c ≡ merged a b → c ≡ word_counts ws
+  both_counts a b c ws first rest counts = counts_of_halves (map t front) (map t back) a b c ws (halves (map t front) (map t back) ws (subst (AreCountsOf ws) (cut first rest) counts))

@@ -49,7 +49,7 @@ pub type WordCounts<'e, Static> = Vec<(Atom<'e, Static>, u64)>;
 /// The words are cut into `n` pieces, in order and about equally long, and each goes to a worker with a thread of its own.
 /// It interns every place of every word in the set, repeated ones again, between the gate's two calls.
 ///
-/// `Worker` comes where a thread couldn't be started, and `Intern` where interning was refused, or memory. Where several
+/// `Worker` comes where a worker's thread couldn't be started, and `Intern` where interning was refused, or memory. Where several
 /// workers are refused it is the fault of the lowest piece. After a fault no worker is left running, and none of their
 /// atoms is held.
 pub fn count<'s, R: Threads + Wait + Sync, Static: StaticTables + Send + Sync, G: Gate>(

@@ -8,15 +8,15 @@ use crate::replay::WORKED;
 use crate::words::EXAMPLE_LINES;
 use commands::replay::replay;
 use commands::words::{words, words_alone};
-use std::alloc::Global;
+use std::alloc::{AllocError, Global};
 use std::io::Print;
 use std::process::Abort;
 use std::str;
 use std::sync::Wait;
 use std::test::Fail;
 use std::thread::Threads;
-use string_cache::EmptyStaticAtomSet;
 use string_cache::dynamic_set::Set;
+use string_cache::{Atom, EmptyStaticAtomSet};
 use text_streams::faults::AppFault;
 use text_streams::samples::{End, at_last, begin, finish};
 use word_counts::count::{Open, count};
@@ -142,6 +142,55 @@ fn counts_by_three(rt: HostRuntime) {
 #[test]
 fn counts_by_sixty_four(rt: HostRuntime) {
     let _ = example_is_counted(&rt, rt.alloc(), 64);
+}
+
+/// The numbers below 1,024, each once, and then the word "a" 3,072 times.
+fn text_of_many(alloc: Global) -> Result<String, AllocError> {
+    let mut text = String::new(alloc);
+    for n in 0..4_096 {
+        if n < 1_024 {
+            write!(text, "{n} ")?;
+        } else {
+            text.push_str("a ")?;
+        }
+    }
+    Ok(text)
+}
+
+/// Whether these are the counts of that text.
+fn are_many(counts: &[(Atom<'_, EmptyStaticAtomSet>, u64)]) -> bool {
+    match counts.last() {
+        Some((atom, n)) => counts.len() == 1_025 && *n == 3_072 && atom.eq_str("a"),
+        None => false,
+    }
+}
+
+/// Counts a text of so many words that lists of them are worth a thread, by this many workers, and answers the fault that came.
+pub fn many_are_counted<R: Threads + Wait + Sync + Print + Abort>(
+    rt: &R,
+    alloc: Global,
+    n: u32,
+) -> Option<AppFault>
+    requires low { 1 ≤ n }
+    requires high { n ≤ 64 }
+{
+    let set = Set::<EmptyStaticAtomSet>::new(alloc).expect(rt, "a set");
+    let text = text_of_many(alloc).expect(rt, "room");
+    begin(rt);
+    let answer = count(rt, &set, &text, n, &Open);
+    let ended = End::of(&answer);
+    finish(rt, ended);
+    let is_right = match &answer {
+        Ok(counts) => are_many(counts),
+        Err(_) => matches!(ended, End::Refused),
+    };
+    assert!(rt; is_right);
+    answer.err()
+}
+
+#[test]
+fn counts_of_many_by_four(rt: HostRuntime) {
+    let _ = many_are_counted(&rt, rt.alloc(), 4);
 }
 
 /// The whole program over a line of arguments, an input and the output that it has. Where it is refused, this line tells the fault.

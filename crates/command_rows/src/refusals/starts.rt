@@ -1,7 +1,8 @@
 //! Workers whose threads can't be started: `tools/refused.py` refuses each start of the call in turn. Of a short text `count` starts one
-//! thread for each piece, from the last piece down, and no other. With every start granted these pass as any test does.
+//! thread for each piece, from the last piece down, and no other; of one of many words, from four pieces on, another for half of the lists,
+//! which it can do without. With every start granted these pass as any test does.
 
-use super::programs::{example_is_counted, line_is_run};
+use super::programs::{example_is_counted, line_is_run, many_are_counted};
 use crate::program::{EXAMPLE_COUNTS, NO_WORKER};
 use std::sync::Wait;
 use std::sync::atomic::{AtomicU64, Ordering};
@@ -65,6 +66,19 @@ fn counts_by_three(rt: HostRuntime) {
 #[test]
 fn counts_by_eight(rt: HostRuntime) {
     let fault = example_is_counted(&rt, rt.alloc(), 8);
+    assert!(rt; matches!(fault, None | Some(AppFault::Worker)));
+}
+
+#[test]
+fn counts_of_many_by_three(rt: HostRuntime) {
+    let fault = many_are_counted(&rt, rt.alloc(), 3);
+    assert!(rt; matches!(fault, None | Some(AppFault::Worker)));
+}
+
+/// Where the thread for half of the lists can't be started, the counts come all the same.
+#[test]
+fn counts_of_many_by_four(rt: HostRuntime) {
+    let fault = many_are_counted(&rt, rt.alloc(), 4);
     assert!(rt; matches!(fault, None | Some(AppFault::Worker)));
 }
 

@@ -9,11 +9,12 @@ ghost use Rattle.text_streams.specs.Streams.{AppendsBeginning};
 ghost use Rattle.word_counts.specs.Told.{TellsLines};
 ghost use Rattle.word_counts.specs.WordCounts.{counted_texts};
 
+use super::merge::MANY;
 use super::{Open, count};
 use crate::buckets::buckets_for;
 use std::alloc::{AllocError, Global};
 use std::sync::Wait;
-use std::thread::Threads;
+use std::thread::{Threads, for_each_mut};
 use string_cache::dynamic_set::Set;
 use string_cache::word::Limits;
 use string_cache::{Atom, EmptyStaticAtomSet, StaticTables};
@@ -50,6 +51,25 @@ fn write_lines<Static: StaticTables, K: Sink>(
     write_whole(writer, pending.as_bytes())
 }
 
+/// Lets the atoms go, where they are many, in at most `threads` threads: each is the last of its text, and so asks its bucket.
+fn let_go<R: Threads + Sync, Static: StaticTables + Send + Sync>(
+    rt: &R,
+    counts: &mut [(Atom<'_, Static>, u64)],
+    threads: u32,
+)
+    requires { 1 ≤ threads }
+{
+    if counts.len() < MANY {
+        return;
+    }
+    for_each_mut(
+        rt,
+        counts,
+        threads as usize,
+        &|_, pair| { pair.0 = Atom::default() },
+    );
+}
+
 /// Reads all, counts its words by `n` workers, and writes a line for each distinct one. They are interned in a set of this
 /// call's own, whose number of buckets fits the input.
 ///
@@ -72,6 +92,8 @@ pub fn count_command<R: Threads + Wait + Sync, S: Source, K: Sink>(
     let text = read_text(alloc, reader)?;
     let buckets = buckets_for(text.len());
     let set = Set::<EmptyStaticAtomSet>::with_buckets(alloc, Limits::greatest(), buckets)?;
-    let counts = count(rt, &set, &text, n, &Open)?;
-    write_lines(alloc, &counts, writer)
+    let mut counts = count(rt, &set, &text, n, &Open)?;
+    let outcome = write_lines(alloc, &counts, writer);
+    let_go(rt, &mut counts, n);
+    outcome
 }

@@ -10,6 +10,7 @@ use super::WordCounts;
 use std::alloc::{AllocError, Global};
 use std::cmp::Ordering;
 use std::collections::VecDeque;
+use std::thread::{Threads, join};
 use string_cache::{Atom, StaticTables};
 
 /// What is left of counts that are being merged.
@@ -96,8 +97,8 @@ fn merge_pairs<'e, Static: StaticTables>(
     Ok(merged)
 }
 
-/// The counts of the words of all lists together. They are merged in pairs, and what this gives again, until one list is left.
-pub fn merge_all<'e, Static: StaticTables>(
+/// The counts of the words of all lists together, merged in this thread: in pairs, and what this gives again, until one list is left.
+fn merge_here<'e, Static: StaticTables>(
     alloc: Global,
     lists: VecDeque<WordCounts<'e, Static>>,
 ) -> Result<WordCounts<'e, Static>, AllocError>
@@ -110,4 +111,61 @@ pub fn merge_all<'e, Static: StaticTables>(
         lists = merge_pairs(alloc, lists)?;
     }
     Ok(lists.pop_front().unwrap_or(Vec::new(alloc)))
+}
+
+/// The counts of the words of both halves of the lists together. The first half is merged in a thread of its own, or in this one
+/// after the second half where none can be started.
+fn merge_halves<'e, R: Threads, Static: StaticTables + Send + Sync>(
+    rt: &R,
+    alloc: Global,
+    lists: VecDeque<WordCounts<'e, Static>>,
+) -> Result<WordCounts<'e, Static>, AllocError>
+    requires { AreCountsOfFew (map (λ list. counted_texts list.items) lists.items) }
+    ensures { (words : List (List ℕ)) → AreCountsOf words (map (λ list. counted_texts list.items) lists.entry.items)
+        → IfOk result (λ counts. counted_texts counts.items ≡ word_counts words) }
+{
+    let mut lower = lists;
+    let upper = lower.split_off(lower.len() / 2)?;
+    let (front, back) = join(
+        rt,
+        move || -> Result<WordCounts<'_, Static>, AllocError>
+            requires { AreCountsOfFew (map (λ list. counted_texts list.items) lower.items) }
+            ensures { (words : List (List ℕ)) → AreCountsOf words (map (λ list. counted_texts list.items) lower.entry.items)
+                → IfOk result (λ counts. counted_texts counts.items ≡ word_counts words) }
+        { merge_here(alloc, lower) },
+        move || -> Result<WordCounts<'_, Static>, AllocError>
+            requires { AreCountsOfFew (map (λ list. counted_texts list.items) upper.items) }
+            ensures { (words : List (List ℕ)) → AreCountsOf words (map (λ list. counted_texts list.items) upper.entry.items)
+                → IfOk result (λ counts. counted_texts counts.items ≡ word_counts words) }
+        { merge_here(alloc, upper) },
+    );
+    let front = front?;
+    let back = back?;
+    let counts = merge(alloc, front, back)?;
+    Ok(counts)
+}
+
+/// From so many words on it is worth a thread to merge a list of them, or to let their atoms go.
+pub const MANY: usize = 1 << 10;
+
+/// Whether none of the lists is worth a thread.
+fn are_short<Static: StaticTables>(lists: &VecDeque<WordCounts<'_, Static>>) -> bool {
+    lists.iter().all(|list| list.len() < MANY)
+}
+
+/// The counts of the words of all lists together. From four lists on, of which one has many words, half of them are merged in a thread of
+/// their own, if one can be started.
+pub fn merge_all<'e, R: Threads, Static: StaticTables + Send + Sync>(
+    rt: &R,
+    alloc: Global,
+    lists: VecDeque<WordCounts<'e, Static>>,
+) -> Result<WordCounts<'e, Static>, AllocError>
+    requires { AreCountsOfFew (map (λ list. counted_texts list.items) lists.items) }
+    ensures { (words : List (List ℕ)) → AreCountsOf words (map (λ list. counted_texts list.items) lists.entry.items)
+        → IfOk result (λ counts. counted_texts counts.items ≡ word_counts words) }
+{
+    if lists.len() < 4 || are_short(&lists) {
+        return merge_here(alloc, lists);
+    }
+    merge_halves(rt, alloc, lists)
 }

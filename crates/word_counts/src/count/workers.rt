@@ -150,7 +150,7 @@ fn counts_in<'x, 'e: 'x, R: Threads + Wait + Sync, Static: StaticTables + Send +
 {
     let parts = parts(rt, set.allocator(), text, n)?;
     let lists = counts_of_each(scope, rt, set, gate, &parts)?;
-    let counts = merge_all(set.allocator(), lists)?;
+    let counts = merge_all(rt, set.allocator(), lists)?;
     Ok(counts)
 }
 

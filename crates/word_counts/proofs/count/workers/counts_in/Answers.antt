@@ -6,8 +6,8 @@ use Rattle.word_counts.proofs.PartLemmas.{counts_of_parts}
 use Rattle.word_counts.proofs.WordLemmas.{length-words-le}
 use Rattle.word_counts.proofs.count.workers.counts_in.Goals as goal
 
-pub merge_all-requires : goal.merge_all-requires
-merge_all-requires g c = (
+pub merge_all-requires-after_bounds : goal.merge_all-requires-after_bounds
+merge_all-requires-after_bounds g c κs within = (
   words c.args.text.now,
   omega (arith, length-words-le c.args.text.now c.utf8.text, c.well_formed),
   counts_of_parts c.in_ok-parts.parts.items (words c.args.text.now) _ c.in_ok-parts.ensures.words (c.in_ok-lists.ensures.counts ∙ ap (map (λ part. word_counts (words_of_part part))) c.deref.ensures.value),

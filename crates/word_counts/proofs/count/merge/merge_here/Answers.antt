@@ -1,7 +1,7 @@
 use Rattle.std.proofs.Common.{ap, ◌∙◌, arith}
 use Rattle.word_counts.specs.WordCounts.{counted_texts}
 use Rattle.word_counts.proofs.MergeLemmas.{last_counts}
-use Rattle.word_counts.proofs.count.merge.merge_all.Goals as goal
+use Rattle.word_counts.proofs.count.merge.merge_here.Goals as goal
 
 pub merge_pairs-requires : goal.merge_pairs-requires
 merge_pairs-requires g c = (c.requires.0, c.requires.1, c.loop-lists.invariant c.requires.0 c.requires.2)
