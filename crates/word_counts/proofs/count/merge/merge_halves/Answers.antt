@@ -1,4 +1,4 @@
-use Rattle.std.proofs.Common.{subst}
+use Rattle.std.proofs.Common.{◌≡◌, subst}
 use Rattle.std.specs.Prelude.{IfOk}
 use Rattle.word_counts.specs.WordCounts.{counted_texts, word_counts}
 use Rattle.word_counts.proofs.MergeLemmas.{both_counts, both_few, few_fit}
