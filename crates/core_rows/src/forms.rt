@@ -26,20 +26,23 @@ fn is_unpacked(word: u64, text: &str) -> bool {
     unpacked.as_str() == text && form_of(word) == Some(Form::Inline(unpacked))
 }
 
+/// Texts, and their words.
+const INLINE: [(&str, u64); 8] = [
+    ("", 0x01),
+    ("a", 0x6111),
+    ("foo", 0x6f6f_6631),
+    ("abcdefg", 0x6766_6564_6362_6171),
+    ("\0", 0x11),
+    ("\0\0\0\0\0\0\0", 0x71),
+    ("é", 0xa9_c321),
+    ("short", 0x7472_6f68_7351),
+];
+
 #[test]
 fn inline_words(rt: HostRuntime) {
-    for (text, word) in [
-        ("", 0x01),
-        ("a", 0x6111),
-        ("foo", 0x6f6f_6631),
-        ("abcdefg", 0x6766_6564_6362_6171),
-        ("\0", 0x11),
-        ("\0\0\0\0\0\0\0", 0x71),
-        ("é", 0xa9_c321),
-        ("short", 0x7472_6f68_7351),
-    ] {
-        assert!(rt; is_packed(text, word), "of {text:?}");
-        assert!(rt; is_unpacked(word, text), "of {word:#x}");
+    for (text, word) in &INLINE {
+        assert!(rt; is_packed(text, *word), "of {text:?}");
+        assert!(rt; is_unpacked(*word, text), "of {word:#x}");
     }
     assert!(rt; pack_inline_word("abcdefgh").is_none());
 }
@@ -78,13 +81,16 @@ fn prints_as(alloc: Global, text: &str, printed: &str) -> Result<bool, AllocErro
     Ok(format!(in alloc; "{inline:?}")?.as_str() == printed)
 }
 
+/// Texts, and what is printed of them.
+const PRINTED: [(&str, &str); 3] = [
+    ("", "InlineText(\"\")"),
+    ("foo", "InlineText(\"foo\")"),
+    ("\0", "InlineText(\"\\0\")"),
+];
+
 #[test]
 fn inline_texts(rt: HostRuntime) {
-    for (text, printed) in [
-        ("", "InlineText(\"\")"),
-        ("foo", "InlineText(\"foo\")"),
-        ("\0", "InlineText(\"\\0\")"),
-    ] {
+    for (text, printed) in &PRINTED {
         assert!(rt; is_inline_text(text), "of {text:?}");
         assert!(rt;
             prints_as(rt.alloc(), text, printed) == Ok(true),
@@ -286,16 +292,25 @@ fn is_perfect(
     set.check()
 }
 
+/// Whether the static tables of the type pass the check.
+fn passes<S: StaticAtomSet>() -> bool {
+    S::get().check()
+}
+
 #[test]
 fn checked_tables(rt: HostRuntime) {
-    assert!(rt; One::get().check() && Short::get().check() && !Twice::get().check());
-    assert!(rt; EmptyStaticAtomSet::get().check());
+    assert!(rt; passes::<One>() && passes::<Short>() && !passes::<Twice>());
+    assert!(rt; passes::<EmptyStaticAtomSet>());
     assert!(rt; is_perfect(&[(0, 0)], &["sentence"], &[0]));
     assert!(rt; is_perfect(&[(u32::MAX, u32::MAX)], &["sentence"], &[1]));
 
     // The low bits of f2, 0x56e93a5c and 0x56f756b3, are the places of the two among two.
     assert!(rt; is_perfect(&[(0, 0)], &["sentence", "interned"], &[1, 2]));
     assert!(rt; !is_perfect(&[(0, 0)], &["interned", "sentence"], &[1, 2]));
+}
+
+fn are_parts_perfect(disps: &[(u32, u32)], atoms: &[&str], hashes: &[u64]) -> bool {
+    check_parts(0, disps, atoms, hashes)
 }
 
 /// As `check_parts` with the key 0, of tables that are made while the program runs.
@@ -309,15 +324,22 @@ fn are_perfect(
     let second = String::from_str(alloc, second)?;
     let disps = vec![in alloc; (0u32, 0u32); 1]?;
     let atoms = [first.as_str(), second.as_str()];
-    Ok(check_parts(0, &disps, &atoms, hashes))
+    Ok(are_parts_perfect(&disps, &atoms, hashes))
 }
+
+/// Two texts, their numbers, and whether they are perfect.
+const BORROWED: [(&str, &str, &[u64], bool); 3] = [
+    ("sentence", "interned", &[1, 2], true),
+    ("interned", "sentence", &[1, 2], false),
+    ("sentence", "interned", &[1], false),
+];
 
 #[test]
 fn borrowed_tables(rt: HostRuntime) {
-    let alloc = rt.alloc();
-    assert!(rt; are_perfect(alloc, "sentence", "interned", &[1, 2]) == Ok(true));
-    assert!(rt; are_perfect(alloc, "interned", "sentence", &[1, 2]) == Ok(false));
-    assert!(rt; are_perfect(alloc, "sentence", "interned", &[1]) == Ok(false));
+    for (first, second, hashes, wanted) in &BORROWED {
+        let are_perfect = are_perfect(rt.alloc(), first, second, hashes).expect(&rt, "memory");
+        assert!(rt; are_perfect == *wanted, "of {first:?}");
+    }
 }
 
 #[test]
@@ -345,15 +367,18 @@ fn tells(alloc: Global, fault: Fault, text: &str) -> Result<bool, AllocError> {
     Ok(format!(in alloc; "{fault}")?.as_str() == text)
 }
 
+/// Faults, their numbers, and what they print.
+const FAULTS: [(Fault, u8, &str); 4] = [
+    (Fault::Memory, 1, "no memory"),
+    (Fault::FullCount, 2, "count is full"),
+    (Fault::TicketsSpent, 3, "tickets are spent"),
+    (Fault::NotText, 4, "not a text"),
+];
+
 #[test]
 fn faults(rt: HostRuntime) {
-    for (fault, number, text) in [
-        (Fault::Memory, 1, "no memory"),
-        (Fault::FullCount, 2, "count is full"),
-        (Fault::TicketsSpent, 3, "tickets are spent"),
-        (Fault::NotText, 4, "not a text"),
-    ] {
-        assert!(rt; fault.number() == number, "of {text:?}");
-        assert!(rt; tells(rt.alloc(), fault, text) == Ok(true), "of {text:?}");
+    for (fault, number, text) in &FAULTS {
+        assert!(rt; fault.number() == *number, "of {text:?}");
+        assert!(rt; tells(rt.alloc(), *fault, text) == Ok(true), "of {text:?}");
     }
 }

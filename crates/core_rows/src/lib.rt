@@ -7,6 +7,8 @@ mod forms;
 #[cfg(test)]
 mod memory;
 #[cfg(test)]
+mod runs;
+#[cfg(test)]
 mod table;
 #[cfg(test)]
 mod words;

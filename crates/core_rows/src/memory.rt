@@ -127,13 +127,24 @@ fn memory_of_room(rt: HostRuntime) {
     }
 }
 
+/// Whether a table of one bucket with a text takes so many bytes once it has room for as many more, and so many once the text is gone.
+fn takes_with_room(
+    alloc: Global,
+    table: &mut Plain,
+    number: usize,
+    filled: u128,
+    empty: u128,
+) -> Result<bool, Fault> {
+    let words = words_of(alloc, table, "interned")?;
+    table.reserve(number)?;
+    Ok(takes(table, filled) && are_given(table, &words) && takes(table, empty))
+}
+
 /// Room for 1000 texts in a table with one: 128 groups.
 #[test]
 fn memory_of_room_beside_texts(rt: HostRuntime) {
     let mut table = one_bucket(&rt, rt.alloc());
-    let words = words_of(rt.alloc(), &mut table, "interned").expect(&rt, "words");
-    table.reserve(1000).expect(&rt, "room");
-    assert!(rt; takes(&table, BUCKET + 128 * GROUP + UNITS + 8));
-    assert!(rt; are_given(&mut table, &words));
-    assert!(rt; takes(&table, BUCKET + 128 * GROUP + UNITS));
+    let empty = BUCKET + 128 * GROUP + UNITS;
+    let takes_so = takes_with_room(rt.alloc(), &mut table, 1000, empty + 8, empty);
+    assert!(rt; takes_so == Ok(true));
 }

@@ -6,19 +6,29 @@ use string_cache_core::Fault;
 use string_cache_core::phf::hash;
 use string_cache_core::samples::One;
 use string_cache_core::static_sets::{EmptyStaticAtomSet, StaticAtomSet};
-use string_cache_core::table::{Call, Table, TableReply};
+use string_cache_core::table::Table;
 use string_cache_core::word::{Buckets, Form, Limits, form_of};
 
 // These say nothing of what they do, so that each test is proved in a moment.
 
-type Plain = Table<EmptyStaticAtomSet>;
+pub type Plain = Table<EmptyStaticAtomSet>;
 
-fn new_table(rt: &impl Abort, alloc: Global) -> Plain {
+pub fn new_table(rt: &impl Abort, alloc: Global) -> Plain {
     Table::new(alloc).expect(rt, "a table")
 }
 
 fn table_with(rt: &impl Abort, alloc: Global, limits: Limits, buckets: Buckets) -> Plain {
     Table::with_buckets(alloc, limits, buckets).expect(rt, "a table")
+}
+
+fn limited_table(rt: &impl Abort, alloc: Global, holders: u64, serials: u64) -> Plain {
+    let limits = Limits::new(holders, serials).expect(rt, "limits");
+    table_with(rt, alloc, limits, Buckets::usual())
+}
+
+/// A table with so many bits of buckets.
+fn table_of_bits(rt: &impl Abort, alloc: Global, bits: u8) -> Plain {
+    table_with(rt, alloc, Limits::greatest(), buckets_of(rt, bits))
 }
 
 /// The word of a text that is interned.
@@ -27,7 +37,7 @@ fn intern<S: StaticAtomSet>(rt: &impl Abort, table: &mut Table<S>, text: &str) -
 }
 
 /// Whether the text is interned as this word.
-fn interns<S: StaticAtomSet>(table: &mut Table<S>, text: &str, word: u64) -> bool {
+pub fn interns<S: StaticAtomSet>(table: &mut Table<S>, text: &str, word: u64) -> bool {
     table.intern(text) == Ok(word)
 }
 
@@ -47,13 +57,14 @@ fn has_text<S: StaticAtomSet>(table: &Table<S>, word: u64, text: &str) -> bool {
     }
 }
 
-fn keeps<S: StaticAtomSet>(table: &Table<S>, entries: usize, bytes: u128) -> bool {
+pub fn keeps<S: StaticAtomSet>(table: &Table<S>, entries: usize, bytes: u128) -> bool {
     table.entries() == entries && table.text_bytes() == bytes
 }
 
-fn run(rt: &impl Abort, table: &mut Plain, calls: &[Call]) -> Vec<TableReply> {
-    table.run(calls).expect(rt, "replies")
-}
+/// The first ticket of "interned", and the next one: its bucket is 0x210, the low bits of the text's hash 0x556a_6dba_06a4_7210.
+pub const FIRST: u64 = 0x1_0840;
+
+pub const SECOND: u64 = 0x2_0840;
 
 /// Gives a word that has to be held.
 fn give(rt: &impl Abort, table: &mut Plain, word: u64) {
@@ -61,10 +72,10 @@ fn give(rt: &impl Abort, table: &mut Plain, word: u64) {
     table.give(word);
 }
 
-/// Clones a word that has to be held.
-fn clone_word(rt: &impl Abort, table: &mut Plain, word: u64) -> Result<u64, Fault> {
+/// Whether a word, which has to be held, is cloned or refused so.
+fn clones(rt: &impl Abort, table: &mut Plain, word: u64, wanted: Result<u64, Fault>) -> bool {
     assert!(rt; table.holds(word));
-    table.clone_word(word)
+    table.clone_word(word) == wanted
 }
 
 /// Whether it is the first ticket of its bucket.
@@ -84,212 +95,121 @@ fn interns_inline(table: &mut Plain, text: &str, word: u64) -> bool {
     interns(table, text, word) && !has_text(table, word, text) && holds(table, word)
 }
 
+/// Short texts, and their words.
+const SHORT: [(&str, u64); 6] = [
+    ("", 0x1),
+    ("\0", 0x11),
+    ("a", 0x6111),
+    ("é", 0xa9_c321),
+    ("foo", 0x6f6f_6631),
+    ("abcdefg", 0x6766_6564_6362_6171),
+];
+
 #[test]
 fn short_texts_have_inline_words(rt: HostRuntime) {
     let mut table = new_table(&rt, rt.alloc());
-    for (text, word) in [
-        ("", 0x1),
-        ("\0", 0x11),
-        ("a", 0x6111),
-        ("é", 0xa9_c321),
-        ("foo", 0x6f6f_6631),
-        ("abcdefg", 0x6766_6564_6362_6171),
-    ] {
-        assert!(rt; interns_inline(&mut table, text, word), "of {text:?}");
+    for (text, word) in &SHORT {
+        assert!(rt; interns_inline(&mut table, text, *word), "of {text:?}");
     }
     assert!(rt; keeps(&table, 0, 0));
+}
+
+/// Whether the texts have words of their own, and keep them.
+fn have_own_words(rt: &impl Abort, table: &mut Plain, text: &str, other: &str) -> bool {
+    let word = intern(rt, table, text);
+    let second = intern(rt, table, other);
+    is_first(word)
+        && word != second
+        && interns(table, other, second)
+        && has_text(table, word, text)
+        && has_text(table, second, other)
 }
 
 #[test]
 fn one_text_has_one_ticket(rt: HostRuntime) {
     let mut table = new_table(&rt, rt.alloc());
-    let word = intern(&rt, &mut table, "abcdefgh");
-    assert!(rt; is_first(word));
-    let other = intern(&rt, &mut table, "interned");
-    assert!(rt; word != other);
-    assert!(rt; interns(&mut table, "interned", other));
-    assert!(rt; has_text(&table, word, "abcdefgh"));
-    assert!(rt; has_text(&table, other, "interned"));
+    assert!(rt; have_own_words(&rt, &mut table, "abcdefgh", "interned"));
+}
+
+fn static_table(rt: &impl Abort, alloc: Global) -> Table<One> {
+    Table::new(alloc).expect(rt, "a table")
+}
+
+/// Whether the text has this word, which is held.
+fn interns_static(table: &mut Table<One>, text: &str, word: u64) -> bool {
+    interns(table, text, word) && has_text(table, word, text) && holds(table, word)
+}
+
+/// Whether the text has the first ticket of its bucket.
+fn interns_first(table: &mut Table<One>, text: &str) -> bool {
+    match table.intern(text) {
+        Ok(word) => is_first(word),
+        Err(_) => false,
+    }
 }
 
 #[test]
 fn static_texts_have_static_words(rt: HostRuntime) {
-    let mut table = Table::<One>::new(rt.alloc()).expect(&rt, "a table");
-    assert!(rt; interns(&mut table, "sentence", 2));
-    assert!(rt; has_text(&table, 2, "sentence"));
-    assert!(rt; holds(&table, 2));
-    assert!(rt; !holds(&table, 1 << 32 | 2));
-    assert!(rt; is_first(intern(&rt, &mut table, "sentencf")));
+    let mut table = static_table(&rt, rt.alloc());
+    assert!(rt; interns_static(&mut table, "sentence", 2));
+    assert!(rt; !holds(&table, 0x1_0000_0002));
+    assert!(rt; interns_first(&mut table, "sentencf"));
+}
+
+/// Whether the text is interned as this word, and again.
+fn interns_twice(table: &mut Plain, text: &str, word: u64) -> bool {
+    interns(table, text, word) && interns(table, text, word)
+}
+
+/// Whether nothing is left of a text that had this word.
+fn is_gone(table: &Plain, text: &str, word: u64) -> bool {
+    !holds(table, word) && !has_text(table, word, text) && keeps(table, 0, 0)
 }
 
 #[test]
 fn a_word_goes_with_its_last_holder(rt: HostRuntime) {
     let mut table = new_table(&rt, rt.alloc());
-    let word = intern(&rt, &mut table, "interned");
-    assert!(rt; interns(&mut table, "interned", word));
+    assert!(rt; interns_twice(&mut table, "interned", FIRST));
     assert!(rt; keeps(&table, 1, 8));
-    give(&rt, &mut table, word);
-    give(&rt, &mut table, word);
-    assert!(rt; !holds(&table, word));
-    assert!(rt; !has_text(&table, word, "interned"));
-    assert!(rt; keeps(&table, 0, 0));
-    let next = intern(&rt, &mut table, "interned");
-    assert!(rt; next_ticket(&rt, word) == next);
+    give(&rt, &mut table, FIRST);
+    give(&rt, &mut table, FIRST);
+    assert!(rt; is_gone(&table, "interned", FIRST));
+    assert!(rt; interns(&mut table, "interned", SECOND));
+}
+
+/// Whether the second and the third text keep their words where the first one goes, and the third is found by its own.
+fn keep_their_words(rt: &impl Abort, table: &mut Plain) -> bool {
+    let first = intern(rt, table, "the first");
+    let second = intern(rt, table, "the second");
+    let third = intern(rt, table, "the third");
+    give(rt, table, first);
+    has_text(table, second, "the second")
+        && has_text(table, third, "the third")
+        && interns(table, "the third", third)
 }
 
 #[test]
 fn the_last_text_comes_in_the_place_of_one_that_goes(rt: HostRuntime) {
     let mut table = new_table(&rt, rt.alloc());
-    let first = intern(&rt, &mut table, "the first");
-    let second = intern(&rt, &mut table, "the second");
-    let third = intern(&rt, &mut table, "the third");
-    give(&rt, &mut table, first);
-    assert!(rt; has_text(&table, second, "the second"));
-    assert!(rt; has_text(&table, third, "the third"));
-    assert!(rt; interns(&mut table, "the third", third));
+    assert!(rt; keep_their_words(&rt, &mut table));
     assert!(rt; keeps(&table, 2, 19));
 }
 
-fn intern_call(rt: &impl Abort, alloc: Global, text: &str) -> Call {
-    Call::Intern(String::from_str(alloc, text).expect(rt, "a text"))
-}
-
-fn add_call(rt: &impl Abort, calls: &mut Vec<Call>, call: Call) {
-    calls.push(call).expect(rt, "room");
-}
-
-/// Whether this is the reply to one call that is run.
-fn replies(
-    rt: &impl Abort,
-    alloc: Global,
-    table: &mut Plain,
-    call: Call,
-    reply: TableReply,
-) -> bool {
-    let mut calls = Vec::new(alloc);
-    add_call(rt, &mut calls, call);
-    run(rt, table, &calls).as_slice() == [reply].as_slice()
-}
-
-/// Whether the text is interned as this word by one call that is run.
-fn runs_intern(rt: &impl Abort, alloc: Global, table: &mut Plain, text: &str, word: u64) -> bool {
-    let call = intern_call(rt, alloc, text);
-    replies(rt, alloc, table, call, TableReply::Word(word))
-}
-
-#[test]
-fn calls_are_run(rt: HostRuntime) {
-    let alloc = rt.alloc();
-    let mut table = new_table(&rt, alloc);
-    let word = intern(&rt, &mut table, "interned");
-    let next = next_ticket(&rt, word);
-    for (call, reply) in [
-        (Call::Clone(word), TableReply::Word(word)),
-        (Call::Give(word), TableReply::Given),
-        (Call::Give(word), TableReply::Given),
-        (Call::Give(word), TableReply::NotHeld),
-        (Call::Clone(word), TableReply::NotHeld),
-        (Call::Clone(3), TableReply::NotHeld),
-        (Call::Clone(0x6111), TableReply::Word(0x6111)),
-        (Call::Give(0x6111), TableReply::Given),
-    ] {
-        assert!(rt;
-            replies(&rt, alloc, &mut table, call, reply),
-            "with {reply:?}"
-        );
-    }
-    assert!(rt; runs_intern(&rt, alloc, &mut table, "foo", 0x6f6f_6631));
-    assert!(rt; runs_intern(&rt, alloc, &mut table, "interned", next));
-    assert!(rt; keeps(&table, 1, 8));
-}
-
-/// The replies to four calls: the text is interned, an inline word and no word are given, and the text is interned.
-fn replies_in_order(rt: &impl Abort, alloc: Global, table: &mut Plain) -> Vec<TableReply> {
-    let mut calls = Vec::new(alloc);
-    add_call(rt, &mut calls, intern_call(rt, alloc, "interned"));
-    add_call(rt, &mut calls, Call::Give(0x6111));
-    add_call(rt, &mut calls, Call::Give(0));
-    add_call(rt, &mut calls, intern_call(rt, alloc, "interned"));
-    run(rt, table, &calls)
-}
-
-#[test]
-fn a_run_replies_to_each_call_in_order(rt: HostRuntime) {
-    let mut table = new_table(&rt, rt.alloc());
-    let replies = replies_in_order(&rt, rt.alloc(), &mut table);
-    let [first, TableReply::Given, TableReply::NotHeld, last] = replies.as_slice() else {
-        panic!(rt; "other replies");
-    };
-    assert!(rt; *first == *last);
-    assert!(rt; keeps(&table, 1, 8));
+/// Whether the one text has no holder more, whether interned or cloned.
+fn is_full(rt: &impl Abort, table: &mut Plain, text: &str, word: u64) -> bool {
+    refuses(table, text, Fault::FullCount)
+        && keeps(table, 1, 8)
+        && clones(rt, table, word, Err(Fault::FullCount))
 }
 
 #[test]
 fn a_text_has_no_more_holders_than_its_limit(rt: HostRuntime) {
-    let limits = Limits::new(2, 1).expect(&rt, "limits");
-    let mut table = table_with(&rt, rt.alloc(), limits, Buckets::usual());
-    let word = intern(&rt, &mut table, "interned");
-    assert!(rt; interns(&mut table, "interned", word));
-    assert!(rt; refuses(&mut table, "interned", Fault::FullCount));
-    assert!(rt; keeps(&table, 1, 8));
-    assert!(rt; clone_word(&rt, &mut table, word) == Err(Fault::FullCount));
-    give(&rt, &mut table, word);
-    assert!(rt; clone_word(&rt, &mut table, word) == Ok(word));
-    assert!(rt; clone_word(&rt, &mut table, 0x6111) == Ok(0x6111));
-}
-
-/// The replies to four calls: the text is interned twice, and this word is given twice.
-fn replies_to_pairs(
-    rt: &impl Abort,
-    alloc: Global,
-    table: &mut Plain,
-    word: u64,
-) -> Vec<TableReply> {
-    let mut calls = Vec::new(alloc);
-    add_call(rt, &mut calls, intern_call(rt, alloc, "interned"));
-    add_call(rt, &mut calls, intern_call(rt, alloc, "interned"));
-    add_call(rt, &mut calls, Call::Give(word));
-    add_call(rt, &mut calls, Call::Give(word));
-    run(rt, table, &calls)
-}
-
-/// Interning twice, giving twice and interning again, in two runs.
-#[test]
-fn a_run_leaves_spent_tickets_spent(rt: HostRuntime) {
-    let alloc = rt.alloc();
-    let mut table = new_table(&rt, alloc);
-    let word = 0x1_0840; // the first of bucket 0x210, the low bits of the text's hash 0x556a_6dba_06a4_7210
-    let replies = replies_to_pairs(&rt, alloc, &mut table, word);
-    let given = TableReply::Given;
-    let interned = TableReply::Word(word);
-    assert!(rt; replies.as_slice() == [interned, interned, given, given].as_slice());
-    assert!(rt; keeps(&table, 0, 0));
-    assert!(rt; runs_intern(&rt, alloc, &mut table, "interned", word + TICKET_UNIT));
-}
-
-/// The replies to so many calls that clone this word.
-fn replies_to_clones(
-    rt: &impl Abort,
-    alloc: Global,
-    table: &mut Plain,
-    word: u64,
-    number: usize,
-) -> Vec<TableReply> {
-    let mut calls = Vec::new(alloc);
-    for _ in 0..number {
-        add_call(rt, &mut calls, Call::Clone(word));
-    }
-    run(rt, table, &calls)
-}
-
-#[test]
-fn a_run_has_no_calls_or_many(rt: HostRuntime) {
-    let mut table = new_table(&rt, rt.alloc());
-    assert!(rt; run(&rt, &mut table, &[]).is_empty());
-    let word = intern(&rt, &mut table, "interned");
-    let replies = replies_to_clones(&rt, rt.alloc(), &mut table, word, 20_000);
-    assert!(rt; replies.len() == 20_000);
-    assert!(rt; replies.iter().all(|reply| *reply == TableReply::Word(word)));
+    let mut table = limited_table(&rt, rt.alloc(), 2, 1);
+    assert!(rt; interns_twice(&mut table, "interned", FIRST));
+    assert!(rt; is_full(&rt, &mut table, "interned", FIRST));
+    give(&rt, &mut table, FIRST);
+    assert!(rt; clones(&rt, &mut table, FIRST, Ok(FIRST)));
+    assert!(rt; clones(&rt, &mut table, 0x6111, Ok(0x6111)));
 }
 
 /// Characters of one to four bytes, ten together, doubled eighteen times.
@@ -302,27 +222,35 @@ fn large_text(rt: &impl Abort, alloc: Global) -> String {
     text
 }
 
+/// Whether the text is the one entry of the table, of so many bytes, till its word is given.
+fn is_kept_till_given(rt: &impl Abort, table: &mut Plain, text: &str, bytes: u128) -> bool {
+    let word = intern(rt, table, text);
+    let is_kept = is_first(word) && has_text(table, word, text) && keeps(table, 1, bytes);
+    give(rt, table, word);
+    is_kept && keeps(table, 0, 0)
+}
+
 #[test]
 fn a_large_text_is_interned(rt: HostRuntime) {
     let text = large_text(&rt, rt.alloc());
     let mut table = new_table(&rt, rt.alloc());
-    let word = intern(&rt, &mut table, &text);
-    assert!(rt; is_first(word));
-    assert!(rt; has_text(&table, word, &text));
-    assert!(rt; keeps(&table, 1, 2_621_440));
-    give(&rt, &mut table, word);
-    assert!(rt; keeps(&table, 0, 0));
+    assert!(rt; is_kept_till_given(&rt, &mut table, &text, 2_621_440));
+}
+
+/// Whether the text has this word till that is given.
+fn comes_and_goes(rt: &impl Abort, table: &mut Plain, text: &str, word: u64) -> bool {
+    let own = intern(rt, table, text);
+    give(rt, table, own);
+    own == word
 }
 
 #[test]
 fn a_text_that_comes_and_goes_has_the_next_ticket(rt: HostRuntime) {
     let mut table = new_table(&rt, rt.alloc());
-    let mut next = 0x1_0840; // the first of bucket 0x210
+    let mut next = FIRST;
     for _ in 0..2_000 {
-        let word = intern(&rt, &mut table, "interned");
-        assert!(rt; word == next);
-        give(&rt, &mut table, word);
-        next = next_ticket(&rt, word);
+        assert!(rt; comes_and_goes(&rt, &mut table, "interned", next));
+        next = next_ticket(&rt, next);
     }
 }
 
@@ -364,27 +292,39 @@ fn gives_one_ticket(rt: &impl Abort, table: &mut Plain, first: &str, second: &st
     is_spent && refuses(table, first, Fault::TicketsSpent) && interns(table, "abc", 0x6362_6131)
 }
 
+/// Whether that is so of two texts of one of the buckets.
+fn have_one_ticket(rt: &impl Abort, alloc: Global, buckets: Buckets) -> bool {
+    let limits = Limits::new(1, 1).expect(rt, "limits");
+    let (first, second) = bucket_mates(rt, alloc, buckets);
+    let mut table = table_with(rt, alloc, limits, buckets);
+    gives_one_ticket(rt, &mut table, &first, &second)
+}
+
 #[test]
 fn a_bucket_gives_no_more_tickets_than_its_limit(rt: HostRuntime) {
-    let limits = Limits::new(1, 1).expect(&rt, "limits");
     for bits in 0..=14 {
         let buckets = buckets_of(&rt, bits);
-        let (first, second) = bucket_mates(&rt, rt.alloc(), buckets);
-        let mut table = table_with(&rt, rt.alloc(), limits, buckets);
-        assert!(rt;
-            gives_one_ticket(&rt, &mut table, &first, &second),
-            "of {bits} bits"
-        );
+        assert!(rt; have_one_ticket(&rt, rt.alloc(), buckets), "of {bits} bits");
     }
 }
 
-/// The first word of "interned" for each number of bits: its hash is 0x556a_6dba_06a4_7210, whose low bits are its bucket.
-const WORDS: [u64; 15] = [
-    0x1_0000, 0x1_0000, 0x1_0000, 0x1_0000, 0x1_0000, // no bit of the low four is set
-    0x1_0040, 0x1_0040, 0x1_0040, 0x1_0040, 0x1_0040, // bucket 0x10
-    0x1_0840, 0x1_0840, 0x1_0840, // bucket 0x210
-    0x1_4840, // bucket 0x1210
-    0x1_c840, // bucket 0x3210
+/// Numbers of bits, and the first word of "interned" for each: its hash is 0x556a_6dba_06a4_7210, whose low bits are its bucket.
+const WORDS: [(u8, u64); 15] = [
+    (0, 0x1_0000),
+    (1, 0x1_0000),
+    (2, 0x1_0000),
+    (3, 0x1_0000),
+    (4, 0x1_0000), // no bit of the low four is set
+    (5, 0x1_0040),
+    (6, 0x1_0040),
+    (7, 0x1_0040),
+    (8, 0x1_0040),
+    (9, 0x1_0040), // bucket 0x10
+    (10, FIRST),
+    (11, FIRST),
+    (12, FIRST), // bucket 0x210
+    (13, 0x1_4840), // bucket 0x1210
+    (14, 0x1_c840), // bucket 0x3210
 ];
 
 /// Whether "interned" has this word first, and once that is given back the next ticket of its bucket.
@@ -396,16 +336,18 @@ fn gives_tickets_from(rt: &impl Abort, table: &mut Plain, word: u64) -> bool {
 
 #[test]
 fn a_ticket_has_the_low_bits_of_the_hash(rt: HostRuntime) {
-    for (bits, word) in (0..=14).zip(WORDS) {
-        let buckets = buckets_of(&rt, bits);
-        let mut table = table_with(&rt, rt.alloc(), Limits::greatest(), buckets);
-        assert!(rt; gives_tickets_from(&rt, &mut table, word), "of {bits} bits");
+    for (bits, word) in &WORDS {
+        let mut table = table_of_bits(&rt, rt.alloc(), *bits);
+        assert!(rt;
+            gives_tickets_from(&rt, &mut table, *word),
+            "of {bits} bits"
+        );
     }
 }
 
 #[test]
 fn one_bucket_gives_all_tickets(rt: HostRuntime) {
-    let mut table = table_with(&rt, rt.alloc(), Limits::greatest(), buckets_of(&rt, 0));
+    let mut table = table_of_bits(&rt, rt.alloc(), 0);
     assert!(rt; interns(&mut table, "interned", 0x1_0000));
     assert!(rt; interns(&mut table, "tokenised", 0x2_0000));
     assert!(rt; keeps(&table, 2, 17));
