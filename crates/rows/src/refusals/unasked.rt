@@ -123,7 +123,7 @@ fn entries_are_visited(rt: HostRuntime) {
     let bytes = set.memory(&rt);
     finish(&rt, End::Given);
     assert!(rt; atom.as_str() == "interned");
-    assert!(rt; holders == 1 && bytes == 4096 * 80 + 80 + 56);
+    assert!(rt; holders == 1 && bytes == 4096 * 80 + 80 + 48);
 }
 
 /// Whether the atom's text is found, and an inline and a static text are, and no other.
