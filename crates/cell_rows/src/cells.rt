@@ -202,12 +202,12 @@ fn the_end_frees_what_is_not_held(rt: HostRuntime) {
 
 /// Texts, the bytes of a cell's block, and those that a heap which gives out sixteens says are in use.
 const BLOCKS: [(&str, usize, usize); 6] = [
-    ("", 48, 48),
-    ("a", 56, 64),
-    ("abcdefgh", 56, 64),
-    ("abcdefghi", 64, 64),
-    ("not all of it is ascii: é", 80, 80),
-    ("a longer text, which takes more than one word", 96, 96),
+    ("", 40, 48),
+    ("a", 48, 48),
+    ("abcdefgh", 48, 48),
+    ("abcdefghi", 56, 64),
+    ("not all of it is ascii: é", 72, 80),
+    ("a longer text, which takes more than one word", 88, 96),
 ];
 
 /// Whether a cell of the text tells this as its block's size, where the heap has this in use then.

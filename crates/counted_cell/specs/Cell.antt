@@ -1,5 +1,6 @@
 -- What contracts see of a cell: through its owner, and through each of its shares.
-use Rattle.std.specs.Prelude.{ℕ, ◌+◌, ◌-◌, ◌%◌, ◌^◌, List}
+use Rattle.std.specs.Prelude.{◌≡◌, ℕ, ◌+◌, ◌-◌, ◌%◌, ◌^◌, List}
+use denote.RawPtr.{◌+ₚ◌}
 use Rattle.counted_cell.specs.Counting.{CellName}
 use Rattle.counted_cell.specs.Text.{somes}
 use Rattle.counted_cell.specs.declared.label.Label.{Label}
@@ -18,7 +19,11 @@ cell_of r = record { name = r.name; label = r.value.label; note = r.value.note.n
 
 -- how many bytes lie before the text
 abbrev pub header_size : ℕ
-header_size = 48
+header_size = 40
+
+-- the bytes of the text lie right behind what stands before them, so nothing keeps where (for private contracts)
+abbrev pub IsBehind : CellRef Content → Type 0
+IsBehind r = r.value.text.places.at ≡ r.ptr +ₚ header_size
 
 abbrev pub header_align : ℕ
 header_align = 8

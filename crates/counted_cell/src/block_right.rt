@@ -28,7 +28,7 @@ impl<T> Model for BlockRight<T> {
 pub fn begin<T>(whole: PlacedValue<Header<T>>) -> (BlockRight<T>, CellRef<T>, CellRef<T>)
     ghost limit: { ℕ }
     requires { (whole.value.count ≡ 1) × (1 ≤ limit) }
-    ensures { (result.0.name.limit ≡ limit) × (result.0.ptr ≡ whole.ptr) × (result.1.ptr ≡ whole.ptr) × (result.0.value ≡ whole.value.value) × (result.1.value ≡ whole.value.value) × (result.2.value ≡ whole.value.value) × (result.1.name ≡ result.0.name) × (result.2.name ≡ result.0.name) × (result.1.right ≡ owner_right) × (result.2.right ≡ share_right) }
+    ensures { (result.0.name.limit ≡ limit) × (result.0.ptr ≡ whole.ptr) × (result.1.ptr ≡ whole.ptr) × (result.2.ptr ≡ whole.ptr) × (result.0.value ≡ whole.value.value) × (result.1.value ≡ whole.value.value) × (result.2.value ≡ whole.value.value) × (result.1.name ≡ result.0.name) × (result.2.name ≡ result.0.name) × (result.1.right ≡ owner_right) × (result.2.right ≡ share_right) }
 {
     let PlacedValue { ptr } = whole;
     (

@@ -4,10 +4,14 @@
 //! proofs are of that ordering alone: they say nothing of a weaker one.
 ghost use Rattle.std.specs.Prelude.{◌≡◌, ◌≢◌, ℕ, ◌+◌, ◌^◌, ◌<◌};
 ghost use Rattle.counted_cell.specs.Counting.{CellName, cell_name_coded, Right, right_coded, CanRead, no_right, owner_right, share_right, sole_right, ref_owns, ref_shares, reading_owns};
+ghost use Rattle.counted_cell.specs.BlockRight.{header_bytes};
+ghost use denote.RawPtr.{◌+ₚ◌};
 
 use crate::header::Header;
+use crate::places::PlacesPtr;
 use atomic_table::exchange;
 use std::marker::{Brand, Model, PhantomData};
+use std::mem::size_of;
 use std::sync::atomic::Ordering::SeqCst;
 use std::sync::atomic::raw;
 
@@ -48,6 +52,18 @@ impl<T> CellRef<T> {
         unsafe { &(*self.ptr).value }
     }
 
+    /// Where the bytes behind the header begin.
+    pub fn end(&self) -> PlacesPtr<u8>
+        requires reads { CanRead self.now.right }
+        requires fits { header_bytes T.row < 2 ^ 63 }
+        ensures { result.ptr ≡ self.now.ptr +ₚ header_bytes T.row }
+    {
+        let ptr = self.ptr;
+        PlacesPtr {
+            ptr: unsafe { (ptr as *mut u8).add(size_of::<Header<T>>()) },
+        }
+    }
+
     /// The count.
     pub fn load(&self) -> (u64, Reading)
         requires { CanRead self.now.right }
@@ -68,7 +84,7 @@ impl<T> CellRef<T> {
     pub fn increment(&self, seen: u64) -> (u64, Reading, CellRef<T>)
         requires reads { CanRead self.now.right }
         requires room { (0 < seen) × (seen < self.now.name.limit) × (seen + 1 < 2 ^ 63) }
-        ensures found { (result.1.name ≡ self.now.name) × (result.1.count ≡ result.0) × (result.2.value ≡ self.now.value) × (result.2.name ≡ self.now.name) }
+        ensures found { (result.1.name ≡ self.now.name) × (result.1.count ≡ result.0) × (result.2.value ≡ self.now.value) × (result.2.name ≡ self.now.name) × (result.2.ptr ≡ self.now.ptr) }
         ensures gained { (result.0 ≡ seen → result.2.right ≡ share_right) × (result.0 ≢ seen → result.2.right ≡ no_right) }
     {
         let ptr = self.ptr;

@@ -30,9 +30,8 @@ pub struct Owner<A: Allocator> {
 }
 
 impl<A: Allocator> Model for Owner<A> {
-    ghost use Rattle.std.specs.Prelude.{◌≡◌, ◌^◌, ◌+◌, ◌<◌, ◌≤◌, length};
-    ghost use denote.RawPtr.{◌+ₚ◌};
-    ghost use Rattle.counted_cell.specs.Cell.{Cell, cell_of, header_size, most_bytes};
+    ghost use Rattle.std.specs.Prelude.{◌≡◌, ◌^◌, ◌<◌, ◌≤◌, length};
+    ghost use Rattle.counted_cell.specs.Cell.{Cell, IsBehind, cell_of, most_bytes};
     ghost use Rattle.counted_cell.specs.Counting.{owner_right};
 
     ghost Value = { Cell };
@@ -41,7 +40,7 @@ impl<A: Allocator> Model for Owner<A> {
 
     ghost invariant = { λ o. (o.cell.right ≡ owner_right) × (o.cell.value.label.limit ≡ o.cell.name.limit) × (o.cell.name.limit < 2 ^ 63)
         × ((o.block.name ≡ o.cell.name) × (o.block.value ≡ o.cell.value) × (o.block.ptr ≡ o.free.at) × (o.cell.ptr ≡ o.block.ptr))
-        × ((o.free.alloc ≡ o.alloc) × (o.block.value.text.places.at ≡ o.free.at +ₚ header_size) × (length o.block.value.text.places.slots ≡ o.free.len) × (o.free.len ≤ most_bytes)) };
+        × ((o.free.alloc ≡ o.alloc) × IsBehind o.cell × (length o.block.value.text.places.slots ≡ o.free.len) × (o.free.len ≤ most_bytes)) };
 }
 
 impl<A: Allocator> Drop for Owner<A> {
@@ -112,7 +111,7 @@ impl<A: Allocator> Owner<A> {
     pub fn text(&self) -> &str
         ensures { result.now ≡ self.now.text }
     {
-        self.cell.get().text.as_str()
+        self.cell.get().text.as_str(self.cell.end())
     }
 
     /// How many bytes its block has: those before the text, the text, and what fills up to the alignment.

@@ -24,10 +24,6 @@ impl<T> Clone for PlacesPtr<T> {
 
 impl<T> Copy for PlacesPtr<T> {}
 
-unsafe impl<T> Send for PlacesPtr<T> {}
-
-unsafe impl<T> Sync for PlacesPtr<T> {}
-
 /// The owner of the places. It takes no space. Its drop forgets what the places hold, and frees nothing.
 #[derive(Drop)]
 pub struct Places<T> {

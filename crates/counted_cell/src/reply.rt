@@ -1,7 +1,7 @@
 //! What an addition of a share answers.
 ghost use Rattle.std.specs.Prelude.{◌≡◌, ◌<◌, ◌^◌};
 ghost use Rattle.counted_cell.specs.Counting.{CanRead};
-ghost use Rattle.counted_cell.specs.Cell.{cell_of};
+ghost use Rattle.counted_cell.specs.Cell.{IsBehind, cell_of};
 
 use crate::cell_ref::CellRef;
 use crate::content::Content;
@@ -27,6 +27,7 @@ impl ShareReply {
     pub(crate) fn one_more<R: Wait>(rt: &R, cell: &CellRef<Content>) -> ShareReply
         requires reads { CanRead cell.now.right }
         requires limit { (cell.now.value.label.limit ≡ cell.now.name.limit) × (cell.now.name.limit < 2 ^ 63) }
+        requires place { IsBehind cell.now }
         ensures { IsReply (cell_of cell.now) result }
     {
         let limit = cell.get().label.limit;

@@ -18,23 +18,23 @@ pub struct CellShare {
 
 impl Model for CellShare {
     ghost use Rattle.std.specs.Prelude.{◌≡◌, ◌^◌, ◌<◌};
-    ghost use Rattle.counted_cell.specs.Cell.{Cell, cell_of};
+    ghost use Rattle.counted_cell.specs.Cell.{Cell, IsBehind, cell_of};
     ghost use Rattle.counted_cell.specs.Counting.{share_right};
 
     ghost Value = { Cell };
 
     ghost view = { λ s. cell_of s.cell };
 
-    ghost invariant = { λ s. (s.cell.right ≡ share_right) × (s.cell.value.label.limit ≡ s.cell.name.limit) × (s.cell.name.limit < 2 ^ 63) };
+    ghost invariant = { λ s. (s.cell.right ≡ share_right) × (s.cell.value.label.limit ≡ s.cell.name.limit) × (s.cell.name.limit < 2 ^ 63) × IsBehind s.cell };
 }
 
 impl CellShare {
     ghost use Rattle.counted_cell.specs.Counting.{share_right};
-    ghost use Rattle.counted_cell.specs.Cell.{cell_of};
+    ghost use Rattle.counted_cell.specs.Cell.{IsBehind, cell_of};
 
     /// The share whose right it is.
     pub(crate) fn of_ref(cell: CellRef<Content>) -> CellShare
-        requires { (cell.right ≡ share_right) × (cell.value.label.limit ≡ cell.name.limit) × (cell.name.limit < 2 ^ 63) }
+        requires { (cell.right ≡ share_right) × (cell.value.label.limit ≡ cell.name.limit) × (cell.name.limit < 2 ^ 63) × IsBehind cell }
         ensures { result ≡ cell_of cell }
     {
         CellShare { cell }
@@ -58,7 +58,7 @@ impl CellShare {
     pub fn text(&self) -> &str
         ensures { result.now ≡ self.now.text }
     {
-        self.cell.get().text.as_str()
+        self.cell.get().text.as_str(self.cell.end())
     }
 
     /// One share more of the same cell. Where the cell has as many as it may have, nothing has changed.

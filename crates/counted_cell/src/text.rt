@@ -5,13 +5,13 @@ ghost use Rattle.std.proofs.Props.{props};
 
 use crate::places::{Places, PlacesPtr};
 
-/// The text, where its bytes lie, and their owner. Its drop gives nothing back: the block's end does.
+/// The owner of the bytes of a text, and how many they are. Where they lie is for its holder to know, since they stand at one
+/// distance behind a header. Its drop gives nothing back: the block's end does.
 #[derive(Drop)]
 pub struct Text {
-    start: PlacesPtr<u8>,
     len: usize,
     pub(crate) places: Places<u8>,
-    ghost row: { (start.ptr ≡ places.at) × (places.slots ≡ map Some (somes places.slots)) × (len ≡ length (somes places.slots)) } by { Prim.hlevel props },
+    ghost row: { (places.slots ≡ map Some (somes places.slots)) × (len ≡ length (somes places.slots)) } by { Prim.hlevel props },
     ghost utf8: { IsUtf8 (somes places.slots) } by { Prim.hlevel props },
 }
 
@@ -30,17 +30,17 @@ impl Text {
             count += 1;
         }
         Text {
-            start,
             len: bytes.len(),
             places,
         }
     }
 
-    /// The text, as it lies in the block. Nothing is copied or checked.
-    pub(crate) fn as_str(&self) -> &str
+    /// The text, as it lies in the block from `start` on. Nothing is copied or checked.
+    pub(crate) fn as_str(&self, start: PlacesPtr<u8>) -> &str
+        requires { start.ptr ≡ self.now.places.at }
         ensures { result.now ≡ somes self.now.places.slots }
     {
-        unsafe { std::str::from_utf8_unchecked(self.places.slice(self.start, 0, self.len)) }
+        unsafe { std::str::from_utf8_unchecked(self.places.slice(start, 0, self.len)) }
     }
 
     /// How many bytes it has.
@@ -55,11 +55,7 @@ impl Text {
     pub(crate) fn into_bytes(self) -> (usize, Places<u8>)
         ensures { (result.1 ≡ self.places) × (result.0 ≡ length self.places.slots) }
     {
-        let Self {
-            start: _,
-            len,
-            places,
-        } = self;
+        let Self { len, places } = self;
         (len, places)
     }
 }

@@ -96,7 +96,7 @@ const BUCKET: u128 = 32;
 
 const NODE: u128 = 80;
 
-const CELL: u128 = 48;
+const CELL: u128 = 40;
 
 /// Texts parted by spaces, and the bytes of a set of one bucket that has their entries. A short text has none.
 const MEMORY: [(&str, u128); 6] = [

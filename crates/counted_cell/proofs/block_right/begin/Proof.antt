@@ -41,11 +41,11 @@ begin_spec 𝓤 𝓛 𝓜 𝓡 wired X L =
     sets ! (agg ! (no_more !)) refl (tt, tt) $ sets ! (agg ! (and_then ! (get ! refl) (no_more !))) refl (tt, (tt, tt)) $ sets ! (agg ! (and_then ! (get ! refl) (no_more !))) refl (tt, (tt, tt)) $ sets ! (agg ! (and_then ! (get ! refl) (no_more !))) refl (tt, (tt, tt)) $
     sets ! (agg ! (and_then ! (get ! refl) (and_then ! (get ! refl) (and_then ! (get ! refl) (no_more !))))) refl (tt, ((tt, tt), ((tt, tt), ((tt, tt), tt)))) $
     let w : Val = ref_fields.word_of q in let u : Val = vstruct (vcons right_fields.word (vcons w (vcons w vnil))) in let r0 : Dr.Denot = record { mark = record {}; ptr = q; value = x; name = t } in let r1 : Hr.Denot = record { ptr = q; value = x; name = t; right = owner_right } in let r2 : Hr.Denot = record { ptr = q; value = x; name = t; right = share_right } in
-    let Told : Type 0 = (m ≡ m) × (q ≡ p) × (q ≡ p) × (x ≡ x) × (x ≡ x) × (x ≡ x) × (t ≡ t) × (t ≡ t) × (owner_right ≡ owner_right) × (share_right ≡ share_right) in
+    let Told : Type 0 = (m ≡ m) × (q ≡ p) × (q ≡ p) × (q ≡ p) × (x ≡ x) × (x ≡ x) × (x ≡ x) × (t ≡ t) × (t ≡ t) × (owner_right ≡ owner_right) × (share_right ≡ share_right) in
     move ! (3 ∷ 5 ∷ []) $ join ! $ move ! (3 ∷ 4 ∷ []) $ fjoin ! $ use0 𝓛 (‵ ((right_fields.Data R).own_val (tt, tt) (right_fields.word ∷ []))) (right_fields.made R 𝓛) $ fjoin ! $
     move ! (2 ∷ []) $ use0 𝓛 (‵ ((ref_fields.Data R).own_val (q, tt) (w ∷ []))) (ref_fields.made R 𝓛 q) $ fjoin ! $ move ! (3 ∷ []) $ use0 𝓛 (‵ ((ref_fields.Data R).own_val (q, tt) (w ∷ []))) (ref_fields.made R 𝓛 q) $ fjoin ! $
     -- [the share; the owner's; the right to the block; the tokens]
     nothing ! $ move ! (1 ∷ 0 ∷ []) $ fjoin ! $ move ! (1 ∷ 0 ∷ []) $ fjoin ! $ move ! (1 ∷ 0 ∷ []) $ fjoin ! $ feq_i ! (List Val) (u ∷ []) (u ∷ []) refl $ fjoin ! $
     fpack ! (Valss (Dr ∷ Hr ∷ Hr ∷ [])) (λ uss. fsep (feq (List Val) (u ∷ []) (vstruct (of_list (uss.0 ++ (uss.1.0 ++ (uss.1.1.0 ++ [])))) ∷ [])) (owns (Dr ∷ Hr ∷ Hr ∷ []) (r0, (r1, (r2, tt))) uss)) (right_fields.word ∷ [], (w ∷ [], (w ∷ [], tt))) $
-    use0 𝓛 (raw (fact 𝓤 Told)) (fact_i 𝓤 Told (emp 𝓤) (refl, sym at, sym at, refl, refl, refl, refl, refl, refl, refl)) $ nothing ! $ nothing ! $ fjoin ! $
+    use0 𝓛 (raw (fact 𝓤 Told)) (fact_i 𝓤 Told (emp 𝓤) (refl, sym at, sym at, sym at, refl, refl, refl, refl, refl, refl, refl)) $ nothing ! $ nothing ! $ fjoin ! $
     returns ! (look_at ! 0 refl) $ free_all ! refl $ keep ! (3 ∷ 0 ∷ 2 ∷ 1 ∷ []) $ by ! (leaves 𝓛 En hs c y u (r0, r1, r2) (tt, tt) (tt, tt))))))))

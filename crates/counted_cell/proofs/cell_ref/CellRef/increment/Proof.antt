@@ -49,10 +49,10 @@ increment_spec 𝓤 𝓛 𝓜 𝓡 wired X L =
     move ! (0 ∷ 5 ∷ []) $ join ! $ move ! (1 ∷ []) $ fsplit ! $ move ! (1 ∷ []) $ fpick ! (λ w. let k : Right = rank share_right w in let Told : Type 0 = (n ≡ seen → k ≡ share_right) × (n ≢ seen → k ≡ no_right) in move ! (0 ∷ 3 ∷ 5 ∷ []) $
     use3 𝓛 (given Told (‵ (right_to R pb po x t k))) (gains 𝓛 R pb po x t seen room.0 fit room.1 s n w) $ learn ! (λ told'. nothing ! $ nothing ! $ fjoin ! $ nothing ! $ fjoin ! $ move ! (1 ∷ 2 ∷ []) $
     -- [the right; the reading; nothing; the tokens]
-    let z : Ptr = block_ptr pb po in let h : Row.Denot = record { ptr = z; value = x; name = t; right = k } in let r : Seen.Denot = record { marker = record {}; name = t; count = n } in let u : Val = vstruct (vcons (vint w64 n) (vcons reading_word (vcons (word_of z) vnil))) in let Same : Type 0 = (t ≡ t) × (n ≡ n) × (x ≡ x) × (t ≡ t) in
+    let z : Ptr = block_ptr pb po in let h : Row.Denot = record { ptr = z; value = x; name = t; right = k } in let r : Seen.Denot = record { marker = record {}; name = t; count = n } in let u : Val = vstruct (vcons (vint w64 n) (vcons reading_word (vcons (word_of z) vnil))) in let Same : Type 0 = (t ≡ t) × (n ≡ n) × (x ≡ x) × (t ≡ t) × (z ≡ p) in
     use0 𝓛 (‵ (D.own_val (z, tt) (word_of z ∷ []))) (made R 𝓛 z) $ fjoin ! $ move ! (1 ∷ []) $ use0 𝓛 (‵ (Marks.own_val (tt, tt) (reading_word ∷ []))) (marked 𝓛) $ fjoin ! $
     nothing ! $ move ! (2 ∷ 0 ∷ []) $ fjoin ! $ move ! (1 ∷ 0 ∷ []) $ fjoin ! $ flt_i ! n (2 ^ 64) fits $ feq_i ! (List Val) (vint w64 n ∷ []) (vint w64 n ∷ []) refl $ fjoin ! $
     fjoin ! $ feq_i ! (List Val) (u ∷ []) (u ∷ []) refl $ fjoin ! $
     fpack ! (Valss (u64 ∷ Seen ∷ Row ∷ [])) (λ uss. fsep (feq (List Val) (u ∷ []) (vstruct (of_list (uss.0 ++ (uss.1.0 ++ (uss.1.1.0 ++ [])))) ∷ [])) (owns (u64 ∷ Seen ∷ Row ∷ []) (n, (r, (h, tt))) uss)) (vint w64 n ∷ [], (reading_word ∷ [], (word_of z ∷ [], tt))) $
-    use0 𝓛 (raw (fact 𝓤 Told)) (fact_i 𝓤 Told (emp 𝓤) told') $ use0 𝓛 (raw (fact 𝓤 Same)) (fact_i 𝓤 Same (emp 𝓤) (refl, refl, refl, refl)) $ join ! $
+    use0 𝓛 (raw (fact 𝓤 Told)) (fact_i 𝓤 Told (emp 𝓤) told') $ use0 𝓛 (raw (fact 𝓤 Same)) (fact_i 𝓤 Same (emp 𝓤) (refl, refl, refl, refl, sym (at_block p inb))) $ join ! $
     returns ! (look_at ! 0 refl) $ free_all ! refl $ keep ! (3 ∷ 2 ∷ 1 ∷ 0 ∷ []) $ by ! (leaves 𝓛 En hs c y u (n, r, h) (tt, (tt, tt)) (tt, (tt, tt)))))))))))))))

@@ -27,7 +27,7 @@ invariant_of-result c =
     let all : c.loop-count.places.slots ≡ map Some xs = is.2 ∙ ap (begun xs) (omega arith) ∙ begun-all xs in
     let same : somes c.loop-count.places.slots ≡ xs = ap somes all ∙ somes-map xs in
     record {
-      row = (is.1, all ∙ ap (λ (l : List ℕ). map Some l) (sym same), ap length (sym same));
+      row = (all ∙ ap (λ (l : List ℕ). map Some l) (sym same), ap length (sym same));
       utf8 = subst IsUtf8 (sym same) c.as_bytes-bytes.ensures.utf8;
     }
 
