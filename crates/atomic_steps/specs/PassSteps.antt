@@ -1,18 +1,18 @@
 -- A pass over a bucket's list, read as steps: each is enabled, and the list that they leave is the one that the pass leaves.
 use Rattle.std.specs.Prelude.{◌≡◌, ℕ, ◌<◌, ◌≤◌, ◌==◌, ⊤, Bool, true, false, List, [], ◌∷◌, ◌++◌, length, map, reverse, Option, Some, IsSome}
 use Rattle.std.specs.List.{filter, enumerate_from}
-use Rattle.string_cache_core.specs.Bounds.{Bounds}
-use Rattle.string_cache_core.specs.Layout.{most_buckets}
+use Rattle.text_forms.specs.Bounds.{Bounds}
+use Rattle.text_forms.specs.Layout.{most_buckets}
 use Rattle.atomic_steps.specs.declared.steps.Step.{Step}
 use Rattle.atomic_steps.specs.declared.steps.Step.TheVariants.{Add, Link, Unlink, Leave}
 use Rattle.atomic_steps.specs.declared.steps.StepReply.{StepReply}
 use Rattle.atomic_steps.specs.declared.steps.StepReply.TheVariants as reply
-use Rattle.string_cache_core.specs.Tables.{Tables}
+use Rattle.text_forms.specs.Tables.{Tables}
 use Rattle.atomic_steps.specs.World.{WorldEntry, World}
 use Rattle.atomic_steps.specs.Steps.{step_if, IsStep, is_linked_in, opening}
 use Rattle.atomic_steps.specs.Runs.{Event, Leads}
 use Rattle.atomic_steps.specs.Theorem.{text_taken, bucket_taken}
-use Rattle.string_cache_core.specs.Pass.{PassReply, added, full, died, gone, stays, Asked, Outcome, absent, outcome, kept}
+use Rattle.text_forms.specs.Pass.{PassReply, added, full, died, gone, stays, Asked, Outcome, absent, outcome, kept}
 
 -- An entry as its bucket's list has it: what of it stays the same.
 pub record Item : Type 0 where

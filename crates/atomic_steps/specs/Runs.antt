@@ -3,17 +3,17 @@ use Rattle.std.specs.Prelude.{◌≡◌, ℕ, ◌&&◌, length, List, [], ◌∷
 use Rattle.std.specs.List.{find}
 use Rattle.std.specs.Option.{option_map, unwrap_or}
 use Rattle.std.specs.Str.{bytes_eq}
-use Rattle.string_cache_core.specs.Bounds.{Bounds}
-use Rattle.string_cache_core.specs.declared.faults.Fault.TheVariants as fault
+use Rattle.text_forms.specs.Bounds.{Bounds}
+use Rattle.text_forms.specs.declared.faults.Fault.TheVariants as fault
 use Rattle.atomic_steps.specs.declared.steps.Step.{Step}
 use Rattle.atomic_steps.specs.declared.steps.Step.TheVariants.{Add, Link, Clone, Give}
 use Rattle.atomic_steps.specs.declared.steps.StepReply.{StepReply}
 use Rattle.atomic_steps.specs.declared.steps.StepReply.TheVariants as reply
-use Rattle.string_cache_core.specs.Tables.{Tables}
+use Rattle.text_forms.specs.Tables.{Tables}
 use Rattle.atomic_steps.specs.World.{WorldEntry, World, is_living}
 use Rattle.atomic_steps.specs.Steps.{step, IsStep, pass_of, entry_at, last_of, ◌>>=◌}
-use Rattle.string_cache_core.specs.Map.{InternMap, Holding, MapCall, MapReply, MayReply}
-use Rattle.string_cache_core.specs.Map as map
+use Rattle.text_forms.specs.Map.{InternMap, Holding, MapCall, MapReply, MayReply}
+use Rattle.text_forms.specs.Map as map
 
 -- ---- runs
 

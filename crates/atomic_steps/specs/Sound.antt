@@ -1,10 +1,10 @@
 -- Words of private contracts of steps: what every world keeps that steps lead to.
 use Rattle.std.specs.Prelude.{◌≡◌, ◌≢◌, ℕ, ◌<◌, ◌≤◌, true, List, [], ◌∷◌, length, Some, slice_get, slice_index, suc}
 use Rattle.std.specs.List.{AllByRecursion}
-use Rattle.string_cache_core.specs.Layout.{most_buckets}
-use Rattle.string_cache_core.specs.Tables.{Tables, bucket_of}
-use Rattle.string_cache_core.specs.Times.{times}
-use Rattle.string_cache_core.specs.Word.{ticket_of}
+use Rattle.text_forms.specs.Layout.{most_buckets}
+use Rattle.text_forms.specs.Tables.{Tables, bucket_of}
+use Rattle.text_forms.specs.Times.{times}
+use Rattle.text_forms.specs.Word.{ticket_of}
 use Rattle.atomic_steps.specs.World.{WorldEntry, PartyPass, World, is_linked, is_living}
 use Rattle.atomic_steps.specs.Steps.{has}
 

@@ -4,14 +4,14 @@ use Rattle.std.specs.List.{find, list_any, list_all, enumerate_from}
 use Rattle.std.specs.Option.{unwrap_or, option_map_or}
 use Rattle.std.specs.Str.{bytes_eq}
 use Rattle.std.specs.String.{string_bytes}
-use Rattle.string_cache_core.specs.Bounds.{Bounds}
+use Rattle.text_forms.specs.Bounds.{Bounds}
 use Rattle.atomic_steps.specs.declared.steps.world_entry.Place.TheVariants as place
 use Rattle.atomic_steps.specs.declared.steps.Step.{Step}
 use Rattle.atomic_steps.specs.declared.steps.Step.TheVariants.{TakeIntern, TakeSweep, Add, Link, Clone, Give, Unlink, Free, Leave}
 use Rattle.atomic_steps.specs.declared.steps.StepReply.{StepReply}
 use Rattle.atomic_steps.specs.declared.steps.StepReply.TheVariants as reply
-use Rattle.string_cache_core.specs.Tables.{Tables, bucket_of, is_dynamic}
-use Rattle.string_cache_core.specs.Word.{ticket_of}
+use Rattle.text_forms.specs.Tables.{Tables, bucket_of, is_dynamic}
+use Rattle.text_forms.specs.Word.{ticket_of}
 use Rattle.atomic_steps.specs.World.{WorldEntry, PartyPass, World, is_linked, is_unlinked_by}
 
 infixl 10 ◌>>=◌

@@ -3,19 +3,19 @@
 use Rattle.std.specs.Prelude.{◌≡◌, ◌≢◌, ℕ, ◌<◌, ◌≤◌, ◌==◌, ◌⊎◌, ◌↔◌, true, false, if◌then◌else◌, List, [], ◌∷◌, ◌++◌, length, Option, None, Some, slice_get}
 use Rattle.std.specs.List.{filter, AllByRecursion}
 use Rattle.std.specs.String.{string_bytes}
-use Rattle.string_cache_core.specs.Bounds.{Bounds}
-use Rattle.string_cache_core.specs.Layout.{most_buckets}
+use Rattle.text_forms.specs.Bounds.{Bounds}
+use Rattle.text_forms.specs.Layout.{most_buckets}
 use Rattle.atomic_steps.specs.declared.steps.world_entry.Place.TheVariants as place
 use Rattle.atomic_steps.specs.declared.steps.Step.{Step}
 use Rattle.atomic_steps.specs.declared.steps.Step.TheVariants.{TakeIntern, TakeSweep, Add, Link, Clone, Give, Unlink, Free, Leave}
 use Rattle.atomic_steps.specs.declared.steps.StepReply.{StepReply}
 use Rattle.atomic_steps.specs.declared.steps.StepReply.TheVariants as reply
-use Rattle.string_cache_core.specs.Tables.{Tables, bucket_of}
-use Rattle.string_cache_core.specs.Times.{times}
+use Rattle.text_forms.specs.Tables.{Tables, bucket_of}
+use Rattle.text_forms.specs.Times.{times}
 use Rattle.atomic_steps.specs.World.{WorldEntry, World, is_linked, is_living}
 use Rattle.atomic_steps.specs.Steps.{step, entry_at, is_linked_in, opening}
-use Rattle.string_cache_core.specs.Map.{MapCall, empty_map}
-use Rattle.string_cache_core.specs.Map as map
+use Rattle.text_forms.specs.Map.{MapCall, empty_map}
+use Rattle.text_forms.specs.Map as map
 use Rattle.atomic_steps.specs.Runs.{Event, Leads, Script, events_of, Made, call_of, history_of, live_map, ReplaysHistory}
 
 abbrev pub event : ℕ → Step → StepReply → Event

@@ -1,6 +1,6 @@
 -- The world that steps act on.
 use Rattle.std.specs.Prelude.{ℕ, ◌==◌, ◌&&◌, nat_lt, Bool, true, false, List, Option}
-use Rattle.string_cache_core.specs.Bounds.{Bounds}
+use Rattle.text_forms.specs.Bounds.{Bounds}
 use Rattle.atomic_steps.specs.declared.steps.world_entry.Place.{Place}
 use Rattle.atomic_steps.specs.declared.steps.world_entry.Place.TheVariants as place
 

@@ -4,8 +4,8 @@
 
 ghost use Rattle.std.specs.Prelude.{◌≡◌, ◌+◌, ◌^◌, false, length, IfOk, OnOk, OnErr, Some};
 ghost use Rattle.std.specs.Option.{option_map};
-ghost use Rattle.string_cache_core.specs.Faults.{RefusesUnchanged};
-ghost use Rattle.string_cache_core.specs.Layout.{usual_buckets};
+ghost use Rattle.text_forms.specs.Faults.{RefusesUnchanged};
+ghost use Rattle.text_forms.specs.Layout.{usual_buckets};
 ghost use Rattle.atomic_steps.specs.Steps.{IsStep, entry_at, opening};
 ghost use Rattle.atomic_steps.specs.Theorem.{HasRun};
 ghost use Rattle.atomic_steps.specs.PassSteps.{PassIsSteps};
@@ -18,9 +18,9 @@ mod world_entry;
 use state::State;
 use std::alloc::Global;
 use std::marker::{Model, PhantomData};
-use string_cache_core::Fault;
-use string_cache_core::static_sets::StaticTables;
-use string_cache_core::word::{Buckets, Limits};
+use text_forms::Fault;
+use text_forms::static_sets::StaticTables;
+use text_forms::word::{Buckets, Limits};
 
 /// A step of a party.
 #[derive(Debug, PartialEq, Eq, Drop)]

@@ -3,8 +3,8 @@ use Rattle.std.proofs.Common.{◌≡◌, ◌≢◌, ℕ, ◌≤◌, List, [], �
 use Rattle.std.proofs.lemmas.List.{append-nil}
 use Rattle.std.specs.List.{AllByRecursion}
 use Rattle.std.specs.Prelude.{Option}
-use Rattle.string_cache_core.specs.Pass.{PassReply, added, full, died, gone, stays, kept}
-use Rattle.string_cache_core.specs.Tables.{Tables}
+use Rattle.text_forms.specs.Pass.{PassReply, added, full, died, gone, stays, kept}
+use Rattle.text_forms.specs.Tables.{Tables}
 use Rattle.counted_set.specs.Chain.{Linked, Chain, IsKept, IsRightOf, SerialsDiffer, serial_of}
 use Rattle.counted_set.specs.Counted.{IsPass}
 use Rattle.counted_set.specs.PassLeft.{IsPassLeft}

@@ -3,7 +3,7 @@ use Rattle.std.proofs.Common.{◌≡◌, ◌≢◌, ℕ, List, [], ◌∷◌, �
 use Rattle.std.proofs.lemmas.List.{append-nil}
 use Rattle.std.specs.List.{AllByRecursion}
 use Rattle.std.specs.Prelude.{Option, Some, None}
-use Rattle.string_cache_core.specs.Pass.{PassReply, added, full, died, gone, stays, Asked, outcome, kept}
+use Rattle.text_forms.specs.Pass.{PassReply, added, full, died, gone, stays, Asked, outcome, kept}
 use Rattle.counted_set.specs.Chain.{Linked}
 use Rattle.counted_set.specs.Counted.{MayGive, Replied, found_by}
 use Rattle.counted_set.specs.PassLeft.{IsPassLeft}

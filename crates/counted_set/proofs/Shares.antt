@@ -2,7 +2,7 @@
 use Rattle.std.proofs.Common.{◌≡◌, ℕ, List, [], ◌∷◌, map, Bool, sym, subst}
 use Rattle.std.specs.List.{AllByRecursion}
 use Rattle.std.specs.Prelude.{Some}
-use Rattle.string_cache_core.specs.Pass.{PassReply, added, full, died, gone, stays, Asked, found, outcome}
+use Rattle.text_forms.specs.Pass.{PassReply, added, full, died, gone, stays, Asked, found, outcome}
 use Rattle.counted_set.specs.Chain.{Linked}
 use Rattle.counted_set.specs.Counted.{GivesShares, IsPass, Replied}
 use Rattle.counted_set.specs.declared.dynamic_set.counts.CountReply.{CountReply}

@@ -1,9 +1,9 @@
 -- What clauses see of a bucket.
 use Rattle.std.specs.Prelude.{◌≡◌, ◌≢◌, ℕ, ◌/◌, ◌%◌, ◌^◌, ◌≤◌, List, [], ◌∷◌, length}
 use Rattle.std.specs.List.{AllByRecursion}
-use Rattle.string_cache_core.specs.Layout.{most_bits, ticket_unit}
-use Rattle.string_cache_core.specs.Tables.{Tables, entry_hash}
-use Rattle.string_cache_core.specs.Word.{ticket_of, IsTicket}
+use Rattle.text_forms.specs.Layout.{most_bits, ticket_unit}
+use Rattle.text_forms.specs.Tables.{Tables, entry_hash}
+use Rattle.text_forms.specs.Word.{ticket_of, IsTicket}
 
 -- an entry: its ticket, its text, the hash of the text, the bits of the number of buckets that its bucket is one of, and the
 -- limit of its holders: how many shares of it there may be at a time

@@ -1,7 +1,7 @@
 -- What looking a text up answers, and what it leaves of a bucket.
 use Rattle.std.specs.Prelude.{◌≡◌, ℕ, Bool, List, Option, Some, None, Result, Ok, Err}
-use Rattle.string_cache_core.specs.declared.faults.Fault.{Fault}
-use Rattle.string_cache_core.specs.declared.faults.Fault.TheVariants.{FullCount}
+use Rattle.text_forms.specs.declared.faults.Fault.{Fault}
+use Rattle.text_forms.specs.declared.faults.Fault.TheVariants.{FullCount}
 use Rattle.counted_set.specs.Chain.{Linked, Chain}
 use Rattle.counted_set.specs.Counted.{IsPass}
 use Rattle.counted_set.specs.declared.dynamic_set.counts.CountReply.{CountReply}

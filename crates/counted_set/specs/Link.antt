@@ -1,9 +1,9 @@
 -- What linking a text does to a bucket, and what interning it does.
 use Rattle.std.specs.Prelude.{◌≡◌, ℕ, ◌+◌, ◌%◌, ◌^◌, ◌<◌, ◌≤◌, Bool, List, ◌∷◌, Some, Result, Ok, Err}
-use Rattle.string_cache_core.specs.Bounds.{Bounds}
-use Rattle.string_cache_core.specs.Word.{ticket_of}
-use Rattle.string_cache_core.specs.declared.faults.Fault.{Fault}
-use Rattle.string_cache_core.specs.declared.faults.Fault.TheVariants.{Memory, FullCount, TicketsSpent, NotText}
+use Rattle.text_forms.specs.Bounds.{Bounds}
+use Rattle.text_forms.specs.Word.{ticket_of}
+use Rattle.text_forms.specs.declared.faults.Fault.{Fault}
+use Rattle.text_forms.specs.declared.faults.Fault.TheVariants.{Memory, FullCount, TicketsSpent, NotText}
 use Rattle.counted_set.specs.Chain.{Linked, Chain}
 use Rattle.counted_set.specs.Counted.{IsPass}
 use Rattle.counted_set.specs.declared.dynamic_set.counts.CountReply.{CountReply}

@@ -1,7 +1,7 @@
 -- What clauses see of a set: its limits, and the bits of the number of its buckets, of which there are 2 ^ bits. Its texts, and what
 -- else its buckets keep, lie behind locks, so that no clause sees them.
 use Rattle.std.specs.Prelude.{ℕ}
-use Rattle.string_cache_core.specs.Bounds.{Bounds}
+use Rattle.text_forms.specs.Bounds.{Bounds}
 
 pub record SetValue : Type 0 where
   pub limits : Bounds

@@ -3,8 +3,8 @@ use Rattle.std.proofs.Common.{◌≡◌, ◌≢◌, ℕ, ◌^◌, ◌<◌, ◌�
 use Rattle.std.specs.Prelude.{Option, None, Some, IsSome, IfSome, MatchOption, ◌↔◌}
 use Rattle.std.proofs.lemmas.Fmt.{decimal_injective}
 use Rattle.std.proofs.lemmas.List.{append_cancel_left}
-use Rattle.string_cache_core.specs.Bounds.{Bounds, AreBounds}
-use Rattle.string_cache_core.specs.Layout.{most_bits}
+use Rattle.text_forms.specs.Bounds.{Bounds, AreBounds}
+use Rattle.text_forms.specs.Layout.{most_bits}
 use Rattle.atomic_steps.specs.declared.steps.Step.{Step}
 use Rattle.replay_script.specs.Script.{HasWords, step_words, Spells, SpellsBuckets, SpellsLimits}
 use Rattle.table_generator.proofs.Cuts.{Lacks, first_byte}

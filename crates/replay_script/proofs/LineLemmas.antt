@@ -6,10 +6,10 @@ use Rattle.std.specs.Str.Pattern.{FindsChar, SplitsAroundMatch}
 use Rattle.std.proofs.lemmas.Str.Pattern.{split_parts, NoCharPasses-char}
 use denote.Ref.{Bor}
 use mir.Val.{bool_byte}
-use Rattle.string_cache_core.specs.Bounds.{Bounds}
+use Rattle.text_forms.specs.Bounds.{Bounds}
 use Rattle.atomic_steps.specs.declared.steps.Step.{Step}
 use Rattle.atomic_steps.specs.Runs.{Script}
-use Rattle.string_cache_core.specs.Layout.{usual_bits}
+use Rattle.text_forms.specs.Layout.{usual_bits}
 use Rattle.replay_script.specs.Script.{cons_first, script_lines, Spells, SpellsBuckets, SpellsLimits, SpellSteps, SpellBody, SpellScript, AreSteps, Takes, StopsAfter, IsFirstBadLine, greatest}
 
 -- no line feed is in the bytes

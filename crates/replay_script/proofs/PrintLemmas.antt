@@ -3,8 +3,8 @@ use Rattle.std.proofs.Common.{◌≡◌, ℕ, ◌+◌, ◌/◌, ◌%◌, ◌^◌
 use Rattle.std.specs.Prelude.{Option, None, Some, slice_get, if◌then◌else◌}
 use Rattle.std.specs.Option.{option_map}
 use Rattle.std.proofs.lemmas.Bool.{eqb-true}
-use Rattle.string_cache_core.specs.Layout.{ticket_unit}
-use Rattle.string_cache_core.specs.Word.{IsTicketWord}
+use Rattle.text_forms.specs.Layout.{ticket_unit}
+use Rattle.text_forms.specs.Word.{IsTicketWord}
 use Rattle.atomic_steps.specs.World.{WorldEntry, World}
 use Rattle.atomic_steps.specs.Steps.{entry_at}
 use Rattle.replay_script.specs.Replay.{held_line, held_lines_from, serial_in}

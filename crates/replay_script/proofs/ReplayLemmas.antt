@@ -3,10 +3,10 @@ use Rattle.std.proofs.Common.{◌≡◌, ℕ, List, Option}
 use Rattle.std.specs.Option.{unwrap_or}
 use Rattle.std.specs.Prelude.{IfOk, Result, Ok, Err, String, string_bytes}
 use Rattle.std.specs.Result.{result_or}
-use Rattle.string_cache_core.specs.Bounds.{Bounds}
-use Rattle.string_cache_core.specs.Layout.{usual_bits}
+use Rattle.text_forms.specs.Bounds.{Bounds}
+use Rattle.text_forms.specs.Layout.{usual_bits}
 use Rattle.atomic_steps.specs.Runs.{Script}
-use Rattle.string_cache_core.specs.Tables.{Tables}
+use Rattle.text_forms.specs.Tables.{Tables}
 use Rattle.replay_script.specs.Replay.{IsOutput, IsReplay}
 use Rattle.replay_script.specs.Script.{script_lines, greatest, SpellsBuckets, SpellsLimits, SpellSteps, Takes}
 use Rattle.replay_script.proofs.LineLemmas.{script_opens}

@@ -1,11 +1,11 @@
 -- The output of a script.
 use Rattle.std.specs.Prelude.{◌≡◌, ℕ, ◌+◌, ◌/◌, ◌%◌, ◌^◌, ◌==◌, nat_lt, if◌then◌else◌, List, [], ◌∷◌, ◌++◌, length, codes, decimal}
 use Rattle.std.specs.List.{flat_map}
-use Rattle.string_cache_core.specs.Bounds.{Bounds}
+use Rattle.text_forms.specs.Bounds.{Bounds}
 use Rattle.atomic_steps.specs.declared.steps.StepReply.{StepReply}
 use Rattle.atomic_steps.specs.declared.steps.StepReply.TheVariants as reply
-use Rattle.string_cache_core.specs.Layout.{ticket_unit}
-use Rattle.string_cache_core.specs.Tables.{Tables}
+use Rattle.text_forms.specs.Layout.{ticket_unit}
+use Rattle.text_forms.specs.Tables.{Tables}
 use Rattle.atomic_steps.specs.World.{WorldEntry, World}
 use Rattle.atomic_steps.specs.Steps.{opening}
 use Rattle.atomic_steps.specs.Runs.{Script}

@@ -1,9 +1,9 @@
 -- A script of steps: its lines, and what each spells.
 use Rattle.std.specs.Prelude.{◌≡◌, ℕ, ◌+◌, ◌-◌, ◌^◌, ◌<◌, ◌≤◌, ◌==◌, ◌⊎◌, true, false, if◌then◌else◌, List, [], ◌∷◌, ◌++◌, length, codes, decimal, string_bytes, Option, None, Some}
-use Rattle.string_cache_core.specs.Bounds.{Bounds, AreBounds}
+use Rattle.text_forms.specs.Bounds.{Bounds, AreBounds}
 use Rattle.atomic_steps.specs.declared.steps.Step.{Step}
 use Rattle.atomic_steps.specs.declared.steps.Step.TheVariants.{TakeIntern, TakeSweep, Add, Link, Clone, Give, Unlink, Free, Leave}
-use Rattle.string_cache_core.specs.Layout.{holder_bound, most_bits, serial_bound, usual_bits}
+use Rattle.text_forms.specs.Layout.{holder_bound, most_bits, serial_bound, usual_bits}
 use Rattle.atomic_steps.specs.Runs.{Script}
 
 -- b, in front of the first line

@@ -1,14 +1,14 @@
 //! One line of a script, and the step, the limits or the number of buckets that it spells.
 
 ghost use Rattle.std.specs.Prelude.{◌≡◌, ◌≢◌, ℕ, ◌^◌, ◌<◌, ◌≤◌, ◌++◌, List, length, codes, decimal, MatchOption, IfOk};
-ghost use Rattle.string_cache_core.specs.Bounds.{Bounds};
+ghost use Rattle.text_forms.specs.Bounds.{Bounds};
 ghost use Rattle.atomic_steps.specs.declared.steps.Step.{Step};
 ghost use Rattle.replay_script.specs.Script.{HasWords, step_words, IsEntryNumber, Spells, SpellsBuckets, SpellsLimits};
 
 use atomic_steps::steps::Step;
 use std::alloc::{AllocError, Global};
-use string_cache_core::word::{Buckets, Limits};
 use table_generator::numbers::{number_after, number_of};
+use text_forms::word::{Buckets, Limits};
 
 /// The number behind `words` as that of an entry, which is from 1.
 fn entry_after(text: &str, words: &str) -> Option<u64>

@@ -6,8 +6,8 @@ ghost use Rattle.replay_script.specs.Replay.{serial_in, reply_line, held_line, h
 
 use atomic_steps::steps::{StepReply, World};
 use std::alloc::AllocError;
-use string_cache_core::static_sets::EmptyStaticAtomSet;
-use string_cache_core::word::{Form, form_of};
+use text_forms::static_sets::EmptyStaticAtomSet;
+use text_forms::word::{Form, form_of};
 
 /// The serial of a ticket, and 0 of any other word.
 fn serial_of(word: u64) -> u64

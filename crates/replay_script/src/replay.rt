@@ -1,7 +1,7 @@
 //! A script's steps, made one after another, and the replies to them.
 
 ghost use Rattle.std.specs.Prelude.{◌≡◌, ℕ, List, string_bytes, IfOk, OnOk, OnErr};
-ghost use Rattle.string_cache_core.specs.Tables.{empty_tables};
+ghost use Rattle.text_forms.specs.Tables.{empty_tables};
 ghost use Rattle.atomic_steps.specs.Runs.{Script};
 ghost use Rattle.replay_script.specs.Script.{script_lines, SpellSteps, AreSteps, IsFirstBadLine};
 ghost use Rattle.replay_script.specs.Replay.{RunsOn, IsOutput, IsReplay};
@@ -12,9 +12,9 @@ use crate::print::{append_holders, append_replies};
 use crate::script::{buckets_of, check_steps, limits_of, next_line};
 use atomic_steps::steps::{Step, World};
 use std::alloc::Global;
-use string_cache_core::Fault;
-use string_cache_core::static_sets::EmptyStaticAtomSet;
-use string_cache_core::word::{Buckets, Limits};
+use text_forms::Fault;
+use text_forms::static_sets::EmptyStaticAtomSet;
+use text_forms::word::{Buckets, Limits};
 
 /// The most steps that are kept before they are made.
 const CHUNK: usize = 4096;

@@ -6,7 +6,7 @@ ghost use Rattle.replay_script.specs.Script.{script_lines, AreSteps, SpellsBucke
 use crate::faults::ScriptFault;
 use crate::line::{buckets_of_line, limits_of_line, step_of_line};
 use std::alloc::Global;
-use string_cache_core::word::{Buckets, Limits};
+use text_forms::word::{Buckets, Limits};
 
 /// The first line, without its line feed, and what stands behind it. `None` where nothing is left.
 pub fn next_line(text: &str) -> Option<(&str, &str)>

@@ -18,7 +18,7 @@ use string_cache::word::Buckets;
 pub type DefaultSet = Set<EmptyStaticAtomSet>;
 
 /// The hash of a text's entry.
-#[tactic(auto, unfolding(string_cache_core::specs::Tables::entry_hash))]
+#[tactic(auto, unfolding(text_forms::specs::Tables::entry_hash))]
 pub fn hash_of<Static: StaticAtomSet>(text: &str) -> u64
     ensures { result ≡ entry_hash Static.tables text.now }
 {

@@ -8,7 +8,7 @@ use Rattle.std.proofs.lemmas.Str.{IsUtf8-append, IsUtf8-encode, IsUtf8-from_asci
 use Rattle.std.proofs.lemmas.Str.Ascii.{IsAscii-cons, IsAscii-nil, lowercase-lowercase, lowercase_ascii, lowercase_is, uppercase-uppercase, uppercase_ascii, uppercase_is}
 use Rattle.std.specs.Char.{IsScalar, encode_utf8, to_ascii_lowercase, to_ascii_uppercase}
 use Rattle.std.specs.Str.{IsUtf8, all_scalars, encode_utf8_all}
-use Rattle.string_cache_core.specs.declared.faults.Fault.{Fault}
+use Rattle.text_forms.specs.declared.faults.Fault.{Fault}
 use Rattle.string_cache.specs.AtomValue.{AtomValue}
 use Rattle.string_cache.specs.Case.{in_case}
 use Rattle.string_cache.specs.declared.atom.case.Case.{Case}

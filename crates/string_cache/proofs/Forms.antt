@@ -6,12 +6,12 @@ use Rattle.std.proofs.lemmas.Slice.Eq.{bytes_eq-Decides}
 use Rattle.std.specs.List.{Contains}
 use Rattle.std.specs.Cmp.Lexicographic.{pointwise, same_text}
 use Rattle.std.specs.Str.{bytes_eq}
-use Rattle.string_cache_core.specs.declared.static_sets.TextForm.{TextForm}
-use Rattle.string_cache_core.specs.declared.static_sets.TextForm.TheVariants.{Inline, Static, Dynamic}
-use Rattle.string_cache_core.specs.Tables.{Tables, IsPerfectTable, IsStaticIndex, form_of_text, is_static_form, place_in, text_at}
-use Rattle.string_cache_core.specs.Word.{IsInlineText, inline_word}
-use Rattle.string_cache_core.proofs.TableLemmas.{placed_static}
-use Rattle.string_cache_core.proofs.words.Unpacking.{inline_word_same}
+use Rattle.text_forms.specs.declared.static_sets.TextForm.{TextForm}
+use Rattle.text_forms.specs.declared.static_sets.TextForm.TheVariants.{Inline, Static, Dynamic}
+use Rattle.text_forms.specs.Tables.{Tables, IsPerfectTable, IsStaticIndex, form_of_text, is_static_form, place_in, text_at}
+use Rattle.text_forms.specs.Word.{IsInlineText, inline_word}
+use Rattle.text_forms.proofs.TableLemmas.{placed_static}
+use Rattle.text_forms.proofs.words.Unpacking.{inline_word_same}
 
 static_by : (long listed : Bool) (place word hash index : ℕ) → (let form : TextForm = if long then (if listed then Static place else Dynamic hash) else Inline word in form) ≡ Static index
     → (listed ≡ true) × (place ≡ index)

@@ -1,8 +1,8 @@
 -- What an atom holds.
 use Rattle.std.specs.Prelude.{◌≡◌, ◌<◌, ◌%◌, ◌^◌, length, Some, None}
-use Rattle.string_cache_core.specs.Tables.{Tables, form_of_text, text_at, IsStaticIndex}
-use Rattle.string_cache_core.specs.declared.static_sets.TextForm.TheVariants as form
-use Rattle.string_cache_core.specs.Word.{inline_word, static_word, IsInlineText}
+use Rattle.text_forms.specs.Tables.{Tables, form_of_text, text_at, IsStaticIndex}
+use Rattle.text_forms.specs.declared.static_sets.TextForm.TheVariants as form
+use Rattle.text_forms.specs.Word.{inline_word, static_word, IsInlineText}
 use Rattle.string_cache.specs.AtomValue.{AtomValue}
 use Rattle.counted_set.specs.Chain.{IsRight}
 use Rattle.string_cache.specs.declared.atom.Repr.{Repr}

@@ -1,10 +1,10 @@
 -- What clauses see of an atom, and the word that an atom of a text may have.
 use Rattle.std.specs.Prelude.{◌≡◌, ℕ, ◌%◌, ◌^◌, ◌≤◌, List, Option, Some, None}
-use Rattle.string_cache_core.specs.declared.static_sets.TextForm.{TextForm}
-use Rattle.string_cache_core.specs.declared.static_sets.TextForm.TheVariants.{Inline, Static, Dynamic}
-use Rattle.string_cache_core.specs.Layout.{most_bits}
-use Rattle.string_cache_core.specs.Tables.{Tables, form_of_text}
-use Rattle.string_cache_core.specs.Word.{static_word, ticket_of, IsTicket}
+use Rattle.text_forms.specs.declared.static_sets.TextForm.{TextForm}
+use Rattle.text_forms.specs.declared.static_sets.TextForm.TheVariants.{Inline, Static, Dynamic}
+use Rattle.text_forms.specs.Layout.{most_bits}
+use Rattle.text_forms.specs.Tables.{Tables, form_of_text}
+use Rattle.text_forms.specs.Word.{static_word, ticket_of, IsTicket}
 
 -- an atom, by its text, its word, and for a dynamic text the bits of the bucket that the word came from
 pub record AtomValue : Type 0 where

@@ -1,9 +1,9 @@
 -- The cases of letters, and what putting an atom into one of them may be refused for.
 use Rattle.std.specs.Prelude.{◌≢◌, ℕ, ◌<◌, ◌⊎◌, IsTrue, List, length}
 use Rattle.std.specs.Str.{str_to_ascii_uppercase, str_to_ascii_lowercase}
-use Rattle.string_cache_core.specs.Tables.{Tables, is_dynamic}
-use Rattle.string_cache_core.specs.declared.faults.Fault.{Fault}
-use Rattle.string_cache_core.specs.declared.faults.Fault.TheVariants.{Memory, FullCount, TicketsSpent, NotText}
+use Rattle.text_forms.specs.Tables.{Tables, is_dynamic}
+use Rattle.text_forms.specs.declared.faults.Fault.{Fault}
+use Rattle.text_forms.specs.declared.faults.Fault.TheVariants.{Memory, FullCount, TicketsSpent, NotText}
 use Rattle.string_cache.specs.declared.atom.case.Case.{Case}
 use Rattle.string_cache.specs.declared.atom.case.Case.TheVariants.{Upper, Lower}
 

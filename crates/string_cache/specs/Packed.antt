@@ -1,6 +1,6 @@
 -- The words that are packed into atoms.
 use Rattle.std.specs.Prelude.{◌≡◌, ℕ, ◌+◌, ◌*◌, ◌%◌, List, length}
-use Rattle.string_cache_core.specs.Word.{inline_word, IsInlineText}
+use Rattle.text_forms.specs.Word.{inline_word, IsInlineText}
 
 -- n has a low byte of zero, and with the tag and the length it is the inline word of a text of that length
 abbrev pub IsPackable : ℕ → ℕ → Type 0

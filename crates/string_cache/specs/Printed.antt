@@ -1,8 +1,8 @@
 -- What an atom prints as for programmers.
 use Rattle.std.specs.Prelude.{ℕ, List, ◌++◌, codes}
-use Rattle.string_cache_core.specs.declared.static_sets.TextForm.{TextForm}
-use Rattle.string_cache_core.specs.declared.static_sets.TextForm.TheVariants.{Inline, Static, Dynamic}
-use Rattle.string_cache_core.specs.Tables.{Tables, form_of_text}
+use Rattle.text_forms.specs.declared.static_sets.TextForm.{TextForm}
+use Rattle.text_forms.specs.declared.static_sets.TextForm.TheVariants.{Inline, Static, Dynamic}
+use Rattle.text_forms.specs.Tables.{Tables, form_of_text}
 
 -- the name of a form
 abbrev pub form_name : TextForm → List ℕ

@@ -7,9 +7,9 @@ ghost use Rattle.std.specs.Cmp.{on_equiv};
 ghost use Rattle.std.specs.Cmp.{on_per};
 ghost use Rattle.std.specs.Cmp.Lexicographic.{pointwise, nat_list_eq_equiv};
 ghost use Rattle.std.specs.Cow.{cow_str_bytes};
-ghost use Rattle.string_cache_core.specs.Faults.{IsInternFault};
-ghost use Rattle.string_cache_core.specs.Tables.{IsPerfectTable, IsStaticIndex, form_of_text, hash_number, is_dynamic, is_dynamic_form, is_inline_form, is_static_form, text_at};
-ghost use Rattle.string_cache_core.specs.Word.{IsInlineText, inline_word, static_word};
+ghost use Rattle.text_forms.specs.Faults.{IsInternFault};
+ghost use Rattle.text_forms.specs.Tables.{IsPerfectTable, IsStaticIndex, form_of_text, hash_number, is_dynamic, is_dynamic_form, is_inline_form, is_static_form, text_at};
+ghost use Rattle.text_forms.specs.Word.{IsInlineText, inline_word, static_word};
 ghost use Rattle.string_cache.specs.AtomForm.{IsOwnForm, value_of_form};
 ghost use Rattle.string_cache.specs.AtomValue.{IsWordOf};
 ghost use Rattle.string_cache.specs.Packed.{IsPackable};
@@ -21,11 +21,11 @@ use counted_set::dynamic_set::{Held, Set};
 use std::borrow::CowStr;
 use std::marker::Model;
 use std::sync::Wait;
-use string_cache_core::Fault;
-use string_cache_core::static_sets::{
+use text_forms::Fault;
+use text_forms::static_sets::{
     EmptyStaticAtomSet, StaticTables, TextForm, form_of_text, static_text,
 };
-use string_cache_core::word::{InlineText, static_word, unpack_inline};
+use text_forms::word::{InlineText, static_word, unpack_inline};
 
 /// How an atom holds its text.
 #[derive(Drop)]

@@ -7,7 +7,7 @@ ghost use Rattle.serde.specs.Event.{Sends, text as text_event};
 ghost use Rattle.serde_json.specs.Data.{string};
 ghost use Rattle.serde_json.specs.Find.{as_str};
 ghost use Rattle.serde_json.specs.View.{view};
-ghost use Rattle.string_cache_core.specs.Tables.{form_of_text, hash_number, is_dynamic};
+ghost use Rattle.text_forms.specs.Tables.{form_of_text, hash_number, is_dynamic};
 ghost use Rattle.string_cache.specs.Precomputed.{precomputed_number};
 ghost use Rattle.string_cache.specs.Printed.{debug_text, form_name};
 
@@ -19,8 +19,8 @@ use std::alloc::Global;
 use std::convert::{AsSlice, AsStr};
 use std::fmt::{self, Debug, Display, Formatter, Write};
 use std::sync::Wait;
-use string_cache_core::Fault;
-use string_cache_core::static_sets::StaticTables;
+use text_forms::Fault;
+use text_forms::static_sets::StaticTables;
 
 /// Values that have a hash of 32 bits at hand.
 pub trait PrecomputedHash {

@@ -6,7 +6,7 @@ use Rattle.string_cache_core.specs.Kept.{Kept, map_of}
 use Rattle.string_cache_core.specs.Memory.{IsMemory}
 use Rattle.string_cache_core.specs.Table.{Interns, Clones, IsHeld}
 use Rattle.string_cache_core.specs.Tables.{empty_tables}
-use Rattle.string_cache_core.specs.declared.faults.Fault.{Fault}
+use Rattle.text_forms.specs.declared.faults.Fault.{Fault}
 use Rattle.string_cache_c.specs.Numbers.{IsReply, too_small}
 use Rattle.string_cache_c.specs.declared.words.Words.{Words}
 

@@ -1,6 +1,6 @@
 -- What C is told of a word's form.
-use Rattle.string_cache_core.specs.declared.word.Form.{Form}
-use Rattle.string_cache_core.specs.declared.word.Form.TheVariants.{Inline, Static, Dynamic}
+use Rattle.text_forms.specs.declared.word.Form.{Form}
+use Rattle.text_forms.specs.declared.word.Form.TheVariants.{Inline, Static, Dynamic}
 use Rattle.string_cache_c.specs.declared.forms.ScForm.{ScForm}
 
 -- kind 0 is inline, 1 static, 2 dynamic; what a kind hasn't is 0

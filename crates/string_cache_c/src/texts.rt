@@ -4,7 +4,7 @@ ghost use Rattle.std.specs.Str.{IsUtf8};
 ghost use Rattle.string_cache_core.specs.Form.{IsFormOf};
 ghost use Rattle.string_cache_core.specs.Phf.{hashes_of};
 ghost use Rattle.string_cache_core.specs.Word.{IsInlineText, IsInlineWord, inline_word};
-ghost use Rattle.string_cache_core.specs.declared.word.Form.{Form};
+ghost use Rattle.text_forms.specs.declared.word.Form.{Form};
 ghost use Rattle.string_cache_c.specs.Calls.{CopiesText};
 ghost use Rattle.string_cache_c.specs.Forms.{told};
 ghost use Rattle.string_cache_c.specs.Numbers.{not_utf8, not_word};

@@ -2,12 +2,12 @@
 use Rattle.std.proofs.Common.{◌≡◌, sym, subst, refl, ℕ, inl, inr, List, [], ◌∷◌, ◌++◌, length, nat_lt, false}
 use Rattle.std.specs.Str.{IsUtf8}
 use Rattle.std.proofs.lemmas.Bool.{le-ltb}
-use Rattle.string_cache_core.specs.declared.static_sets.TextForm.{TextForm}
-use Rattle.string_cache_core.specs.declared.static_sets.TextForm.TheVariants.{Inline}
-use Rattle.string_cache_core.specs.Map.{InternMap}
+use Rattle.text_forms.specs.declared.static_sets.TextForm.{TextForm}
+use Rattle.text_forms.specs.declared.static_sets.TextForm.TheVariants.{Inline}
+use Rattle.text_forms.specs.Map.{InternMap}
 use Rattle.string_cache_core.specs.Table.{AreHeld, HasWord, HasWordBy, IsHeld, IsTextOf}
-use Rattle.string_cache_core.specs.Tables.{Tables, fixed_word, form_of_text}
-use Rattle.string_cache_core.specs.Word.{IsInlineText, IsInlineWord, inline_word}
+use Rattle.text_forms.specs.Tables.{Tables, fixed_word, form_of_text}
+use Rattle.text_forms.specs.Word.{IsInlineText, IsInlineWord, inline_word}
 use Rattle.string_cache_core.proofs.calls.Keep.{listed-held}
 use Rattle.string_cache_core.proofs.calls.WordsApart.{has}
 

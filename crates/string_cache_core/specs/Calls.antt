@@ -1,14 +1,14 @@
 -- The calls of a table that `run` takes, and its replies.
 use Rattle.std.specs.Prelude.{◌≡◌, ℕ, ◌⊎◌, List, [], ◌∷◌, Result, Ok, Err, string_bytes}
-use Rattle.string_cache_core.specs.Bounds.{Bounds}
-use Rattle.string_cache_core.specs.declared.faults.Fault.{Fault}
+use Rattle.text_forms.specs.Bounds.{Bounds}
+use Rattle.text_forms.specs.declared.faults.Fault.{Fault}
 use Rattle.string_cache_core.specs.declared.table.call.Call.{Call}
 use Rattle.string_cache_core.specs.declared.table.call.Call.TheVariants as call
 use Rattle.string_cache_core.specs.declared.table.call.TableReply.{TableReply}
 use Rattle.string_cache_core.specs.declared.table.call.TableReply.TheVariants as reply
-use Rattle.string_cache_core.specs.Map.{InternMap}
+use Rattle.text_forms.specs.Map.{InternMap}
 use Rattle.string_cache_core.specs.Table.{Interns, Clones, Gives, IsHeld}
-use Rattle.string_cache_core.specs.Tables.{Tables}
+use Rattle.text_forms.specs.Tables.{Tables}
 
 -- a word or a refusal, as a reply
 abbrev pub reply_of : Result ℕ Fault → TableReply

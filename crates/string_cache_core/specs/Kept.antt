@@ -3,11 +3,11 @@ use Rattle.std.specs.Prelude.{◌≡◌, ℕ, ◌^◌, ◌<◌, ◌≤◌, List,
 use Rattle.std.specs.List.{sum_by}
 use Rattle.std.specs.Map.{lookup}
 use Rattle.std.specs.Str.{bytes_eq}
-use Rattle.string_cache_core.specs.Bounds.{Bounds}
-use Rattle.string_cache_core.specs.Layout.{most_buckets}
-use Rattle.string_cache_core.specs.Map.{Holding, InternMap}
-use Rattle.string_cache_core.specs.Tables.{Tables, bucket_of, form_of_text, fixed_word}
-use Rattle.string_cache_core.specs.Word.{ticket_of, IsTicket}
+use Rattle.text_forms.specs.Bounds.{Bounds}
+use Rattle.text_forms.specs.Layout.{most_buckets}
+use Rattle.text_forms.specs.Map.{Holding, InternMap}
+use Rattle.text_forms.specs.Tables.{Tables, bucket_of, form_of_text, fixed_word}
+use Rattle.text_forms.specs.Word.{ticket_of, IsTicket}
 
 -- a dynamic text, with its ticket and its holders
 abbrev pub Pair : Type 0

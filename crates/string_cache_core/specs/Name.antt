@@ -1,6 +1,6 @@
 -- The words in what calls answer with names.
 use Rattle.std.specs.Prelude.{ℕ, Option, Some, None, Result, Ok, Err}
-use Rattle.string_cache_core.specs.declared.faults.Fault.{Fault}
+use Rattle.text_forms.specs.declared.faults.Fault.{Fault}
 use Rattle.string_cache_core.specs.declared.table.name.Name.{Name}
 
 abbrev pub word_in : {K : Type 0} → Result (Name K) Fault → Result ℕ Fault

@@ -1,6 +1,6 @@
 -- Words of private contracts of the table: where a text and a ticket stand.
 use Rattle.std.specs.Prelude.{◌≡◌, ℕ, ◌<◌, List, Some, slice_get}
-use Rattle.string_cache_core.specs.Map.{Holding}
+use Rattle.text_forms.specs.Map.{Holding}
 use Rattle.string_cache_core.specs.Kept.{Kept, map_of}
 
 -- the text stands at the place

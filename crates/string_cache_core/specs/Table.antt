@@ -1,13 +1,13 @@
 -- What the calls of a table do, as calls of the map that it is.
 use Rattle.std.specs.Prelude.{◌≡◌, ℕ, ◌<◌, ◌≤◌, ◌⊎◌, ◌↔◌, Bool, true, false, List, [], ◌∷◌, Option, None, Some, Result, Ok, Err}
 use Rattle.std.specs.Str.{IsUtf8}
-use Rattle.string_cache_core.specs.Bounds.{Bounds}
-use Rattle.string_cache_core.specs.declared.faults.Fault.{Fault}
-use Rattle.string_cache_core.specs.declared.static_sets.TextForm.TheVariants as form
-use Rattle.string_cache_core.specs.Map.{Holding, InternMap, IsHeldTicket, MapReply, Intern, Clone, Give, MayReply, MayAdd}
-use Rattle.string_cache_core.specs.Tables.{Tables, form_of_text, fixed_word, IsStaticTextWord}
-use Rattle.string_cache_core.specs.Times.{times}
-use Rattle.string_cache_core.specs.Word.{static_word, ticket_of, IsInlineWord, IsTicket}
+use Rattle.text_forms.specs.Bounds.{Bounds}
+use Rattle.text_forms.specs.declared.faults.Fault.{Fault}
+use Rattle.text_forms.specs.declared.static_sets.TextForm.TheVariants as form
+use Rattle.text_forms.specs.Map.{Holding, InternMap, IsHeldTicket, MapReply, Intern, Clone, Give, MayReply, MayAdd}
+use Rattle.text_forms.specs.Tables.{Tables, form_of_text, fixed_word, IsStaticTextWord}
+use Rattle.text_forms.specs.Times.{times}
+use Rattle.text_forms.specs.Word.{static_word, ticket_of, IsInlineWord, IsTicket}
 
 -- the word that the map's reply gives
 abbrev pub as_word : MapReply → Result ℕ Fault

@@ -1,13 +1,8 @@
-//! The pure core of `string_cache`: words, hashes, static tables, and the table for one thread.
+//! The table for one thread. The words, hashes and static tables of `text_forms` stand here as well.
 #![tactic(auto)]
 
-mod faults;
-pub mod packed_sets;
-pub mod phf;
-#[doc(hidden)]
-pub mod samples;
-pub mod static_sets;
 pub mod table;
-pub mod word;
 
-pub use faults::Fault;
+#[doc(hidden)]
+pub use text_forms::samples;
+pub use text_forms::{Fault, packed_sets, phf, static_sets, word};

@@ -1,17 +1,17 @@
 //! The table of texts for one thread.
 
 ghost use Rattle.std.specs.Prelude.{IsTrue, ◌≡◌, ℕ, [], ◌∷◌, ◌++◌, ◌+◌, ◌-◌, ◌^◌, ◌%◌, ◌<◌, ◌≤◌, ◌⊎◌, OnOk, OnErr, IfOk, IfErr, IfSome, IsSome, MatchOption, Option, None, Some, slice_get, length, List, ◌↔◌};
-ghost use Rattle.string_cache_core.specs.Faults.{IsInternFault};
-ghost use Rattle.string_cache_core.specs.declared.faults.Fault.TheVariants.{FullCount, Memory};
+ghost use Rattle.text_forms.specs.Faults.{IsInternFault};
+ghost use Rattle.text_forms.specs.declared.faults.Fault.TheVariants.{FullCount, Memory};
 ghost use Rattle.string_cache_core.specs.Calls.{Answers, AnswersAll};
 ghost use Rattle.std.specs.List.{swap_remove};
-ghost use Rattle.string_cache_core.specs.Layout.{holder_bound, serial_bound, usual_buckets};
-ghost use Rattle.string_cache_core.specs.Map.{Holding, IsHeldTicket, Intern, MapReply, MayReply, empty_map, with_held, with_last};
+ghost use Rattle.text_forms.specs.Layout.{holder_bound, serial_bound, usual_buckets};
+ghost use Rattle.text_forms.specs.Map.{Holding, IsHeldTicket, Intern, MapReply, MayReply, empty_map, with_held, with_last};
 ghost use Rattle.string_cache_core.specs.Order.{ComesLast, GoesFrom};
 ghost use Rattle.string_cache_core.specs.Table.{Adds, Interns, Gives, AreBothHeld, AreHeld, GivesOnce, HasOneTextEach, HasWord, IsFixedWord, IsHeld, IsTextOf, IsWordOf, KeepsWord, as_word};
-ghost use Rattle.string_cache_core.specs.Tables.{bucket_of, form_of_text, fixed_word};
-ghost use Rattle.string_cache_core.specs.Word.{inline_word, ticket_of};
-ghost use Rattle.string_cache_core.specs.declared.static_sets.TextForm.TheVariants.{Dynamic};
+ghost use Rattle.text_forms.specs.Tables.{bucket_of, form_of_text, fixed_word};
+ghost use Rattle.text_forms.specs.Word.{inline_word, ticket_of};
+ghost use Rattle.text_forms.specs.declared.static_sets.TextForm.TheVariants.{Dynamic};
 
 mod call;
 mod holding;
@@ -24,9 +24,6 @@ mod release;
 mod room;
 mod word_text;
 
-use crate::Fault;
-use crate::static_sets::{StaticTables, TextForm, form_of_text, static_text};
-use crate::word::{Buckets, Form, Limits, form_of, static_word, ticket_word};
 pub use call::{Call, TableReply};
 use holding::{Holding, write_holders};
 use indexmap::{IndexMap, IndexSet};
@@ -36,6 +33,9 @@ pub use name::Name;
 pub use names::Names;
 use std::alloc::Global;
 use std::marker::{Model, PhantomData};
+use text_forms::Fault;
+use text_forms::static_sets::{StaticTables, TextForm, form_of_text, static_text};
+use text_forms::word::{Buckets, Form, Limits, form_of, static_word, ticket_word};
 pub use word_text::WordText;
 
 /// The interned texts of one thread. Each dynamic text that is held has one ticket, and a number of holders.

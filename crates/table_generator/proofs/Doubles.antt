@@ -11,7 +11,7 @@ use Rattle.std.proofs.lemmas.Bool.{false≢true, cases_lt, cases_eq}
 use Rattle.std.proofs.lemmas.List.{get_or-map, get_or_default, length-map}
 use Rattle.std.proofs.lemmas.List.Edits.{Swapped, swapped_from_swap, length-swap}
 use Rattle.std.proofs.lemmas.List.Sorted.{IsPermutation-keeps}
-use Rattle.string_cache_core.specs.declared.phf.Hashes.{Hashes}
+use Rattle.text_forms.specs.declared.phf.Hashes.{Hashes}
 use Rattle.table_generator.specs.Generated.{HasDouble, HasEarlier}
 use Rattle.table_generator.specs.Grouped.{pair_of, AreGrouped}
 

@@ -3,7 +3,7 @@ use Rattle.std.proofs.Common.{◌≡◌, ◌≢◌, ℕ, ◌+◌, ◌<◌, Bool,
 use Rattle.std.proofs.lemmas.Bool.{false≢true}
 use borrow.Author.Count.{below_more}
 use Rattle.std.proofs.lemmas.List.{get_or-take, get_or_default}
-use Rattle.string_cache_core.specs.declared.phf.Hashes.{Hashes}
+use Rattle.text_forms.specs.declared.phf.Hashes.{Hashes}
 use Rattle.table_generator.specs.Places.{place_by, is_taken, Fits, IsPlaceOf}
 
 module _ (taken : List Bool) (members : List Hashes) (pair : ℕ × ℕ) (i p : ℕ) (d : Hashes) (here : i < length members)

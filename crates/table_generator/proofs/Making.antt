@@ -9,9 +9,9 @@ use Rattle.std.proofs.lemmas.Map.Made.{AllPairs-from_IsDistinct}
 use Rattle.std.proofs.lemmas.Nat.{mod_below, mul-mod_second}
 use Rattle.std.proofs.lemmas.Nat.Gcd.{dvd_of_mod-eq-zero}
 use Rattle.std.proofs.Math.Nat.{add-mod, mod-mod, mod-mod_of_dvd, mod-le, mod-one}
-use Rattle.string_cache_core.specs.declared.phf.Hashes.{Hashes}
-use Rattle.string_cache_core.specs.Phf.{hashes_of, place_of}
-use Rattle.string_cache_core.specs.Tables as core
+use Rattle.text_forms.specs.declared.phf.Hashes.{Hashes}
+use Rattle.text_forms.specs.Phf.{hashes_of, place_of}
+use Rattle.text_forms.specs.Tables as core
 use Rattle.table_generator.specs.Assembled.{Assembles}
 use Rattle.table_generator.specs.Generated.{HasFeed, IsTablesOf, IsUnplaceable, pairs_for}
 use Rattle.table_generator.specs.Places.{AreApart, place_by}

@@ -8,9 +8,9 @@ use Rattle.std.proofs.lemmas.List.Sorted.{All-permutation, IsPermutation-map, le
 use Rattle.std.proofs.lemmas.Map.Keys.{IsDistinct-IsPermutation, IsStrictlyIncreasing-from_distinct}
 use Rattle.std.proofs.lemmas.Map.Made.{IsDistinct-from_AllPairs}
 use lib.Dec.{eqb}
-use Rattle.string_cache_core.specs.declared.phf.Hashes.{Hashes}
-use Rattle.string_cache_core.specs.Phf.{hashes_of, hash_of_hashes, place_of}
-use Rattle.string_cache_core.specs.Tables as core
+use Rattle.text_forms.specs.declared.phf.Hashes.{Hashes}
+use Rattle.text_forms.specs.Phf.{hashes_of, hash_of_hashes, place_of}
+use Rattle.text_forms.specs.Tables as core
 use Rattle.table_generator.specs.Assembled.{Assembles}
 
 -- ---- numbers that rise, all below how many they are

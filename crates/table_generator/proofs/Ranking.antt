@@ -4,7 +4,7 @@ use Rattle.std.specs.List.{All}
 use Rattle.std.specs.List.Sorted.{IsNonDecreasingBy}
 use Rattle.std.proofs.lemmas.List.{get_or-map, length-map}
 use Rattle.std.proofs.lemmas.Nat.{mod-mul-add}
-use Rattle.string_cache_core.specs.declared.phf.Hashes.{Hashes}
+use Rattle.text_forms.specs.declared.phf.Hashes.{Hashes}
 use Rattle.table_generator.specs.Grouped.{pair_of, rank_of, AreGrouped}
 
 -- equal ranks are ranks of one pair

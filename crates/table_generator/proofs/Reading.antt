@@ -3,7 +3,7 @@ use Rattle.std.proofs.Common.{◌≡◌, ◌≢◌, ℕ, ◌^◌, ◌<◌, List,
 use Rattle.std.specs.List.{All, flat_map}
 use Rattle.std.proofs.lemmas.Fmt.{decimal_injective}
 use Rattle.std.proofs.lemmas.List.{append_cancel_left, append-nil}
-use Rattle.string_cache_core.specs.Tables.{Tables, IsPerfectTable}
+use Rattle.text_forms.specs.Tables.{Tables, IsPerfectTable}
 use Rattle.table_generator.specs.TableText.{key_line, disp_line, atom_line, atom_lines, hex_digits, HasNoFeed, ReadsDisps, ReadsAtoms, SpellsTables, SpellsPerfectTables}
 use Rattle.table_generator.proofs.Cuts.{first_byte}
 use Rattle.table_generator.proofs.HexLemmas.{hex_lacks, hex_injective}

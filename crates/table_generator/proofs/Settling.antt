@@ -3,8 +3,8 @@ use Rattle.std.proofs.Common.{◌≡◌, ◌≢◌, ℕ, ◌+◌, ◌*◌, ◌-�
 use mathlib.Core.Logic.{⊎_elim}
 use Rattle.std.proofs.lemmas.Bool.{false≢true, cases_lt, cases_eq}
 use Rattle.std.proofs.lemmas.List.{get_or-take, get_or-drop, get_or-set_same, get_or-set_other, get_or-replicate, get_or_past, length-set, length-replicate}
-use Rattle.string_cache_core.specs.declared.phf.Hashes.{Hashes}
-use Rattle.string_cache_core.specs.Phf.{place_of}
+use Rattle.text_forms.specs.declared.phf.Hashes.{Hashes}
+use Rattle.text_forms.specs.Phf.{place_of}
 use Rattle.table_generator.specs.Grouped.{pair_of, AreGrouped, IsRunEnd}
 use Rattle.table_generator.specs.Places.{place_by, is_taken, Fits, Marks, AreApart}
 

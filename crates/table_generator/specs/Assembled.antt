@@ -2,7 +2,7 @@
 use Rattle.std.specs.Prelude.{◌≡◌, ℕ, ◌^◌, ◌<◌, List, map}
 use Rattle.std.specs.List.{All}
 use Rattle.std.specs.List.Sorted.{IsPermutation}
-use Rattle.string_cache_core.specs.Tables as core
+use Rattle.text_forms.specs.Tables as core
 
 -- the tables of these texts under the key and the displacements
 pub record Assembles (key : ℕ) (disps : List (ℕ × ℕ)) (texts : List (List ℕ)) (t : core.Tables) : Type 0 where

@@ -3,8 +3,8 @@ use Rattle.std.specs.Prelude.{◌≡◌, ◌↔◌, ◌⊎◌, ℕ, ◌+◌, ◌
 use Rattle.std.specs.List.{All, Contains}
 use Rattle.std.specs.List.Sorted.{IsPermutation}
 use denote.Ref.{Bor}
-use Rattle.string_cache_core.specs.Tables as core
-use Rattle.string_cache_core.specs.Phf.{hashes_of}
+use Rattle.text_forms.specs.Tables as core
+use Rattle.text_forms.specs.Phf.{hashes_of}
 use Rattle.table_generator.specs.declared.tables.Tables.{Tables}
 use Rattle.table_generator.specs.declared.tables.GenFault.{GenFault}
 use Rattle.table_generator.specs.declared.tables.GenFault.TheVariants as fault

@@ -1,6 +1,6 @@
 -- The order in which texts are settled: words of the search.
 use Rattle.std.specs.Prelude.{◌≡◌, ◌≢◌, ℕ, ◌+◌, ◌*◌, ◌%◌, ◌<◌, ◌≤◌, List, length, slice_index_or}
-use Rattle.string_cache_core.specs.declared.phf.Hashes.{Hashes}
+use Rattle.text_forms.specs.declared.phf.Hashes.{Hashes}
 
 -- the pair of displacements that a text belongs to
 abbrev pub pair_of : ℕ → Hashes → ℕ

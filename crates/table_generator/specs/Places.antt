@@ -2,8 +2,8 @@
 -- `generate` promises; the rest are the words of the search.
 use Rattle.std.specs.Prelude.{◌≡◌, ◌≢◌, ℕ, ◌+◌, ◌*◌, ◌%◌, ◌^◌, ◌<◌, Bool, true, false, List, length, slice_index_or}
 use Rattle.std.specs.List.{All, Any, AllPairs}
-use Rattle.string_cache_core.specs.declared.phf.Hashes.{Hashes}
-use Rattle.string_cache_core.specs.Phf.{place_of}
+use Rattle.text_forms.specs.declared.phf.Hashes.{Hashes}
+use Rattle.text_forms.specs.Phf.{place_of}
 use Rattle.table_generator.specs.declared.search.Tried.{Tried}
 
 -- under these displacements the texts have different places among `len`

@@ -1,7 +1,7 @@
 -- The printed form of tables: a line for the key, one for each pair of displacements, and one for each text.
 use Rattle.std.specs.Prelude.{◌≡◌, ◌≢◌, ℕ, zero, suc, ◌+◌, ◌/◌, ◌%◌, ◌^◌, ◌<◌, List, [], ◌∷◌, ◌++◌, length, nat_lt, if◌then◌else◌, codes, decimal}
 use Rattle.std.specs.List.{All, flat_map}
-use Rattle.string_cache_core.specs.Tables.{Tables, IsPerfectTable}
+use Rattle.text_forms.specs.Tables.{Tables, IsPerfectTable}
 
 -- a hexadecimal digit, in lower case
 abbrev pub hex_digit : ℕ → ℕ

@@ -1,14 +1,14 @@
 //! Tables from their printed form, checked.
 
 ghost use Rattle.std.specs.Prelude.{◌≡◌, ◌≢◌, ◌^◌, ◌<◌, ◌++◌, ◌↔◌, ℕ, List, IfOk, IfErr, IsTrue, MatchOption, codes, decimal};
-ghost use Rattle.string_cache_core.specs.declared.faults.Fault.{Fault};
+ghost use Rattle.text_forms.specs.declared.faults.Fault.{Fault};
 ghost use Rattle.table_generator.specs.Generated.{texts_of};
 ghost use Rattle.table_generator.specs.TableText.{key_line, disp_line, atom_line, hex_digit, hex_digits, HasNoFeed, ReadsDisps, ReadsAtoms, SpellsPerfectTables};
 
 use crate::numbers::{number_after, short_number_of};
 use std::alloc::{AllocError, Global};
-use string_cache_core::Fault;
-use string_cache_core::static_sets::check_parts;
+use text_forms::Fault;
+use text_forms::static_sets::check_parts;
 
 /// The value of a hexadecimal digit in lower case.
 fn digit_of(byte: u8) -> Option<u8>

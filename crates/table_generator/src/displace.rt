@@ -6,7 +6,7 @@ ghost use Rattle.table_generator.specs.Places.{AreApart, AreDisplacementsOf};
 
 use crate::search::{Tried, find_pair, mark};
 use std::alloc::{AllocError, Global};
-use string_cache_core::phf::Hashes;
+use text_forms::phf::Hashes;
 
 /// Where the run of texts of one pair that begins at `start` ends.
 fn run_end(hashes: &[Hashes], start: usize, pairs: usize) -> usize

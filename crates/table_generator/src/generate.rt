@@ -7,7 +7,7 @@ ghost use Rattle.std.specs.Prelude.{◌≡◌, ◌<◌, ◌≤◌, ◌%◌, ◌^
 ghost use Rattle.std.specs.Bool.{OnTrue, OnFalse};
 ghost use Rattle.std.specs.List.{All};
 ghost use Rattle.std.specs.List.Sorted.{IsPermutation};
-ghost use Rattle.string_cache_core.specs.Phf.{hashes_of};
+ghost use Rattle.text_forms.specs.Phf.{hashes_of};
 ghost use Rattle.table_generator.specs.Generated.{tables_of, texts_of, HasDouble, HasFeed, IsTablesOf, IsUnplaceable, TellsDouble, TellsTables};
 ghost use Rattle.table_generator.specs.Grouped.{AreGrouped};
 

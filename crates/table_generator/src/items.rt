@@ -4,7 +4,7 @@ ghost use Rattle.std.specs.Prelude.{◌≡◌, ◌<◌, ◌≤◌, ◌^◌, IfOk
 ghost use Rattle.std.specs.Bool.{OnTrue, OnFalse};
 ghost use Rattle.std.specs.List.{All, AllPairs};
 ghost use Rattle.std.specs.List.Sorted.{IsPermutation};
-ghost use Rattle.string_cache_core.specs.Phf.{hash_of_hashes, hashes_of, place_of};
+ghost use Rattle.text_forms.specs.Phf.{hash_of_hashes, hashes_of, place_of};
 ghost use Rattle.table_generator.specs.Assembled.{Assembles};
 ghost use Rattle.table_generator.specs.Generated.{tables_of, texts_of, HasDouble, HasEarlier};
 ghost use Rattle.table_generator.specs.Grouped.{AreGrouped, rank_of};
@@ -12,7 +12,7 @@ ghost use Rattle.table_generator.specs.Places.{AreApart};
 
 use crate::tables::Tables;
 use std::alloc::{AllocError, Global};
-use string_cache_core::phf::{Hashes, hash, place};
+use text_forms::phf::{Hashes, hash, place};
 
 /// A text on its way to its place.
 #[derive(Drop)]

@@ -4,7 +4,7 @@ ghost use Rattle.std.specs.Prelude.{◌≡◌, ◌<◌, ◌≤◌, ◌^◌, ◌�
 ghost use Rattle.std.specs.Bool.{OnTrue, OnFalse};
 ghost use Rattle.table_generator.specs.Places.{place_by, Fits, FitsAmong, IsPlaceOf, Marks, NoneFits};
 
-use string_cache_core::phf::Hashes;
+use text_forms::phf::Hashes;
 
 /// Which displacements are tried: all pairs of a first one and a second one below these numbers.
 #[derive(Clone, Copy)]

@@ -6,10 +6,10 @@ use Rattle.std.specs.Option.{unwrap_or}
 use Rattle.std.proofs.lemmas.Bool.{and_parts, and_from, or_cases, false_from_ne_true, eqb-true, eq-eqb, cases_Bool, ne_eqb}
 use Rattle.atomic_steps.specs.Steps.{◌>>=◌, only_if, has, with_one, without_one}
 use Rattle.atomic_steps.specs.Sound.{At}
-use Rattle.string_cache_core.specs.Times.{times}
+use Rattle.text_forms.specs.Times.{times}
 use Rattle.atomic_steps.specs.declared.steps.StepReply.{StepReply}
 use Rattle.atomic_steps.specs.World.{World}
-use Rattle.string_cache_core.proofs.TimesLemmas.{times-cons}
+use Rattle.text_forms.proofs.TimesLemmas.{times-cons}
 
 or_right_only : (a b : Bool) → a ≡ false → (a || b) ≡ true → b ≡ true
 or_right_only true b e h = absurd cc

@@ -9,15 +9,15 @@ use Rattle.atomic_steps.specs.declared.steps.Step.{Step}
 use Rattle.atomic_steps.specs.declared.steps.Step.TheVariants.{Add, Link, Unlink, Leave}
 use Rattle.atomic_steps.specs.declared.steps.StepReply.{StepReply}
 use Rattle.atomic_steps.specs.declared.steps.StepReply.TheVariants as reply
-use Rattle.string_cache_core.specs.Bounds.{Bounds}
-use Rattle.string_cache_core.specs.Layout.{most_buckets}
-use Rattle.string_cache_core.specs.Tables.{Tables, bucket_of}
+use Rattle.text_forms.specs.Bounds.{Bounds}
+use Rattle.text_forms.specs.Layout.{most_buckets}
+use Rattle.text_forms.specs.Tables.{Tables, bucket_of}
 use Rattle.atomic_steps.specs.World.{WorldEntry, PartyPass, World}
 use Rattle.atomic_steps.specs.Steps.{pass_of, is_linked_in, has, add, link, unlink, step_if, step, opening}
 use Rattle.atomic_steps.specs.Runs.{Event, Leads}
 use Rattle.atomic_steps.specs.Theorem.{text_taken}
 use Rattle.atomic_steps.specs.Sound.{At, SoundPass, Apart, SoundWorld}
-use Rattle.string_cache_core.specs.Pass as th
+use Rattle.text_forms.specs.Pass as th
 use Rattle.atomic_steps.specs.PassSteps.{Item, list_of, plan_of, Planned, planned, any_reply, is_added, is_full, is_dying, is_unlinked, is_kept, steps_of, own, AsPlanned, linked_by, new_by, PassIsSteps}
 use Rattle.atomic_steps.proofs.lists.Facts.{at_one, if_case, find-all, false_is_true}
 use Rattle.atomic_steps.proofs.runs.Opening.{opening_sound}

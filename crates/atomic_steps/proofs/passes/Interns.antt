@@ -14,7 +14,7 @@ use Rattle.atomic_steps.specs.Runs.{Made, Event, Leads, call_of, history_of}
 use Rattle.atomic_steps.specs.Theorem.{Stays, event, interned_by, texts_in, text_taken, made_by, own_calls}
 use Rattle.atomic_steps.proofs.passes.Parties.{Decided, own_event, other_event, took_event, bucket_of_text, leads-append, others_intern_nothing, by_own}
 use Rattle.atomic_steps.proofs.passes.Parties as passes
-use Rattle.string_cache_core.specs.Tables.{Tables, bucket_of}
+use Rattle.text_forms.specs.Tables.{Tables, bucket_of}
 
 interned_by-append : (party : ℕ) (xs ys : List Made) → interned_by party (xs ++ ys) ≡ interned_by party xs ++ interned_by party ys
 interned_by-append party [] ys = refl

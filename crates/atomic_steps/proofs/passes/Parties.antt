@@ -16,7 +16,7 @@ use Rattle.atomic_steps.specs.Theorem.{interned_by, texts_in, bucket_taken, text
 use Rattle.atomic_steps.specs.Sound.{At}
 use Rattle.atomic_steps.proofs.lists.Facts.{at_one, bind_case, guard_case, if_case, some_then}
 use Rattle.atomic_steps.proofs.runs.History.{has-push, wants_is, wanted_by-is}
-use Rattle.string_cache_core.specs.Tables.{Tables, is_dynamic, bucket_of}
+use Rattle.text_forms.specs.Tables.{Tables, is_dynamic, bucket_of}
 
 -- ---- the list of passes
 

@@ -14,9 +14,9 @@ use Rattle.atomic_steps.specs.declared.steps.Step.TheVariants.{Add, Link, Unlink
 use Rattle.atomic_steps.specs.declared.steps.StepReply.{StepReply}
 use Rattle.atomic_steps.specs.declared.steps.StepReply.TheVariants as reply
 use Rattle.atomic_steps.specs.Steps.{◌>>=◌, only_if, pass_of, is_linked_in, wants, has, add, link, unlink, dying_if_linked, all_looked_at, looked_at_if_linked, replaced, without_party, with_pass, finds_dying, looks_at, decides, last_of, step_if, step}
-use Rattle.string_cache_core.specs.Word.{ticket_of}
+use Rattle.text_forms.specs.Word.{ticket_of}
 use Rattle.atomic_steps.specs.World.{WorldEntry, PartyPass, World, is_linked}
-use Rattle.string_cache_core.specs.Pass as th
+use Rattle.text_forms.specs.Pass as th
 use Rattle.atomic_steps.specs.PassSteps.{Item, item, list_of, steps_of_all, end_of, plan_of, Planned, planned, any_reply, is_dying, steps_of, linked_by}
 use Rattle.atomic_steps.specs.Sound.{At, SoundPass, SoundWorld}
 use Rattle.atomic_steps.proofs.lists.Facts.{implied, has_old, has_new, numbered_all, at_set_cases, at_push_cases, at_one, if_case, find-all, at_set_other, false_is_true}
@@ -24,7 +24,7 @@ use Rattle.atomic_steps.proofs.worlds.Kept.{same_text}
 use Rattle.atomic_steps.proofs.passes.Parties.{of_party, replaced_same, others_keep, is_party}
 use Rattle.atomic_steps.proofs.worlds.Apart.{SameIn, same_in, same_change, others_leave}
 use Rattle.atomic_steps.proofs.lists.Items.{numbers, Falls, items, items_same, items_push, items_cut, is_other, filter_reverse}
-use Rattle.string_cache_core.specs.Tables.{Tables, bucket_of}
+use Rattle.text_forms.specs.Tables.{Tables, bucket_of}
 
 -- ---- a plan, entry by entry
 

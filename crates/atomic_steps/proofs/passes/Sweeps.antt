@@ -13,13 +13,13 @@ use Rattle.atomic_steps.specs.Steps.{pass_of, is_linked_in, wants, has, take_buc
 use Rattle.atomic_steps.specs.Runs.{Event, Leads}
 use Rattle.atomic_steps.specs.Theorem.{event, IsAlone, Sweeps, OnlyHeldLinked}
 use Rattle.atomic_steps.specs.Sound.{At, Sound}
-use Rattle.string_cache_core.specs.Times.{times}
+use Rattle.text_forms.specs.Times.{times}
 use Rattle.atomic_steps.proofs.lists.Facts.{at_one, at_set_cases, at_push_cases, bind_case, guard_case, if_case, false_is_true}
 use Rattle.atomic_steps.proofs.runs.Opening.{keeps_all}
 use Rattle.atomic_steps.proofs.worlds.Entries.{sound_by, all_sound, stays_gone}
 use Rattle.atomic_steps.proofs.passes.Parties.{leads-append}
 use Rattle.atomic_steps.proofs.passes.Zeros.{AtZero, zero_taken, zero_all, zero_left}
-use Rattle.string_cache_core.specs.Tables.{Tables}
+use Rattle.text_forms.specs.Tables.{Tables}
 
 -- What stood at zero here, linked if z is.
 pub record StoodAtZero (es : List WorldEntry) (k : ℕ) (z : WorldEntry) : Type 0 where

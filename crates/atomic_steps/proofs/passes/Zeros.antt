@@ -13,7 +13,7 @@ use Rattle.atomic_steps.specs.Sound.{At, Sound}
 use Rattle.atomic_steps.proofs.lists.Facts.{numbered_at}
 use Rattle.atomic_steps.proofs.worlds.Entries.{Evolves, goes_by, sound_by, all_sound}
 use Rattle.atomic_steps.proofs.passes.Parties.{own_event, other_event, took_event, leads-append}
-use Rattle.string_cache_core.specs.Tables.{Tables}
+use Rattle.text_forms.specs.Tables.{Tables}
 
 -- The party's pass is over this bucket, and hasn't looked at the entry.
 pub record Unseen (w : World) (party bucket k : ℕ) : Type 0 where

@@ -2,7 +2,7 @@
 use Rattle.std.proofs.Common.{◌≡◌, ℕ, ◌+◌, ◌-◌, ◌%◌, ◌<◌, ◌≤◌, Bool, true, false, cond, List, Option, None, Some, refl, sym, ap, ◌∙◌, subst}
 use Rattle.std.specs.Option.{unwrap_or}
 use Rattle.std.specs.Str.{bytes_eq}
-use Rattle.string_cache_core.specs.declared.faults.Fault.{Fault}
+use Rattle.text_forms.specs.declared.faults.Fault.{Fault}
 use Rattle.std.specs.Prelude.{Result, Ok, Err, IfOk, slice_set, nat_lt, ◌&&◌, is_none, length}
 use Rattle.std.proofs.lemmas.Bool.{cond-true, cond-false, lt-ltb, le-ltb}
 use Rattle.atomic_steps.specs.declared.steps.Step.{Step}
@@ -14,10 +14,10 @@ use Rattle.atomic_steps.specs.Steps.{take_intern_if, pass_of, is_free, has, step
 use Rattle.atomic_steps.specs.Places.{EntryAt}
 use Rattle.atomic_steps.proofs.lists.Facts.{some_then, test_holds, replied, replied_both}
 use Rattle.atomic_steps.proofs.lists.Places.{entry_is}
-use Rattle.string_cache_core.specs.Tables.{Tables, entry_hash, form_of_text, text_at, place_in, is_dynamic, is_dynamic_form, bucket_of}
-use Rattle.string_cache_core.specs.Word.{inline_word}
-use Rattle.string_cache_core.specs.declared.static_sets.TextForm.{TextForm}
-use Rattle.string_cache_core.specs.declared.static_sets.TextForm.TheVariants as form
+use Rattle.text_forms.specs.Tables.{Tables, entry_hash, form_of_text, text_at, place_in, is_dynamic, is_dynamic_form, bucket_of}
+use Rattle.text_forms.specs.Word.{inline_word}
+use Rattle.text_forms.specs.declared.static_sets.TextForm.{TextForm}
+use Rattle.text_forms.specs.declared.static_sets.TextForm.TheVariants as form
 
 and_three : (a b c : Bool) → b ≡ true → (a && c) ≡ true → (a && b && c) ≡ true
 and_three true true true e f = refl

@@ -3,7 +3,7 @@ use Rattle.std.proofs.Common.{◌≡◌, ℕ, ◌+◌, ◌<◌, ◌≤◌, ◌�
 use Rattle.std.specs.Prelude.{slice_set, nat_lt, ◌==◌, ◌&&◌}
 use Rattle.std.proofs.lemmas.Bool.{eq-eqb, cond-true, cond-false, lt-ltb, le-ltb, ne_eqb}
 use Rattle.std.specs.Option.{option_map_or, unwrap_or}
-use Rattle.string_cache_core.specs.Word.{ticket_of}
+use Rattle.text_forms.specs.Word.{ticket_of}
 use Rattle.atomic_steps.specs.declared.steps.world_entry.Place.TheVariants as place
 use Rattle.atomic_steps.specs.declared.steps.Step.TheVariants.{Add, Link, Unlink}
 use Rattle.atomic_steps.specs.declared.steps.StepReply.{StepReply}
@@ -13,7 +13,7 @@ use Rattle.atomic_steps.specs.Steps.{is_linked_in, wants, step, IsStep, unlink, 
 use Rattle.atomic_steps.specs.Places.{PassAt, EntryAt}
 use Rattle.atomic_steps.proofs.lists.Facts.{some_then, test_fails, test_holds, replied, replied_both}
 use Rattle.atomic_steps.proofs.lists.Places.{entry_is}
-use Rattle.string_cache_core.specs.Tables.{Tables}
+use Rattle.text_forms.specs.Tables.{Tables}
 
 module _ (tables : Tables) where
   module _ (w : World) (party number at k : ℕ) (p : PassAt w party at) (e : EntryAt w number k) where

@@ -3,13 +3,13 @@ use Rattle.std.proofs.Common.{◌≡◌, ℕ, ◌<◌, ◌≤◌, ◌≢◌, tru
 use Rattle.std.proofs.lemmas.Option.{none-some}
 use Rattle.atomic_steps.specs.declared.steps.Step.TheVariants.{Free}
 use Rattle.atomic_steps.specs.declared.steps.StepReply.TheVariants as reply
-use Rattle.string_cache_core.specs.Tables.{Tables}
-use Rattle.string_cache_core.specs.Bounds.{Bounds}
-use Rattle.string_cache_core.specs.Layout.{most_buckets}
+use Rattle.text_forms.specs.Tables.{Tables}
+use Rattle.text_forms.specs.Bounds.{Bounds}
+use Rattle.text_forms.specs.Layout.{most_buckets}
 use Rattle.atomic_steps.specs.World.{WorldEntry, World, is_living}
 use Rattle.atomic_steps.specs.Steps.{entry_at, opening}
 use Rattle.atomic_steps.specs.Sound.{At, Sound}
-use Rattle.string_cache_core.specs.Times.{times}
+use Rattle.text_forms.specs.Times.{times}
 use Rattle.atomic_steps.specs.Runs.{Event, Leads}
 use Rattle.atomic_steps.specs.Theorem.{event, IsSoundRun}
 use Rattle.atomic_steps.proofs.lists.Facts.{all_at}

@@ -17,18 +17,18 @@ use Rattle.atomic_steps.specs.declared.steps.Step.TheVariants.{TakeIntern, TakeS
 use Rattle.atomic_steps.specs.declared.steps.StepReply.{StepReply}
 use Rattle.atomic_steps.specs.declared.steps.StepReply.TheVariants as reply
 use Rattle.atomic_steps.specs.Steps.{◌>>=◌, has, replaced, last_of, pass_of, is_linked_in, wants, with_entry, with_pass, with_ticket, with_one, without_one, finds_dying, looks_at, decides, take_bucket, add, all_found_dying, dying_if_linked, link, clone, give, unlink, all_looked_at, step}
-use Rattle.string_cache_core.specs.Word.{ticket_of}
+use Rattle.text_forms.specs.Word.{ticket_of}
 use Rattle.atomic_steps.specs.World.{WorldEntry, PartyPass, World, is_linked, is_unlinked_by, is_living}
 use Rattle.atomic_steps.specs.Sound.{At, Sound, SoundTable, SoundPass}
-use Rattle.string_cache_core.specs.Times.{times}
+use Rattle.text_forms.specs.Times.{times}
 use Rattle.atomic_steps.specs.Runs.{holding, living_at, live_map, wanted_by, ticket_at, call_of, Made, ReplaysHistory}
-use Rattle.string_cache_core.specs.Map.{InternMap, Holding, MapReply, MayReply, MayIntern, IsHeldTicket, unless_given_up, with_held, with_last}
-use Rattle.string_cache_core.specs.Map as map
-use Rattle.string_cache_core.specs.declared.faults.Fault.TheVariants as fault
+use Rattle.text_forms.specs.Map.{InternMap, Holding, MapReply, MayReply, MayIntern, IsHeldTicket, unless_given_up, with_held, with_last}
+use Rattle.text_forms.specs.Map as map
+use Rattle.text_forms.specs.declared.faults.Fault.TheVariants as fault
 use Rattle.atomic_steps.proofs.lists.Facts.{at_push_new, at_one, bind_case, guard_case, if_case, find-all, all_push, numbered_at, times-with_one_same, times-with_one_other, times-without_one_same, times-without_one_other, has_then}
 use Rattle.atomic_steps.proofs.worlds.Bag.{held_counts}
 use Rattle.atomic_steps.proofs.worlds.Kept.{same_length, Changes, table-set, dead-set, passes-weaker, all_replaced, all_without_party, table-push, dead-push, same_map, same_text, living_at-is, living_at-changed, living_at-dead, living_at-none, living_at-push_other, holding_of}
-use Rattle.string_cache_core.specs.Tables.{Tables, entry_hash, bucket_of}
+use Rattle.text_forms.specs.Tables.{Tables, entry_hash, bucket_of}
 
 bucket_of-below : (tables : Tables) (n : ℕ) (text : List ℕ) → 0 < n → bucket_of tables n text < n
 bucket_of-below tables n text some = mod_below (entry_hash tables text) n some

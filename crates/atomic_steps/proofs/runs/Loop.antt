@@ -4,7 +4,7 @@ use Rattle.std.proofs.lemmas.Bool.{cases_eq}
 use Rattle.std.proofs.lemmas.List.{take_more, length-take-le}
 use Rattle.atomic_steps.specs.declared.steps.Step.{Step}
 use Rattle.atomic_steps.specs.declared.steps.StepReply.{StepReply}
-use Rattle.string_cache_core.specs.Tables.{Tables}
+use Rattle.text_forms.specs.Tables.{Tables}
 use Rattle.atomic_steps.specs.World.{WorldEntry, World, is_linked}
 use Rattle.atomic_steps.specs.Sound.{SoundWorld}
 use Rattle.atomic_steps.specs.Steps.{step, IsStep, entry_at, opening}

@@ -4,14 +4,14 @@ use Rattle.std.specs.Prelude.{slice_index}
 use Rattle.std.proofs.lemmas.List.{length-replicate}
 use Rattle.atomic_steps.specs.declared.steps.StepReply.{StepReply}
 use Rattle.atomic_steps.specs.Steps.{step, opening}
-use Rattle.string_cache_core.specs.Bounds.{Bounds}
-use Rattle.string_cache_core.specs.Layout.{most_buckets}
+use Rattle.text_forms.specs.Bounds.{Bounds}
+use Rattle.text_forms.specs.Layout.{most_buckets}
 use Rattle.atomic_steps.specs.World.{WorldEntry, World}
 use Rattle.atomic_steps.specs.Sound.{At, Sound}
 use Rattle.atomic_steps.specs.Runs.{living_at, live_map, call_of, history_of, Event, Leads, Made, ReplaysHistory}
-use Rattle.string_cache_core.specs.Map.{InternMap, empty_map}
+use Rattle.text_forms.specs.Map.{InternMap, empty_map}
 use Rattle.atomic_steps.proofs.worlds.Kept.{same_map}
-use Rattle.string_cache_core.specs.Tables.{Tables}
+use Rattle.text_forms.specs.Tables.{Tables}
 use Rattle.atomic_steps.proofs.runs.History.{Keeps, keeps}
 
 module _ (tables : Tables) where

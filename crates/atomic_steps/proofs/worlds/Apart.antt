@@ -18,7 +18,7 @@ use Rattle.atomic_steps.proofs.worlds.Kept.{all_replaced, all_without_party}
 use Rattle.atomic_steps.proofs.worlds.Entries.{sound_by}
 use Rattle.atomic_steps.proofs.runs.History.{keeps, not_both}
 use Rattle.atomic_steps.proofs.passes.Parties.{of_party, find_passes, none_is}
-use Rattle.string_cache_core.specs.Tables.{Tables, is_dynamic, bucket_of}
+use Rattle.text_forms.specs.Tables.{Tables, is_dynamic, bucket_of}
 
 -- ---- what a step may do to the entries, and to the passes
 

@@ -3,7 +3,7 @@ use Rattle.std.proofs.Common.{◌≡◌, ℕ, ◌+◌, ◌-◌, ◌<◌, ◌≤�
 use Rattle.std.specs.Prelude.{slice_set, slice_index}
 use Rattle.std.proofs.lemmas.Bool.{eq-eqb, false_from_ne_true, ne_eqb}
 use Rattle.std.proofs.lemmas.Option.{none-some}
-use Rattle.string_cache_core.specs.Word.{ticket_of}
+use Rattle.text_forms.specs.Word.{ticket_of}
 use Rattle.atomic_steps.specs.declared.steps.world_entry.Place.{Place}
 use Rattle.atomic_steps.specs.World.{WorldEntry, PartyPass, World}
 use Rattle.atomic_steps.specs.Steps.{has, with_one, without_one}

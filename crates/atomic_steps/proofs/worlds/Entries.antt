@@ -17,7 +17,7 @@ use Rattle.atomic_steps.specs.Sound.{At, Sound}
 use Rattle.atomic_steps.proofs.lists.Facts.{at_set_same, at_push_old, at_one, bind_case, guard_case, if_case, at_set_other}
 use Rattle.atomic_steps.proofs.worlds.Bag.{held_counts}
 use Rattle.atomic_steps.proofs.runs.History.{keeps, unlinked_counts_zero}
-use Rattle.string_cache_core.specs.Tables.{Tables}
+use Rattle.text_forms.specs.Tables.{Tables}
 
 pub record Evolves (x y : WorldEntry) : Type 0 where
   pub text : y.text ≡ x.text

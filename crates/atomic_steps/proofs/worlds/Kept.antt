@@ -6,17 +6,17 @@ use Rattle.std.specs.Option.{option_map}
 use Rattle.std.specs.Str.{bytes_eq}
 use Rattle.std.proofs.lemmas.Bool.{and_parts, and_from, and_left, and_right, cases_eq, false_from_ne_true}
 use Rattle.std.proofs.lemmas.Slice.Eq.{bytes_eq-Decides}
-use Rattle.string_cache_core.specs.Layout.{most_buckets}
+use Rattle.text_forms.specs.Layout.{most_buckets}
 use Rattle.atomic_steps.specs.Steps.{replaced, without_party, with_one}
-use Rattle.string_cache_core.specs.Word.{ticket_of}
+use Rattle.text_forms.specs.Word.{ticket_of}
 use Rattle.atomic_steps.specs.World.{WorldEntry, PartyPass, is_linked, is_living}
 use Rattle.atomic_steps.specs.Sound.{At, IsNumbered, SoundTable, IsDead, SoundPass}
-use Rattle.string_cache_core.specs.Times.{times}
+use Rattle.text_forms.specs.Times.{times}
 use Rattle.atomic_steps.specs.Runs.{living_at}
-use Rattle.string_cache_core.specs.Map.{InternMap, Holding}
-use Rattle.string_cache_core.proofs.words.Tickets.{ticket_of-same}
+use Rattle.text_forms.specs.Map.{InternMap, Holding}
+use Rattle.text_forms.proofs.words.Tickets.{ticket_of-same}
 use Rattle.atomic_steps.proofs.lists.Facts.{at_set_same, at_set_cases, at_push_old, at_push_cases, at_push_new, at_one, find-set, find-push, find-is, find-none, all_weaker, times-with_one_same, times-with_one_other, if_case, at_set_other}
-use Rattle.string_cache_core.specs.Tables.{Tables}
+use Rattle.text_forms.specs.Tables.{Tables}
 
 -- ---- one entry changes
 

@@ -3,14 +3,14 @@
 ghost use Rattle.std.specs.Prelude.{◌≡◌, ◌<◌, ◌==◌, ◌++◌, ◌∷◌, [], length, MatchOption, OnOk};
 ghost use Rattle.std.specs.List.{list_all, position, remove};
 ghost use Rattle.std.specs.Option.{option_map};
-ghost use Rattle.string_cache_core.specs.Faults.{RefusesUnchanged};
+ghost use Rattle.text_forms.specs.Faults.{RefusesUnchanged};
 ghost use Rattle.atomic_steps.specs.Steps.{dying_if_linked, entry_at, has, looked_at_if_linked, without_one};
 ghost use Rattle.atomic_steps.specs.EntryNumbers.{passes_at};
 
 use super::world_entry::WorldEntry;
 use std::alloc::Global;
 use std::marker::Model;
-use string_cache_core::Fault;
+use text_forms::Fault;
 
 pub fn contains(numbers: &[u64], number: u64) -> bool
     ensures { result ≡ has numbers.now number }

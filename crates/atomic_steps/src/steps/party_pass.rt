@@ -2,11 +2,11 @@
 
 ghost use Rattle.std.specs.Prelude.{◌≡◌, ◌==◌, ◌++◌, ◌∷◌, [], IfOk, OnOk, OnErr, Some, IsSome, is_some};
 ghost use Rattle.std.specs.String.{string_bytes};
-ghost use Rattle.string_cache_core.specs.Faults.{RefusesUnchanged};
+ghost use Rattle.text_forms.specs.Faults.{RefusesUnchanged};
 
 use super::entry_numbers::EntryNumbers;
 use std::marker::Model;
-use string_cache_core::Fault;
+use text_forms::Fault;
 
 #[derive(Drop)]
 pub struct PartyPass {
@@ -21,7 +21,7 @@ impl Model for PartyPass {
     ghost use Rattle.std.specs.Prelude.{◌<◌};
     ghost use Rattle.std.specs.Option.{option_map};
     ghost use Rattle.std.specs.String.{string_bytes};
-    ghost use Rattle.string_cache_core.specs.Layout.{most_buckets};
+    ghost use Rattle.text_forms.specs.Layout.{most_buckets};
     ghost use Rattle.atomic_steps.specs.World as world;
 
     ghost Value = { world.PartyPass };

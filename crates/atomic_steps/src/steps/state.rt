@@ -3,7 +3,7 @@
 ghost use Rattle.std.specs.Prelude.{◌≡◌, ℕ, ◌%◌, ◌^◌, ◌<◌, ◌≤◌, ◌==◌, ◌&&◌, not, nat_lt, List, length, IfOk, OnErr, MatchOption, IfSome, IfNone, is_none, slice_get, Some, None, true, false};
 ghost use Rattle.std.specs.List.{position, list_all};
 ghost use Rattle.std.specs.Option.{option_map, option_map_or};
-ghost use Rattle.string_cache_core.specs.Layout.{holder_bound, most_buckets, serial_bound};
+ghost use Rattle.text_forms.specs.Layout.{holder_bound, most_buckets, serial_bound};
 ghost use Rattle.atomic_steps.specs.World.{is_unlinked_by};
 ghost use Rattle.atomic_steps.specs.Sound.{SoundTable};
 ghost use Rattle.atomic_steps.specs.Steps.{all_found_dying, all_looked_at, entry_at, has, is_free, is_linked_in, last_of, opening, pass_of, wants};
@@ -18,8 +18,8 @@ use super::party_pass::PartyPass;
 use super::world_entry::WorldEntry;
 use std::alloc::Global;
 use std::marker::Model;
-use string_cache_core::Fault;
-use string_cache_core::word::{Buckets, Limits};
+use text_forms::Fault;
+use text_forms::word::{Buckets, Limits};
 
 #[derive(Drop)]
 pub struct State {

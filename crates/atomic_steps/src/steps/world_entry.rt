@@ -34,7 +34,7 @@ impl Model for WorldEntry {
 }
 
 impl WorldEntry {
-    ghost use Rattle.string_cache_core.specs.Layout.{holder_bound};
+    ghost use Rattle.text_forms.specs.Layout.{holder_bound};
     ghost use Rattle.atomic_steps.specs.World.{is_linked, is_unlinked_by};
     ghost use Rattle.atomic_steps.specs.Steps.{is_linked_in};
 

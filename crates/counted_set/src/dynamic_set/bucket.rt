@@ -2,8 +2,8 @@
 
 ghost use Rattle.std.specs.Prelude.{◌≡◌, ◌+◌, ◌^◌, ◌<◌, [], ◌∷◌, ◌++◌, length, IfOk, IfErr, IfSome, Some, None};
 ghost use Rattle.std.specs.List.{AllByRecursion};
-ghost use Rattle.string_cache_core.specs.Tables.{entry_hash};
-ghost use Rattle.string_cache_core.specs.Faults.{IsInternFault};
+ghost use Rattle.text_forms.specs.Tables.{entry_hash};
+ghost use Rattle.text_forms.specs.Faults.{IsInternFault};
 ghost use Rattle.counted_set.specs.Chain.{IsKept, IsRightOf};
 ghost use Rattle.counted_set.specs.Counted.{GivesShares, IsPass};
 ghost use Rattle.counted_set.specs.Find.{IsFind};
@@ -22,9 +22,9 @@ use std::alloc::{AllocFailed, Global};
 use std::marker::{Model, PhantomData};
 use std::mem::replace;
 use std::sync::Wait;
-use string_cache_core::Fault;
-use string_cache_core::static_sets::StaticTables;
-use string_cache_core::word::{Buckets, Limits, ticket_word};
+use text_forms::Fault;
+use text_forms::static_sets::StaticTables;
+use text_forms::word::{Buckets, Limits, ticket_word};
 
 /// What one lock of a set holds: entries, newest first, and the serial that it gave last.
 ///

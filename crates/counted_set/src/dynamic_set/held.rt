@@ -7,8 +7,8 @@ use super::share::Share;
 use counted_cell::CellShare;
 use std::marker::Model;
 use std::sync::Wait;
-use string_cache_core::Fault;
-use string_cache_core::static_sets::StaticTables;
+use text_forms::Fault;
+use text_forms::static_sets::StaticTables;
 
 /// One share of an entry, with the set that it is of.
 ///

@@ -1,9 +1,9 @@
 //! The set: buckets behind locks.
 
 ghost use Rattle.std.specs.Prelude.{◌≡◌, ◌-◌, ◌^◌, length, IfOk, IfErr, IfSome};
-ghost use Rattle.string_cache_core.specs.Faults.{IsInternFault};
-ghost use Rattle.string_cache_core.specs.Layout.{holder_bound, serial_bound, usual_bits};
-ghost use Rattle.string_cache_core.specs.Tables.{entry_hash};
+ghost use Rattle.text_forms.specs.Faults.{IsInternFault};
+ghost use Rattle.text_forms.specs.Layout.{holder_bound, serial_bound, usual_bits};
+ghost use Rattle.text_forms.specs.Tables.{entry_hash};
 ghost use Rattle.counted_set.specs.Chain.{IsRight};
 
 use super::bucket::Bucket;
@@ -14,9 +14,9 @@ use std::alloc::Global;
 use std::marker::Model;
 use std::mem::size_of;
 use std::sync::{Mutex, Wait};
-use string_cache_core::Fault;
-use string_cache_core::static_sets::StaticTables;
-use string_cache_core::word::{Buckets, Limits};
+use text_forms::Fault;
+use text_forms::static_sets::StaticTables;
+use text_forms::word::{Buckets, Limits};
 
 /// The dynamic texts of a static type, in buckets by their hashes. Threads share it. In a clause it is its limits and the bits of
 /// the number of its buckets.

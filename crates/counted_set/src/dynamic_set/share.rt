@@ -1,7 +1,7 @@
 //! Counted entries, and the shares of them.
 
 ghost use Rattle.std.specs.Prelude.{◌≡◌, ◌≤◌, ◌<◌, ◌^◌, ◌↔◌, length, IsTrue, IfOk};
-ghost use Rattle.string_cache_core.specs.Layout.{holder_bound};
+ghost use Rattle.text_forms.specs.Layout.{holder_bound};
 ghost use Rattle.counted_cell.specs.Cell.{block_size};
 ghost use Rattle.counted_set.specs.Counted.{IfAdded};
 ghost use Rattle.counted_set.specs.Share.{IsTold};
@@ -11,7 +11,7 @@ use counted_cell::{CellShare, Label, Owner, ShareReply};
 use std::alloc::{AllocError, Global};
 use std::marker::Model;
 use std::sync::Wait;
-use string_cache_core::word::Buckets;
+use text_forms::word::Buckets;
 
 /// An entry of a bucket: the one owner of a counted cell, which has the text, its hash, the ticket and the count of the entry's
 /// shares in one block. The count goes up only from one or more, and below the entry's limit of holders: an entry without shares

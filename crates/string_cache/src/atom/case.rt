@@ -8,8 +8,8 @@ use counted_set::dynamic_set::Set;
 use std::alloc::{AllocError, Global};
 use std::str;
 use std::sync::Wait;
-use string_cache_core::Fault;
-use string_cache_core::static_sets::StaticTables;
+use text_forms::Fault;
+use text_forms::static_sets::StaticTables;
 
 /// The most bytes of a text that is changed without memory.
 const BUFFER: usize = 64;

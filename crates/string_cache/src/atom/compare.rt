@@ -8,12 +8,12 @@ ghost use Rattle.std.specs.Hash as fed;
 ghost use Rattle.std.specs.Ordering.{nat_cmp};
 ghost use Rattle.std.specs.Prelude.{◌≡◌, ◌↔◌, IsTrue, Some, refl};
 ghost use Rattle.std.specs.Str.{str_to_ascii_lowercase};
-ghost use Rattle.string_cache_core.specs.Tables.{hash_number};
+ghost use Rattle.text_forms.specs.Tables.{hash_number};
 
 use super::Atom;
 use std::cmp::Ordering;
 use std::hash::{Hash, Hasher};
-use string_cache_core::static_sets::StaticTables;
+use text_forms::static_sets::StaticTables;
 
 impl<'s, Static: StaticTables> Atom<'s, Static> {
     /// Whether the atom's text is this one.

@@ -4,11 +4,11 @@ use Rattle.std.specs.Prelude.{◌==◌, ◌↔◌}
 use Rattle.std.specs.Str.{IsUtf8}
 use Rattle.std.proofs.lemmas.Bool.{cases_Bool, eqb-true}
 use Rattle.string_cache_core.specs.Kept.{IsSoundMap}
-use Rattle.string_cache_core.specs.Map.{InternMap}
+use Rattle.text_forms.specs.Map.{InternMap}
 use Rattle.string_cache_core.specs.Table.{AreBothHeld, AreHeld, HasOneTextEach, HasWord, IsHeld, IsHeldBy, IsWordOf, KeepsWord}
-use Rattle.string_cache_core.specs.Tables.{Tables}
-use Rattle.string_cache_core.specs.Times.{times}
-use Rattle.string_cache_core.proofs.TimesLemmas.{times-same, times-other}
+use Rattle.text_forms.specs.Tables.{Tables}
+use Rattle.text_forms.specs.Times.{times}
+use Rattle.text_forms.proofs.TimesLemmas.{times-same, times-other}
 use Rattle.string_cache_core.proofs.calls.Keep.{listed-held}
 
 module _ (t : Tables) (m : InternMap) (word : ℕ) (sound : IsSoundMap t m) where

@@ -6,15 +6,15 @@ use Rattle.std.proofs.lemmas.Bool.{false≢true, ltb-true}
 use Rattle.std.specs.Borrow.{Bor}
 use Rattle.std.specs.Str.{bytes_eq}
 use Rattle.std.proofs.lemmas.Slice.Eq.{bytes_eq-Decides}
-use Rattle.string_cache_core.specs.declared.static_sets.TextForm.{TextForm}
-use Rattle.string_cache_core.specs.declared.static_sets.TextForm.TheVariants.{Inline, Static, Dynamic}
-use Rattle.string_cache_core.specs.Map.{Holding, InternMap, IsHeldTicket}
+use Rattle.text_forms.specs.declared.static_sets.TextForm.{TextForm}
+use Rattle.text_forms.specs.declared.static_sets.TextForm.TheVariants.{Inline, Static, Dynamic}
+use Rattle.text_forms.specs.Map.{Holding, InternMap, IsHeldTicket}
 use Rattle.string_cache_core.specs.Kept.{Kept, map_of, IsSoundMap}
 use Rattle.string_cache_core.specs.Places.{IsPlace}
 use Rattle.string_cache_core.specs.Table.{IsTextOf, IsHeld, IsFixedWord, HasWord, HasWordBy}
-use Rattle.string_cache_core.specs.Tables.{Tables, place_in, text_at, entry_hash, form_of_text, fixed_word, IsStaticIndex}
-use Rattle.string_cache_core.specs.Word.{inline_word, static_word, ticket_of, IsInlineWord, IsStaticWord, IsTicketWord}
-use Rattle.string_cache_core.proofs.words.Unpacking.{inline_word_tag}
+use Rattle.text_forms.specs.Tables.{Tables, place_in, text_at, entry_hash, form_of_text, fixed_word, IsStaticIndex}
+use Rattle.text_forms.specs.Word.{inline_word, static_word, ticket_of, IsInlineWord, IsStaticWord, IsTicketWord}
+use Rattle.text_forms.proofs.words.Unpacking.{inline_word_tag}
 
 -- ---- the form of a text
 

@@ -4,14 +4,14 @@ use Rattle.std.proofs.Common.{IsTrue}
 use Rattle.std.specs.Prelude.{◌↔◌}
 use Rattle.std.proofs.lemmas.Bool.{false≢true}
 use Rattle.std.proofs.lemmas.Option.{none-some}
-use Rattle.string_cache_core.specs.Bounds.{Bounds}
-use Rattle.string_cache_core.specs.declared.faults.Fault.{Fault}
-use Rattle.string_cache_core.specs.declared.static_sets.TextForm.{TextForm}
-use Rattle.string_cache_core.specs.declared.static_sets.TextForm.TheVariants.{Dynamic}
+use Rattle.text_forms.specs.Bounds.{Bounds}
+use Rattle.text_forms.specs.declared.faults.Fault.{Fault}
+use Rattle.text_forms.specs.declared.static_sets.TextForm.{TextForm}
+use Rattle.text_forms.specs.declared.static_sets.TextForm.TheVariants.{Dynamic}
 use Rattle.string_cache_core.specs.Kept.{IsSoundMap}
-use Rattle.string_cache_core.specs.Map.{Holding, InternMap, IsHeldTicket}
+use Rattle.text_forms.specs.Map.{Holding, InternMap, IsHeldTicket}
 use Rattle.string_cache_core.specs.Table.{Clones, ClonesIfHeld, GivesIfHeld, HasWord, HasWordBy, IsFixedWord, in_some}
-use Rattle.string_cache_core.specs.Tables.{Tables, fixed_word, form_of_text}
+use Rattle.text_forms.specs.Tables.{Tables, fixed_word, form_of_text}
 use Rattle.string_cache_core.proofs.calls.HeldWords.{fixed-unless-ticket}
 
 module _ (t : Tables) (limits : Bounds) (m : InternMap) (word : ℕ) where

@@ -5,23 +5,23 @@ use Rattle.std.specs.Str.{IsUtf8, bytes_eq}
 use Rattle.std.proofs.lemmas.Bool.{cases_Bool, eqb-true, eq-eqb, le-ltb, ltb-false}
 use Rattle.std.proofs.lemmas.Slice.Eq.{bytes_eq-Decides}
 use Rattle.std.proofs.lemmas.Option.{same_Some, none-some}
-use Rattle.string_cache_core.specs.Bounds.{Bounds}
-use Rattle.string_cache_core.specs.declared.faults.Fault.{Fault}
-use Rattle.string_cache_core.specs.declared.static_sets.TextForm.{TextForm}
+use Rattle.text_forms.specs.Bounds.{Bounds}
+use Rattle.text_forms.specs.declared.faults.Fault.{Fault}
+use Rattle.text_forms.specs.declared.static_sets.TextForm.{TextForm}
 use Rattle.string_cache_core.specs.declared.table.call.Call.{Call}
 use Rattle.string_cache_core.specs.declared.table.call.Call.TheVariants as call
 use Rattle.string_cache_core.specs.declared.table.call.TableReply.{TableReply}
 use Rattle.string_cache_core.specs.Calls.{Answers}
-use Rattle.string_cache_core.specs.declared.static_sets.TextForm.TheVariants as form
-use Rattle.string_cache_core.specs.Map.{Holding, InternMap, IsHeldTicket, MapReply, MayIntern, with_held, with_last, one_less, unless_given_up}
+use Rattle.text_forms.specs.declared.static_sets.TextForm.TheVariants as form
+use Rattle.text_forms.specs.Map.{Holding, InternMap, IsHeldTicket, MapReply, MayIntern, with_held, with_last, one_less, unless_given_up}
 use Rattle.string_cache_core.specs.Kept.{IsSoundMap}
 use Rattle.string_cache_core.specs.Table.{as_word, InternsBy, Interns, Clones, Gives, IsTextOf, IsFixedWord, IsHeld, IsHeldBy, AreHeld, HasWordBy, HasWord, KeepsWord, IsGivenTicket, IsNewTicket}
-use Rattle.string_cache_core.specs.Tables.{Tables, form_of_text, fixed_word, entry_hash, place_in, text_at, bucket_of}
-use Rattle.string_cache_core.specs.Times.{times}
-use Rattle.string_cache_core.specs.Word.{inline_word, static_word, ticket_of}
+use Rattle.text_forms.specs.Tables.{Tables, form_of_text, fixed_word, entry_hash, place_in, text_at, bucket_of}
+use Rattle.text_forms.specs.Times.{times}
+use Rattle.text_forms.specs.Word.{inline_word, static_word, ticket_of}
 use Rattle.string_cache_core.proofs.calls.HeldWords.{static-text, not-fixed-if-ticket}
 use Rattle.string_cache_core.proofs.calls.Replies.{some_left}
-use Rattle.string_cache_core.proofs.TimesLemmas.{times-same, times-other}
+use Rattle.text_forms.proofs.TimesLemmas.{times-same, times-other}
 use Rattle.string_cache_core.proofs.calls.WordsApart.{has, inline_by}
 
 abbrev pub held_by : ℕ → ℕ → Option Holding

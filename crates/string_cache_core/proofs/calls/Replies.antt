@@ -2,14 +2,14 @@
 use Rattle.std.proofs.Common.{◌≡◌, ◌∙◌, ap, sym, subst, refl, arith, ℕ, ◌+◌, ◌-◌, ◌<◌, ◌≤◌, inl, inr, cond, List, None, Some, Result, Ok, Err}
 use Rattle.std.specs.Prelude.{OnOk, OnErr, IfOk, IfErr, ◌==◌}
 use Rattle.std.proofs.lemmas.Bool.{cases_Bool, eqb-true}
-use Rattle.string_cache_core.specs.declared.faults.Fault.{Fault}
-use Rattle.string_cache_core.specs.declared.faults.Fault.TheVariants.{Memory, FullCount, TicketsSpent}
-use Rattle.string_cache_core.specs.Bounds.{Bounds}
-use Rattle.string_cache_core.specs.Map.{Holding, InternMap, IsHeldTicket, MapReply, Intern, MayReply, MayIntern, with_held, with_last, one_more, one_less, unless_given_up}
+use Rattle.text_forms.specs.declared.faults.Fault.{Fault}
+use Rattle.text_forms.specs.declared.faults.Fault.TheVariants.{Memory, FullCount, TicketsSpent}
+use Rattle.text_forms.specs.Bounds.{Bounds}
+use Rattle.text_forms.specs.Map.{Holding, InternMap, IsHeldTicket, MapReply, Intern, MayReply, MayIntern, with_held, with_last, one_more, one_less, unless_given_up}
 use Rattle.string_cache_core.specs.Table.{as_word, Adds, Clones, Gives}
 use Rattle.string_cache_core.specs.Kept.{Kept, map_of}
-use Rattle.string_cache_core.specs.Tables.{Tables, bucket_of}
-use Rattle.string_cache_core.specs.Word.{ticket_of}
+use Rattle.text_forms.specs.Tables.{Tables, bucket_of}
+use Rattle.text_forms.specs.Word.{ticket_of}
 
 abbrev pub InternReply : Tables → Bounds → InternMap → List ℕ → Result ℕ Fault → InternMap → Type 0
 InternReply t limits m text result new = (reply : MapReply) × MayReply t limits m (Intern text) reply new × (result ≡ as_word reply)

@@ -3,15 +3,15 @@ use Rattle.std.proofs.Common.{◌≡◌, ◌∙◌, ap, sym, subst, refl, List, 
 use Rattle.std.specs.Prelude.{◌==◌, if◌then◌else◌, string_bytes}
 use Rattle.std.proofs.lemmas.Bool.{cases_Bool, eqb-true}
 use Rattle.std.proofs.lemmas.List.{take_more}
-use Rattle.string_cache_core.specs.declared.faults.Fault.{Fault}
+use Rattle.text_forms.specs.declared.faults.Fault.{Fault}
 use Rattle.string_cache_core.specs.declared.table.call.Call.{Call}
 use Rattle.string_cache_core.specs.declared.table.call.Call.TheVariants as call
 use Rattle.string_cache_core.specs.declared.table.call.TableReply.{TableReply}
-use Rattle.string_cache_core.specs.Bounds.{Bounds}
+use Rattle.text_forms.specs.Bounds.{Bounds}
 use Rattle.string_cache_core.specs.Calls.{Answers, AnswersAll}
-use Rattle.string_cache_core.specs.Map.{Holding, InternMap, MapCall, Intern, Clone, Give, MapReply, MayAdd, MayIntern, MayReply, with_held, with_last}
+use Rattle.text_forms.specs.Map.{Holding, InternMap, MapCall, Intern, Clone, Give, MapReply, MayAdd, MayIntern, MayReply, with_held, with_last}
 use Rattle.string_cache_core.specs.Table.{InternsBy, Clones, Gives}
-use Rattle.string_cache_core.specs.Tables.{Tables, form_of_text, fixed_word, bucket_of}
+use Rattle.text_forms.specs.Tables.{Tables, form_of_text, fixed_word, bucket_of}
 
 -- one call more, at the end
 replays-push : (t : Tables) (limits : Bounds) (m mid new : InternMap) (calls : List Call) (answers : List TableReply) (c : Call) (answer : TableReply)

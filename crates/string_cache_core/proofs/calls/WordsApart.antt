@@ -2,14 +2,14 @@
 use Rattle.std.proofs.Common.{◌≡◌, ◌∙◌, ap, sym, subst, refl, arith, ℕ, ◌≤◌, ◌⊎◌, inl, inr, Bool, true, false, List, length, Option, None, Some, nat_lt}
 use Rattle.std.specs.Str.{IsUtf8, bytes_eq}
 use Rattle.std.proofs.lemmas.Bool.{ltb-false}
-use Rattle.string_cache_core.specs.declared.static_sets.TextForm.{TextForm}
-use Rattle.string_cache_core.specs.declared.static_sets.TextForm.TheVariants.{Inline, Static, Dynamic}
-use Rattle.string_cache_core.specs.Map.{Holding, InternMap}
+use Rattle.text_forms.specs.declared.static_sets.TextForm.{TextForm}
+use Rattle.text_forms.specs.declared.static_sets.TextForm.TheVariants.{Inline, Static, Dynamic}
+use Rattle.text_forms.specs.Map.{Holding, InternMap}
 use Rattle.string_cache_core.specs.Kept.{IsSoundMap}
 use Rattle.string_cache_core.specs.Table.{HasWordBy, HasWord, HasOneTextEach}
-use Rattle.string_cache_core.specs.Tables.{Tables, form_of_text, fixed_word, place_in, text_at, entry_hash}
-use Rattle.string_cache_core.specs.Word.{inline_word, static_word, IsInlineText}
-use Rattle.string_cache_core.proofs.words.Unpacking.{inline_word_same}
+use Rattle.text_forms.specs.Tables.{Tables, form_of_text, fixed_word, place_in, text_at, entry_hash}
+use Rattle.text_forms.specs.Word.{inline_word, static_word, IsInlineText}
+use Rattle.text_forms.proofs.words.Unpacking.{inline_word_same}
 use Rattle.string_cache_core.proofs.calls.HeldWords.{form_by, static-text, held-tag}
 
 pub inline_by : (long there : Bool) (place hash own word : ℕ) → form_by long there place hash own ≡ Inline word → (long ≡ false) × (own ≡ word)

@@ -12,15 +12,15 @@ use Rattle.std.proofs.lemmas.List.Sums.{sum_by_push}
 use Rattle.indexmap.specs.IndexMap.{insert_entry}
 use Rattle.indexmap.specs.IndexSet.{insert_key}
 use Rattle.indexmap.proofs.CallerLemmas.{insert_entry-new}
-use Rattle.string_cache_core.specs.Layout.{most_buckets, serial_bound}
-use Rattle.string_cache_core.specs.Map.{Holding}
-use Rattle.string_cache_core.specs.Tables.{Tables, entry_hash, form_of_text, fixed_word}
-use Rattle.string_cache_core.specs.Word.{ticket_of}
+use Rattle.text_forms.specs.Layout.{most_buckets, serial_bound}
+use Rattle.text_forms.specs.Map.{Holding}
+use Rattle.text_forms.specs.Tables.{Tables, entry_hash, form_of_text, fixed_word}
+use Rattle.text_forms.specs.Word.{ticket_of}
 use Rattle.string_cache_core.specs.Kept.{Pair, pairs_of, tickets_of, IsGiven, IsKeptTable}
-use Rattle.string_cache_core.proofs.BucketCounts.{bucket-below, bucket-within}
+use Rattle.text_forms.proofs.BucketCounts.{bucket-below, bucket-within}
 use Rattle.string_cache_core.proofs.kept.Pairs.{lookup-pairs, updates-pairs, pair_of_ticket, given-grows, last-set, last-grows}
 use Rattle.string_cache_core.proofs.kept.Tickets.{at-push, is-nowhere}
-use Rattle.string_cache_core.proofs.words.Tickets.{ticket_of-same}
+use Rattle.text_forms.proofs.words.Tickets.{ticket_of-same}
 
 if-own : (bucket serial other : ℕ) → serial ≤ (if bucket == bucket then serial else other)
 if-own bucket serial other = rw (eq-eqb bucket bucket refl) (omega arith)

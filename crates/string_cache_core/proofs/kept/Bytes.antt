@@ -7,7 +7,7 @@ use Rattle.std.specs.Str.{bytes_eq}
 use Rattle.std.specs.String.{string_eq}
 use Rattle.std.proofs.lemmas.List.Sums.{sum_by-cons}
 use Rattle.indexmap.specs.Layout.{set_value_at}
-use Rattle.string_cache_core.specs.Map.{Holding}
+use Rattle.text_forms.specs.Map.{Holding}
 use Rattle.string_cache_core.specs.Kept.{Pair, pairs_of}
 
 -- a text that a String copies is no longer than one can be

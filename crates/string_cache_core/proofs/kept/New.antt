@@ -4,9 +4,9 @@ use Rattle.std.specs.Prelude.{slice_index, String}
 use Rattle.std.specs.HashMap.{HashMap}
 use Rattle.std.proofs.lemmas.List.{length-replicate}
 use Rattle.std.proofs.lemmas.Option.{none-some}
-use Rattle.string_cache_core.specs.Layout.{most_buckets}
-use Rattle.string_cache_core.specs.Map.{Holding, empty_map}
-use Rattle.string_cache_core.specs.Tables.{Tables}
+use Rattle.text_forms.specs.Layout.{most_buckets}
+use Rattle.text_forms.specs.Map.{Holding, empty_map}
+use Rattle.text_forms.specs.Tables.{Tables}
 use Rattle.string_cache_core.specs.Kept.{pairs_of, IsKeptTable}
 use Rattle.string_cache_core.proofs.kept.Pairs.{shows}
 

@@ -16,11 +16,11 @@ use Rattle.std.proofs.lemmas.Option.{same_Some, none-some}
 use Rattle.indexmap.specs.Layout.{set_value_at}
 use Rattle.indexmap.specs.IndexMap.{with_value_at, values, IsUnique}
 use Rattle.indexmap.proofs.CallerLemmas.{updates-with_value_at}
-use Rattle.string_cache_core.specs.Bounds.{Bounds}
-use Rattle.string_cache_core.specs.Map.{Holding, InternMap, with_held, with_last}
+use Rattle.text_forms.specs.Bounds.{Bounds}
+use Rattle.text_forms.specs.Map.{Holding, InternMap, with_held, with_last}
 use Rattle.string_cache_core.specs.Kept.{Pair, pairs_of, tickets_of, IsGiven, IsKeptTable}
 use Rattle.string_cache_core.specs.Places.{IsFound}
-use Rattle.string_cache_core.specs.Tables.{Tables, entry_hash}
+use Rattle.text_forms.specs.Tables.{Tables, entry_hash}
 use Rattle.string_cache_core.proofs.kept.Bytes.{bytes-set}
 
 -- ---- look-ups

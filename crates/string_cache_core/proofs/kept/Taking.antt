@@ -13,8 +13,8 @@ use Rattle.std.proofs.lemmas.List.Sums.{sum_by-swap_remove}
 use Rattle.std.proofs.lemmas.Option.{slice_get-map, slice_get-get_or, slice_get_past, slice_get_within, get_or_from_slice_get, same_Some, none-some}
 use Rattle.indexmap.proofs.MapLemmas.{swap_remove-default}
 use Rattle.indexmap.proofs.SetLemmas.{map-swap_remove}
-use Rattle.string_cache_core.specs.Map.{Holding}
-use Rattle.string_cache_core.specs.Tables.{Tables}
+use Rattle.text_forms.specs.Map.{Holding}
+use Rattle.text_forms.specs.Tables.{Tables}
 use Rattle.string_cache_core.specs.Kept.{Pair, pairs_of, tickets_of, IsGiven, IsKeptTable}
 use Rattle.string_cache_core.proofs.kept.Pairs.{at-pairs, updates-pairs}
 

@@ -9,9 +9,9 @@ use Rattle.std.specs.String.{string_eq}
 use Rattle.std.proofs.lemmas.Bool.{eqb-true, eq-eqb, cases_Bool}
 use Rattle.std.proofs.lemmas.Option.{slice_get_within, get_or_from_slice_get, same_Some, none-some}
 use Rattle.std.proofs.lemmas.List.Folds.{list_any_at}
-use Rattle.string_cache_core.specs.Bounds.{Bounds}
-use Rattle.string_cache_core.specs.Map.{Holding}
-use Rattle.string_cache_core.specs.Tables.{Tables}
+use Rattle.text_forms.specs.Bounds.{Bounds}
+use Rattle.text_forms.specs.Map.{Holding}
+use Rattle.text_forms.specs.Tables.{Tables}
 use Rattle.string_cache_core.specs.Kept.{Pair, pairs_of, IsKeptTable, IsSoundMap}
 use Rattle.string_cache_core.specs.Places.{IsPlace}
 use Rattle.string_cache_core.proofs.kept.Pairs.{ticket-there, stands, pair_of_ticket, found_at, shows}

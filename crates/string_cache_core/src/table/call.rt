@@ -2,7 +2,7 @@
 
 ghost use Rattle.std.specs.Prelude.{◌≡◌};
 
-use crate::Fault;
+use text_forms::Fault;
 
 /// A call of a table.
 #[derive(Debug, Drop)]

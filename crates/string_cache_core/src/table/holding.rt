@@ -3,7 +3,7 @@
 ghost use Rattle.std.specs.Prelude.{◌≡◌, ◌<◌, Some, slice_get};
 ghost use Rattle.indexmap.specs.IndexMap.{with_value_at, IsUnique, index_map_len, values};
 ghost use Rattle.std.specs.String.{string_eq};
-ghost use Rattle.string_cache_core.specs.Map.{Holding};
+ghost use Rattle.text_forms.specs.Map.{Holding};
 
 use indexmap::IndexMap;
 use std::marker::Model;
@@ -16,7 +16,7 @@ pub struct Holding {
 }
 
 impl Model for Holding {
-    ghost use Rattle.string_cache_core.specs.Map.{Holding};
+    ghost use Rattle.text_forms.specs.Map.{Holding};
 
     ghost Value = { Holding };
 

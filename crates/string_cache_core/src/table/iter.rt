@@ -9,11 +9,11 @@ ghost use Rattle.std.specs.Str.{bytes_eq};
 
 use super::Table;
 use super::holding::Holding;
-use crate::static_sets::StaticTables;
 use indexmap::map;
 use std::alloc::AllocError;
 use std::iter::FusedIterator;
 use std::marker::Model;
+use text_forms::static_sets::StaticTables;
 
 /// A dynamic text that a table holds.
 #[derive(Clone, Copy, Debug, PartialEq, Eq)]

@@ -4,13 +4,13 @@ ghost use Rattle.std.specs.Prelude.{IsTrue, ◌≡◌, ℕ, ◌↔◌, IfSome, I
 ghost use Rattle.std.specs.List.{IsDistinct, sum_by};
 ghost use Rattle.std.specs.Map.{keys_of};
 ghost use Rattle.std.specs.Str.{IsUtf8, bytes_eq};
-ghost use Rattle.string_cache_core.specs.Map.{HasHolders, IsHeldTicket};
+ghost use Rattle.text_forms.specs.Map.{HasHolders, IsHeldTicket};
 ghost use Rattle.string_cache_core.specs.Table.{HasWord, IsHeld, IsTextOf};
 
 use super::word_text::WordText;
 use super::{Table, is_fixed};
-use crate::static_sets::{StaticTables, TextForm, form_of_text, static_text};
-use crate::word::{Form, form_of, static_word, unpack_inline};
+use text_forms::static_sets::{StaticTables, TextForm, form_of_text, static_text};
+use text_forms::word::{Form, form_of, static_word, unpack_inline};
 
 impl<S: StaticTables> Table<S> {
     ghost use Rattle.string_cache_core.specs.Kept.{Pair, map_of, IsSoundMap};

@@ -5,8 +5,8 @@ ghost use Rattle.string_cache_core.specs.Memory.{IsMemory, group_places};
 
 use super::Table;
 use super::holding::Holding;
-use crate::static_sets::StaticTables;
 use std::mem::size_of;
+use text_forms::static_sets::StaticTables;
 
 /// How many places a group of a map has. A map grows by whole groups.
 const GROUP_PLACES: usize = 9;

@@ -2,17 +2,17 @@
 
 ghost use Rattle.std.specs.Prelude.{◌≡◌, ◌≢◌, ◌-◌, ℕ, [], ◌∷◌, ◌++◌, ◌⊎◌, ◌↔◌, IfErr, IfOk, IfSome, IsSome, IsTrue, List, MatchOption, OnErr};
 ghost use Rattle.std.specs.Str.{IsUtf8};
-ghost use Rattle.string_cache_core.specs.Faults.{IsInternFault};
-ghost use Rattle.string_cache_core.specs.declared.faults.Fault.TheVariants.{FullCount, Memory};
-ghost use Rattle.string_cache_core.specs.Layout.{holder_bound, serial_bound, usual_buckets};
-ghost use Rattle.string_cache_core.specs.Map.{empty_map};
+ghost use Rattle.text_forms.specs.Faults.{IsInternFault};
+ghost use Rattle.text_forms.specs.declared.faults.Fault.TheVariants.{FullCount, Memory};
+ghost use Rattle.text_forms.specs.Layout.{holder_bound, serial_bound, usual_buckets};
+ghost use Rattle.text_forms.specs.Map.{empty_map};
 ghost use Rattle.string_cache_core.specs.Table.{AreHeld, ClonesIfHeld, GivesIfHeld, HasOneTextEach, HasWord, Interns, IsHeld, KeepsWord};
 
 use super::{Name, Table, WordText};
-use crate::Fault;
-use crate::static_sets::{EmptyStaticAtomSet, StaticTables};
 use std::alloc::Global;
 use std::marker::PhantomData;
+use text_forms::Fault;
+use text_forms::static_sets::{EmptyStaticAtomSet, StaticTables};
 
 /// The names of one kind, as a table keeps them: their words are `Name<K>`. Where two tables are at hand, as one of files and one of
 /// functions, the name of one can't be handed to the other.

@@ -1,13 +1,13 @@
 //! Holders that come and go by their words.
 
 ghost use Rattle.std.specs.Prelude.{IsTrue, ◌≡◌, ◌≢◌, ℕ, [], ◌∷◌, ◌++◌, ◌⊎◌, ◌↔◌, IfErr, IfOk, IfSome, IsSome, OnErr, List};
-ghost use Rattle.string_cache_core.specs.declared.faults.Fault.TheVariants.{FullCount};
+ghost use Rattle.text_forms.specs.declared.faults.Fault.TheVariants.{FullCount};
 ghost use Rattle.string_cache_core.specs.Order.{GoesFrom};
 ghost use Rattle.string_cache_core.specs.Table.{AreBothHeld, AreHeld, Clones, ClonesIfHeld, Gives, GivesIfHeld, HasOneTextEach, IsHeld, IsWordOf, KeepsWord};
 
 use super::{Table, is_fixed};
-use crate::Fault;
-use crate::static_sets::StaticTables;
+use text_forms::Fault;
+use text_forms::static_sets::StaticTables;
 
 impl<S: StaticTables> Table<S> {
     ghost use Rattle.string_cache_core.specs.Kept.{map_of, tickets_of};

@@ -1,14 +1,14 @@
 //! Room for texts that are to come.
 
 ghost use Rattle.std.specs.Prelude.{◌≡◌, ◌-◌, IfErr, IfOk};
-ghost use Rattle.string_cache_core.specs.declared.faults.Fault.TheVariants.{Memory};
-ghost use Rattle.string_cache_core.specs.Layout.{holder_bound, serial_bound, usual_buckets};
-ghost use Rattle.string_cache_core.specs.Map.{empty_map};
+ghost use Rattle.text_forms.specs.declared.faults.Fault.TheVariants.{Memory};
+ghost use Rattle.text_forms.specs.Layout.{holder_bound, serial_bound, usual_buckets};
+ghost use Rattle.text_forms.specs.Map.{empty_map};
 
 use super::Table;
-use crate::Fault;
-use crate::static_sets::StaticTables;
 use std::alloc::Global;
+use text_forms::Fault;
+use text_forms::static_sets::StaticTables;
 
 impl<S: StaticTables> Table<S> {
     ghost use Rattle.string_cache_core.specs.Kept.{map_of};

@@ -2,9 +2,9 @@
 
 ghost use Rattle.std.specs.Prelude.{◌≡◌};
 
-use crate::word::InlineText;
 use std::convert::AsStr;
 use std::fmt::{self, Debug, Display, Formatter, Write};
+use text_forms::word::InlineText;
 
 /// The text of a word: its own, or one that a table or its static type lends.
 #[derive(Clone, Copy)]

@@ -4,18 +4,18 @@ ghost use Rattle.std.specs.Prelude.{◌≡◌, ◌+◌, ◌-◌, ◌<◌, ◌≤
 ghost use Rattle.std.specs.List.{remove};
 ghost use Rattle.std.specs.Option.{option_map};
 ghost use Rattle.std.specs.String.{string_bytes};
-ghost use Rattle.string_cache_core.specs.Faults.{RefusesUnchanged};
-ghost use Rattle.string_cache_core.specs.Layout.{holder_bound, most_buckets, serial_bound};
+ghost use Rattle.text_forms.specs.Faults.{RefusesUnchanged};
+ghost use Rattle.text_forms.specs.Layout.{holder_bound, most_buckets, serial_bound};
 ghost use Rattle.atomic_steps.specs.EntryNumbers.{AreWithin};
-ghost use Rattle.string_cache_core.specs.Word.{ticket_of};
+ghost use Rattle.text_forms.specs.Word.{ticket_of};
 ghost use Rattle.atomic_steps.specs.Sound.{SoundTable};
 ghost use Rattle.atomic_steps.specs.Steps.{decides, finds_dying, last_of, looks_at, take_bucket, with_one, without_one};
 
 use super::State;
 use crate::steps::party_pass::PartyPass;
 use crate::steps::world_entry::{Place, WorldEntry};
-use string_cache_core::Fault;
-use string_cache_core::word::ticket_word;
+use text_forms::Fault;
+use text_forms::word::ticket_word;
 
 impl State {
     ghost use Rattle.atomic_steps.specs.World as world;

@@ -1,16 +1,16 @@
 //! The nine steps, each as its row of the table of steps.
 
 ghost use Rattle.std.specs.Prelude.{ℕ, IfOk};
-ghost use Rattle.string_cache_core.specs.Faults.{RefusesUnchanged};
+ghost use Rattle.text_forms.specs.Faults.{RefusesUnchanged};
 ghost use Rattle.atomic_steps.specs.EntryNumbers.{AreWithin};
-ghost use Rattle.string_cache_core.specs.Tables.{Tables};
+ghost use Rattle.text_forms.specs.Tables.{Tables};
 ghost use Rattle.atomic_steps.specs.Sound.{SoundTable, SoundWorld};
 ghost use Rattle.atomic_steps.specs.Steps.{IsStep};
 
 use super::State;
 use crate::steps::{Step, StepReply};
-use string_cache_core::Fault;
-use string_cache_core::static_sets::{StaticTables, TextForm, form_of_text};
+use text_forms::Fault;
+use text_forms::static_sets::{StaticTables, TextForm, form_of_text};
 
 impl State {
     fn take_intern<S: StaticTables>(

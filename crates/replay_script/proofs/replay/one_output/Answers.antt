@@ -1,4 +1,4 @@
-use Rattle.string_cache_core.specs.Tables.{empty_tables}
+use Rattle.text_forms.specs.Tables.{empty_tables}
 use Rattle.replay_script.proofs.OneOutput.{one_output}
 use Rattle.replay_script.proofs.replay.one_output.Goals as goal
 

@@ -1,5 +1,5 @@
 use Rattle.std.proofs.Common.{rules, string_bytes}
-use Rattle.string_cache_core.specs.Tables.{empty_tables}
+use Rattle.text_forms.specs.Tables.{empty_tables}
 use Rattle.replay_script.proofs.RunLemmas.{running_begins, running_line, running_next, running_on, running_few, running_ends}
 use Rattle.replay_script.proofs.replay.output_of.Goals as goal
 

@@ -1,7 +1,7 @@
 use Rattle.std.proofs.Common.{length, string_bytes}
 use denote.Text.{Utf8}
 use denote.Shadow.{shadow}
-use Rattle.string_cache_core.specs.Tables.{empty_tables}
+use Rattle.text_forms.specs.Tables.{empty_tables}
 use Rattle.replay_script.proofs.RunLemmas.{Running}
 use Rattle.replay_script.proofs.replay.output_of.Given as goal
 

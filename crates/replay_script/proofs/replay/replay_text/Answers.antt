@@ -1,5 +1,5 @@
 use Rattle.std.proofs.Common.{rules, ◌+◌}
-use Rattle.string_cache_core.specs.Tables.{empty_tables}
+use Rattle.text_forms.specs.Tables.{empty_tables}
 use Rattle.replay_script.specs.Script.{script_lines, StopsAfter}
 use Rattle.replay_script.proofs.LineLemmas.{script_stops, line_counted}
 use Rattle.replay_script.proofs.ReplayLemmas.{or_err, replay_opens}

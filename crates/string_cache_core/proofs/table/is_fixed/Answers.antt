@@ -1,9 +1,9 @@
 use Rattle.std.proofs.Common.{sym, subst, Bool, IsTrue, Some}
 use Rattle.std.specs.Prelude.{◌↔◌}
 use Rattle.std.proofs.lemmas.Bool.{false≢true}
-use Rattle.string_cache_core.specs.declared.word.Form.{Form}
-use Rattle.string_cache_core.specs.Form.{IsFormOf}
-use Rattle.string_cache_core.specs.Tables.{IsStaticIndex}
+use Rattle.text_forms.specs.declared.word.Form.{Form}
+use Rattle.text_forms.specs.Form.{IsFormOf}
+use Rattle.text_forms.specs.Tables.{IsStaticIndex}
 use Rattle.string_cache_core.proofs.calls.HeldWords.{fixed-if-static, not-fixed-if-ticket, not-fixed-unless-word}
 use Rattle.string_cache_core.proofs.table.is_fixed.Goals as goal
 

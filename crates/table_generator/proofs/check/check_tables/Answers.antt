@@ -2,8 +2,8 @@ use Rattle.std.proofs.Common.{◌≡◌, ◌≢◌, ◌<◌, ◌^◌, [], ◌∙
 use Rattle.std.proofs.lemmas.Bool.{eqb-false, eqb-true, false≢true}
 use Rattle.std.proofs.lemmas.List.{nil_from_length}
 use Rattle.std.specs.Prelude.{IsTrue, ◌↔◌}
-use Rattle.string_cache_core.specs.Parts.{parts}
-use Rattle.string_cache_core.specs.Tables.{IsPerfectTable}
+use Rattle.text_forms.specs.Parts.{parts}
+use Rattle.text_forms.specs.Tables.{IsPerfectTable}
 use Rattle.table_generator.proofs.Reading.{read_tables, spelled_read}
 use Rattle.table_generator.proofs.check.check_tables.Goals as goal
 use Rattle.table_generator.proofs.check.check_tables.Goals.{then-is_empty, else-is_empty}

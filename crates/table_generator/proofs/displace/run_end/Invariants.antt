@@ -1,5 +1,5 @@
 use Rattle.std.proofs.Common.{◌≡◌, ℕ, ◌-◌, ◌<◌, ◌≤◌, length, get_or}
-use Rattle.string_cache_core.specs.declared.phf.Hashes.{Hashes}
+use Rattle.text_forms.specs.declared.phf.Hashes.{Hashes}
 use Rattle.table_generator.specs.Grouped.{pair_of}
 use Rattle.table_generator.proofs.displace.run_end.Given as goal
 

@@ -1,7 +1,7 @@
 use Rattle.std.proofs.Common.{rules, ◌≡◌, map, subst}
 use Rattle.std.specs.List.Sorted.{IsPermutation}
 use Rattle.std.proofs.lemmas.List.Sorted.{All-permutation, IsNonDecreasingBy-from_sort_by_key, IsPermutation-map}
-use Rattle.string_cache_core.specs.Phf.{hashes_of}
+use Rattle.text_forms.specs.Phf.{hashes_of}
 use Rattle.table_generator.specs.Grouped.{rank_of}
 use Rattle.table_generator.proofs.Ranking.{grouped_by}
 use Rattle.table_generator.proofs.items.items_of.Goals as goal

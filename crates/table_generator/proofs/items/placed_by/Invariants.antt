@@ -1,6 +1,6 @@
 use Rattle.std.proofs.Common.{◌≡◌, ◌<◌, ◌^◌, length, map, take}
 use Rattle.std.specs.List.{All}
-use Rattle.string_cache_core.specs.Phf.{hash_of_hashes, place_of}
+use Rattle.text_forms.specs.Phf.{hash_of_hashes, place_of}
 use Rattle.table_generator.proofs.items.placed_by.Given as goal
 
 abbrev pub invariant-loop-item : goal.invariant-loop-item

@@ -1,6 +1,6 @@
 use Rattle.std.proofs.Common.{◌≡◌, map, take}
 use Rattle.std.specs.List.{All}
-use Rattle.string_cache_core.specs.Phf.{hashes_of}
+use Rattle.text_forms.specs.Phf.{hashes_of}
 use Rattle.table_generator.specs.Generated.{texts_of}
 use Rattle.table_generator.specs.Grouped.{rank_of}
 use Rattle.table_generator.proofs.items.ranked.Given as goal

@@ -5,11 +5,11 @@ use Rattle.std.specs.Map.{lookup}
 use Rattle.std.specs.Str.{bytes_eq}
 use Rattle.std.proofs.lemmas.List.{length-map, map-append}
 use Rattle.indexmap.specs.IndexSet.{insert_key}
-use Rattle.string_cache_core.specs.Map.{Holding, with_held, with_last}
-use Rattle.string_cache_core.specs.Tables.{entry_hash}
-use Rattle.string_cache_core.specs.Word.{ticket_of}
+use Rattle.text_forms.specs.Map.{Holding, with_held, with_last}
+use Rattle.text_forms.specs.Tables.{entry_hash}
+use Rattle.text_forms.specs.Word.{ticket_of}
 use Rattle.string_cache_core.specs.Kept.{Kept, Pair, pairs_of, tickets_of, map_of, IsKeptTable}
-use Rattle.string_cache_core.proofs.BucketCounts.{bucket-below, bucket-within}
+use Rattle.text_forms.proofs.BucketCounts.{bucket-below, bucket-within}
 use Rattle.string_cache_core.proofs.kept.Bytes.{bytes-fit, text-fits}
 use Rattle.string_cache_core.proofs.kept.Pairs.{map-with-last, kept-moved}
 use Rattle.string_cache_core.proofs.kept.Adding.{pairs-pushed, kept-added, added-map}

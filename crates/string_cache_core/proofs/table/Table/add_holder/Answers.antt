@@ -1,5 +1,5 @@
 use Rattle.std.proofs.Common.{◌∙◌, ap, sym, arith, ℕ, ◌+◌, Some}
-use Rattle.string_cache_core.specs.Map.{Holding, with_held}
+use Rattle.text_forms.specs.Map.{Holding, with_held}
 use Rattle.string_cache_core.specs.Kept.{Kept, map_of}
 use Rattle.string_cache_core.proofs.calls.Replies.{full, one_holder_more}
 use Rattle.string_cache_core.proofs.table.Table.add_holder.Goals as goal

@@ -1,8 +1,8 @@
 use Rattle.std.proofs.Common.{sym, subst, List, ℕ, Some, Option}
 use Rattle.std.specs.Prelude.{MatchOption}
 use Rattle.std.specs.Borrow.{Bor}
-use Rattle.string_cache_core.specs.declared.word.Form.{Form}
-use Rattle.string_cache_core.specs.Form.{IsFormOf}
+use Rattle.text_forms.specs.declared.word.Form.{Form}
+use Rattle.text_forms.specs.Form.{IsFormOf}
 use Rattle.string_cache_core.specs.Kept.{map_of}
 use Rattle.string_cache_core.specs.Table.{IsTextOf}
 use Rattle.string_cache_core.proofs.calls.HeldWords.{no-text-unless-word, no-text-if-inline, text-if-static, text-if-ticket}

@@ -1,6 +1,6 @@
 use Rattle.std.proofs.Common.{ap, subst}
 use Rattle.string_cache_core.specs.Kept.{map_of}
-use Rattle.string_cache_core.specs.Map.{Holding}
+use Rattle.text_forms.specs.Map.{Holding}
 use Rattle.string_cache_core.specs.Table.{HasWord}
 use Rattle.string_cache_core.proofs.calls.IfHeld.{held-word}
 use Rattle.string_cache_core.proofs.table.Table.get.Goals as goal

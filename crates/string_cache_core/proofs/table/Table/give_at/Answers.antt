@@ -1,5 +1,5 @@
 use Rattle.std.proofs.Common.{◌∙◌, ap, sym, inr, ℕ, ◌-◌, Some}
-use Rattle.string_cache_core.specs.Map.{Holding, with_held}
+use Rattle.text_forms.specs.Map.{Holding, with_held}
 use Rattle.string_cache_core.specs.Kept.{map_of}
 use Rattle.string_cache_core.proofs.kept.Pairs.{ticket-there}
 use Rattle.string_cache_core.proofs.calls.Replies.{as_held, given-ticket, none_left, some_left}

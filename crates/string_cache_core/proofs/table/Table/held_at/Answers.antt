@@ -1,7 +1,7 @@
 use Rattle.std.proofs.Common.{◌∙◌, ap, sym, subst, ◌<◌, ℕ, length}
 use Rattle.std.proofs.lemmas.Option.{same_Some}
 use Rattle.std.specs.Prelude.{slice_get}
-use Rattle.string_cache_core.specs.Map.{Holding}
+use Rattle.text_forms.specs.Map.{Holding}
 use Rattle.string_cache_core.specs.Kept.{Kept, pairs_of}
 use Rattle.string_cache_core.proofs.kept.Pairs.{value-at, some-pair}
 use Rattle.string_cache_core.proofs.table.Table.held_at.Goals as goal

@@ -1,5 +1,5 @@
 use Rattle.std.proofs.Common.{◌∙◌, ap, ℕ, Some}
-use Rattle.string_cache_core.specs.Map.{Holding}
+use Rattle.text_forms.specs.Map.{Holding}
 use Rattle.string_cache_core.proofs.table.Table.holders.Goals as goal
 
 pub returns : goal.returns

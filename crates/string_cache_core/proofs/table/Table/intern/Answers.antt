@@ -1,13 +1,13 @@
 use Rattle.std.proofs.Common.{Result, Ok, Err, ℕ, List, ◌∷◌, length, ◌≡◌, ◌<◌, ◌≤◌}
 use Rattle.std.specs.Prelude.{IfOk, ◌↔◌}
 use Rattle.std.specs.Str.{IsUtf8}
-use Rattle.string_cache_core.specs.Bounds.{Bounds}
-use Rattle.string_cache_core.specs.declared.faults.Fault.{Fault}
+use Rattle.text_forms.specs.Bounds.{Bounds}
+use Rattle.text_forms.specs.declared.faults.Fault.{Fault}
 use Rattle.string_cache_core.specs.Kept.{map_of, IsSoundMap}
-use Rattle.string_cache_core.specs.Map.{InternMap}
+use Rattle.text_forms.specs.Map.{InternMap}
 use Rattle.string_cache_core.specs.Table.{Interns, AreBothHeld, AreHeld, HasOneTextEach, HasWord, IsHeld, IsTextOf, IsWordOf, KeepsWord}
-use Rattle.string_cache_core.specs.Tables.{Tables}
-use Rattle.string_cache_core.specs.Word.{inline_word}
+use Rattle.text_forms.specs.Tables.{Tables}
+use Rattle.text_forms.specs.Word.{inline_word}
 use Rattle.string_cache_core.proofs.calls.Found.{both-held, own-word, same-word, still-held, still-owned}
 use Rattle.string_cache_core.proofs.calls.Keep.{interned-owned, owned-held, owned-long, owned-short, interned-listed, interns-grow, interns-fresh, grows-keeps, held-given}
 use Rattle.string_cache_core.proofs.calls.WordsApart.{one-text-each}

@@ -1,6 +1,6 @@
 use Rattle.std.proofs.Common.{◌≡◌, ◌∙◌, ap, arith, ℕ, ◌%◌}
 use Rattle.string_cache_core.specs.Kept.{Kept, map_of}
-use Rattle.string_cache_core.specs.Tables.{bucket_of}
+use Rattle.text_forms.specs.Tables.{bucket_of}
 use Rattle.string_cache_core.proofs.calls.HeldWords.{dynamic-hash}
 use Rattle.string_cache_core.proofs.calls.Replies.{interned-spent, added}
 use Rattle.string_cache_core.proofs.table.Table.intern_new.Goals as goal

@@ -1,5 +1,5 @@
 use Rattle.std.proofs.Common.{sym, subst, rules}
-use Rattle.string_cache_core.specs.Map.{IsHeldTicket}
+use Rattle.text_forms.specs.Map.{IsHeldTicket}
 use Rattle.string_cache_core.specs.Kept.{Kept, map_of}
 use Rattle.string_cache_core.specs.Places.{IsPlace}
 use Rattle.string_cache_core.proofs.kept.Tickets.{not-placed, is-placed}

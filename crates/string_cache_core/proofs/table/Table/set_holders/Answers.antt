@@ -1,6 +1,6 @@
 use Rattle.std.proofs.Common.{◌∙◌, ap, sym, subst, Some, length, ◌<◌}
 use Rattle.std.specs.Prelude.{slice_get}
-use Rattle.string_cache_core.specs.Map.{with_held}
+use Rattle.text_forms.specs.Map.{with_held}
 use Rattle.string_cache_core.specs.Kept.{Kept, pairs_of, tickets_of, map_of}
 use Rattle.string_cache_core.proofs.kept.Pairs.{written-kept, written-map, some-pair, map-is, holds_now}
 use Rattle.string_cache_core.proofs.table.Table.set_holders.Goals as goal

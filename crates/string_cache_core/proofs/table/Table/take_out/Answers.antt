@@ -1,7 +1,7 @@
 use Rattle.std.proofs.Common.{◌∙◌, ap, sym, subst, arith, ◌-◌, ℕ, None}
 use Rattle.std.specs.Prelude.{slice_get}
 use Rattle.std.specs.List.{swap_remove}
-use Rattle.string_cache_core.specs.Map.{with_held}
+use Rattle.text_forms.specs.Map.{with_held}
 use Rattle.string_cache_core.specs.Kept.{Kept, pairs_of, tickets_of, map_of, IsKeptTable}
 use Rattle.string_cache_core.proofs.kept.Pairs.{map-is}
 use Rattle.string_cache_core.proofs.kept.Taking.{bytes-there, kept-taken, order-left, taken-map}

@@ -1,5 +1,5 @@
 use Rattle.std.proofs.Common.{◌≡◌, ◌≤◌, ◌^◌, replicate, rules}
-use Rattle.string_cache_core.specs.Layout.{most_buckets}
+use Rattle.text_forms.specs.Layout.{most_buckets}
 use Rattle.string_cache_core.proofs.kept.New.{new-kept, new-map}
 use Rattle.string_cache_core.proofs.table.Table.with_buckets.Goals as goal
 

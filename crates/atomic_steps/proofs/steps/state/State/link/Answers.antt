@@ -4,7 +4,7 @@ use Rattle.atomic_steps.specs.World.{PartyPass}
 use Rattle.atomic_steps.proofs.worlds.Apart.{all_within, placed_in}
 use Rattle.atomic_steps.proofs.lists.Places.{within}
 use Rattle.atomic_steps.proofs.lists.Facts.{at_one}
-use Rattle.string_cache_core.specs.Tables.{empty_tables}
+use Rattle.text_forms.specs.Tables.{empty_tables}
 use Rattle.atomic_steps.proofs.rows.AtPlaces.{link_no, link_spent, link_memory, link_linked, text_to_link}
 use Rattle.atomic_steps.proofs.steps.state.State.link.Goals as goal
 

@@ -2,7 +2,7 @@ use Rattle.std.proofs.Common.{◌≡◌, ◌∙◌, ℕ, ◌+◌, ◌<◌, ap, r
 use Rattle.std.specs.Prelude.{slice_get, slice_set}
 use Rattle.std.specs.String.{string_bytes}
 use Rattle.atomic_steps.specs.declared.steps.world_entry.Place.TheVariants as place
-use Rattle.string_cache_core.specs.Word.{ticket_of}
+use Rattle.text_forms.specs.Word.{ticket_of}
 use Rattle.atomic_steps.specs.World.{WorldEntry, PartyPass, World}
 use Rattle.atomic_steps.specs.Steps.{looks_at, decides}
 use Rattle.atomic_steps.proofs.lists.Facts.{get_or_at}

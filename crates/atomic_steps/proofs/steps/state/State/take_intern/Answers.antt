@@ -1,7 +1,7 @@
 use Rattle.std.proofs.Common.{◌≡◌, ◌∙◌, ap, sym, ℕ, List, Some}
 use Rattle.std.specs.String.{string_bytes}
-use Rattle.string_cache_core.specs.Tables.{form_of_text}
-use Rattle.string_cache_core.specs.declared.static_sets.TextForm.TheVariants as form
+use Rattle.text_forms.specs.Tables.{form_of_text}
+use Rattle.text_forms.specs.declared.static_sets.TextForm.TheVariants as form
 use Rattle.atomic_steps.proofs.rows.AtEntries.{intern_taken}
 use Rattle.atomic_steps.proofs.steps.state.State.take_intern.Goals as goal
 

@@ -1,0 +1,14 @@
+pub mod Bounds
+pub mod Faults
+pub mod Form
+pub mod InlineText
+pub mod Layout
+pub mod Map
+pub mod Packed
+pub mod Parts
+pub mod Pass
+pub mod Phf
+pub mod PhfStrSet
+pub mod Tables
+pub mod Times
+pub mod Word

@@ -1,0 +1,12 @@
+//! The form of a text: a word of 64 bits for a short one, an index for one of static tables, and a hash for any other.
+#![tactic(auto)]
+
+mod faults;
+pub mod packed_sets;
+pub mod phf;
+#[doc(hidden)]
+pub mod samples;
+pub mod static_sets;
+pub mod word;
+
+pub use faults::Fault;
