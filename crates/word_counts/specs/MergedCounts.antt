@@ -1,10 +1,11 @@
 -- Lists of words with their numbers, each in order, made one.
-use Rattle.std.specs.Prelude.{◌≡◌, ℕ, ◌+◌, ◌<◌, ◌^◌, List, [], ◌∷◌, ◌++◌, length}
+use Rattle.std.specs.Prelude.{◌≡◌, ℕ, ◌+◌, ◌<◌, ◌^◌, List, [], ◌∷◌, ◌++◌, Vec, length, map}
 use Rattle.std.specs.Cmp.Lexicographic.{slice_cmp}
 use Rattle.std.specs.Ordering.{nat_cmp, match_ordering}
 use Rattle.std.specs.declared.cmp.Ordering.{Ordering}
 use Rattle.std.specs.declared.cmp.Ordering.TheVariants.{Less, Greater}
-use Rattle.word_counts.specs.WordCounts.{word_counts}
+use Rattle.string_cache.specs.AtomValue.{AtomValue}
+use Rattle.word_counts.specs.WordCounts.{counted_texts, word_counts}
 
 -- each word of either list once, in order; a word of both has both numbers added
 abbrev pub merged : List (List ℕ × ℕ) → List (List ℕ × ℕ) → List (List ℕ × ℕ)
@@ -30,3 +31,12 @@ AreCountsOf words (counts ∷ lists) = (part : List (List ℕ)) × (rest : List 
 -- the same of some words, so few that no number is too large
 abbrev pub AreCountsOfFew : List (List (List ℕ × ℕ)) → Type 0
 AreCountsOfFew lists = (words : List (List ℕ)) × (length words < 2 ^ 63) × AreCountsOf words lists
+
+module _ {Z : Type 0} where
+  -- what each list of atoms with their numbers says of texts
+  abbrev pub all_counted_texts : List (Vec (AtomValue × ℕ) Z) → List (List (List ℕ × ℕ))
+  all_counted_texts lists = map (λ list. counted_texts list.items) lists
+
+  -- the lists are made one: where each has the word counts of a part of some words, `counts` has those of all these words
+  abbrev pub AreMerged : List (Vec (AtomValue × ℕ) Z) → Vec (AtomValue × ℕ) Z → Type 0
+  AreMerged lists counts = (words : List (List ℕ)) → AreCountsOf words (all_counted_texts lists) → counted_texts counts.items ≡ word_counts words

@@ -1,10 +1,10 @@
 //! Counts of several lists of words, made one.
 
-ghost use Rattle.std.specs.Prelude.{◌≡◌, ◌+◌, ◌*◌, ◌^◌, ◌<◌, ◌≤◌, ◌∷◌, [], List, ℕ, map, IfOk, IfSome, MatchOption};
+ghost use Rattle.std.specs.Prelude.{◌≡◌, ◌+◌, ◌*◌, ◌^◌, ◌<◌, ◌≤◌, ◌∷◌, [], List, ℕ, IfOk, IfSome, MatchOption};
 ghost use Rattle.std.specs.List.{All};
 ghost use Rattle.std.specs.VecDeque.{deque_len};
-ghost use Rattle.word_counts.specs.MergedCounts.{AreCountsOf, AreCountsOfFew, first_order, merged};
-ghost use Rattle.word_counts.specs.WordCounts.{counted_texts, word_counts};
+ghost use Rattle.word_counts.specs.MergedCounts.{AreCountsOf, AreCountsOfFew, AreMerged, all_counted_texts, first_order, merged};
+ghost use Rattle.word_counts.specs.WordCounts.{counted_texts};
 
 use super::WordCounts;
 use std::alloc::{AllocError, Global};
@@ -80,9 +80,9 @@ fn merge_pairs<'e, Static: StaticTables>(
     alloc: Global,
     lists: VecDeque<WordCounts<'e, Static>>,
 ) -> Result<VecDeque<WordCounts<'e, Static>>, AllocError>
-    requires { AreCountsOfFew (map (λ list. counted_texts list.items) lists.items) }
-    ensures counts { (words : List (List ℕ)) → AreCountsOf words (map (λ list. counted_texts list.items) lists.entry.items)
-        → IfOk result (λ merged. AreCountsOf words (map (λ list. counted_texts list.items) merged.items)) }
+    requires { AreCountsOfFew (all_counted_texts lists.items) }
+    ensures counts { (words : List (List ℕ)) → AreCountsOf words (all_counted_texts lists.entry.items)
+        → IfOk result (λ merged. AreCountsOf words (all_counted_texts merged.items)) }
     ensures fewer { IfOk result (λ merged. 2 * deque_len merged ≤ deque_len lists.entry + 1) }
 {
     let mut lists = lists;
@@ -102,9 +102,8 @@ fn merge_here<'e, Static: StaticTables>(
     alloc: Global,
     lists: VecDeque<WordCounts<'e, Static>>,
 ) -> Result<WordCounts<'e, Static>, AllocError>
-    requires { AreCountsOfFew (map (λ list. counted_texts list.items) lists.items) }
-    ensures { (words : List (List ℕ)) → AreCountsOf words (map (λ list. counted_texts list.items) lists.entry.items)
-        → IfOk result (λ counts. counted_texts counts.items ≡ word_counts words) }
+    requires { AreCountsOfFew (all_counted_texts lists.items) }
+    ensures { IfOk result (λ counts. AreMerged lists.entry.items counts) }
 {
     let mut lists = lists;
     while lists.len() > 1 {
@@ -120,23 +119,20 @@ fn merge_halves<'e, R: Threads, Static: StaticTables + Send + Sync>(
     alloc: Global,
     lists: VecDeque<WordCounts<'e, Static>>,
 ) -> Result<WordCounts<'e, Static>, AllocError>
-    requires { AreCountsOfFew (map (λ list. counted_texts list.items) lists.items) }
-    ensures { (words : List (List ℕ)) → AreCountsOf words (map (λ list. counted_texts list.items) lists.entry.items)
-        → IfOk result (λ counts. counted_texts counts.items ≡ word_counts words) }
+    requires { AreCountsOfFew (all_counted_texts lists.items) }
+    ensures { IfOk result (λ counts. AreMerged lists.entry.items counts) }
 {
     let mut lower = lists;
     let upper = lower.split_off(lower.len() / 2)?;
     let (front, back) = join(
         rt,
         move || -> Result<WordCounts<'_, Static>, AllocError>
-            requires { AreCountsOfFew (map (λ list. counted_texts list.items) lower.items) }
-            ensures { (words : List (List ℕ)) → AreCountsOf words (map (λ list. counted_texts list.items) lower.entry.items)
-                → IfOk result (λ counts. counted_texts counts.items ≡ word_counts words) }
+            requires { AreCountsOfFew (all_counted_texts lower.items) }
+            ensures { IfOk result (λ counts. AreMerged lower.entry.items counts) }
         { merge_here(alloc, lower) },
         move || -> Result<WordCounts<'_, Static>, AllocError>
-            requires { AreCountsOfFew (map (λ list. counted_texts list.items) upper.items) }
-            ensures { (words : List (List ℕ)) → AreCountsOf words (map (λ list. counted_texts list.items) upper.entry.items)
-                → IfOk result (λ counts. counted_texts counts.items ≡ word_counts words) }
+            requires { AreCountsOfFew (all_counted_texts upper.items) }
+            ensures { IfOk result (λ counts. AreMerged upper.entry.items counts) }
         { merge_here(alloc, upper) },
     );
     let front = front?;
@@ -160,9 +156,8 @@ pub fn merge_all<'e, R: Threads, Static: StaticTables + Send + Sync>(
     alloc: Global,
     lists: VecDeque<WordCounts<'e, Static>>,
 ) -> Result<WordCounts<'e, Static>, AllocError>
-    requires { AreCountsOfFew (map (λ list. counted_texts list.items) lists.items) }
-    ensures { (words : List (List ℕ)) → AreCountsOf words (map (λ list. counted_texts list.items) lists.entry.items)
-        → IfOk result (λ counts. counted_texts counts.items ≡ word_counts words) }
+    requires { AreCountsOfFew (all_counted_texts lists.items) }
+    ensures { IfOk result (λ counts. AreMerged lists.entry.items counts) }
 {
     if lists.len() < 4 || are_short(&lists) {
         return merge_here(alloc, lists);

@@ -1,12 +1,11 @@
-use Rattle.std.proofs.Common.{◌≡◌, ◌≤◌, ◌<◌, ◌+◌, ◌*◌, ◌++◌, List, ℕ, map}
+use Rattle.std.proofs.Common.{◌≡◌, ◌≤◌, ◌<◌, ◌+◌, ◌*◌, ◌++◌, List, ℕ}
 use Rattle.std.specs.VecDeque.{deque_len}
-use Rattle.word_counts.specs.MergedCounts.{AreCountsOf}
-use Rattle.word_counts.specs.WordCounts.{counted_texts}
+use Rattle.word_counts.specs.MergedCounts.{AreCountsOf, all_counted_texts}
 use Rattle.word_counts.proofs.count.merge.merge_pairs.Given as goal
 
 abbrev pub invariant-loop-front : goal.invariant-loop-front
 invariant-loop-front g l = record {
-  whole : (words : List (List ℕ)) → AreCountsOf words (map (λ list. counted_texts list.items) l.fn.lists.items) → AreCountsOf words (map (λ list. counted_texts list.items) l.merged.items ++ map (λ list. counted_texts list.items) l.lists.items);
+  whole : (words : List (List ℕ)) → AreCountsOf words (all_counted_texts l.fn.lists.items) → AreCountsOf words (all_counted_texts l.merged.items ++ all_counted_texts l.lists.items);
   halved : 2 * deque_len l.merged + deque_len l.lists ≤ deque_len l.fn.lists + 1;
   even : 0 < deque_len l.lists → 2 * deque_len l.merged + deque_len l.lists ≡ deque_len l.fn.lists;
 }
