@@ -94,8 +94,28 @@ impl<'s, R: Wait + Clock> Hot<'s, R> {
         self.note(name, atoms.len(), done, start)
     }
 
-    /// Compares each atom of one list with the one at its place in the other.
+    /// Interns texts that are held, and clones their atoms.
+    fn intern_and_clone_held(&mut self) -> Result<(), anyhow::Error> {
+        let held = atoms_of(self.rt, self.set, &DYNAMIC)?;
+        self.intern("intern and drop, dynamic and held", &DYNAMIC)?;
+        self.clone_all("clone and drop", &held)
+    }
+
+    /// Compares the atom of each text of one list with that of the text at its place in the other.
     fn compare(
+        &mut self,
+        name: &'static str,
+        lefts: &[&str],
+        rights: &[&str],
+        is_equal: bool,
+    ) -> Result<(), anyhow::Error> {
+        let lefts = atoms_of(self.rt, self.set, lefts)?;
+        let rights = atoms_of(self.rt, self.set, rights)?;
+        self.compare_atoms(name, &lefts, &rights, is_equal)
+    }
+
+    /// Compares each atom of one list with the one at its place in the other.
+    fn compare_atoms(
         &mut self,
         name: &'static str,
         lefts: &[Atom<'s, Elements>],
@@ -126,6 +146,11 @@ fn atoms_of<'s, R: Wait>(
     Ok(atoms)
 }
 
+/// The static texts of the type.
+fn texts_of<S: StaticAtomSet>() -> &'static [&'static str] {
+    S::get().atoms
+}
+
 /// Times interning inline, static and held dynamic texts, each with its drop, cloning and dropping, and comparing atoms of one
 /// text and of two: this number of rounds of each.
 pub fn measure<R: Wait + Clock>(
@@ -139,15 +164,11 @@ pub fn measure<R: Wait + Clock>(
         rounds,
         phases: Vec::new(set.allocator()),
     };
-    let held = atoms_of(rt, set, &DYNAMIC)?;
-    let again = atoms_of(rt, set, &DYNAMIC)?;
-    let turned = atoms_of(rt, set, &TURNED)?;
     hot.intern("intern and drop, inline", &INLINE)?;
-    hot.intern("intern and drop, static", Elements::get().atoms)?;
-    hot.intern("intern and drop, dynamic and held", &DYNAMIC)?;
-    hot.clone_all("clone and drop", &held)?;
-    hot.compare("== of one text", &held, &again, true)?;
-    hot.compare("== of two texts", &held, &turned, false)?;
+    hot.intern("intern and drop, static", texts_of::<Elements>())?;
+    hot.intern_and_clone_held()?;
+    hot.compare("== of one text", &DYNAMIC, &DYNAMIC, true)?;
+    hot.compare("== of two texts", &DYNAMIC, &TURNED, false)?;
     let Hot { phases, .. } = hot;
     Ok(phases)
 }

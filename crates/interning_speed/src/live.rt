@@ -87,6 +87,18 @@ impl<'s, R: Wait + Clock> Live<'s, R> {
         })?;
         Ok(())
     }
+
+    /// Clones the atoms, and drops the clones.
+    fn clone_and_drop(&mut self, atoms: &[DefaultAtom<'s>]) -> Result<(), anyhow::Error> {
+        let clones = self.clone_all("clone", atoms)?;
+        self.drop_all("drop of a clone", clones, false)
+    }
+
+    /// Interns texts that are new, and drops their atoms.
+    fn intern_and_drop(&mut self, texts: &[String]) -> Result<(), anyhow::Error> {
+        let newest = self.intern("intern of one more new text", texts)?;
+        self.drop_all("last drop, of the newest", newest, true)
+    }
 }
 
 /// Times each kind of call: interning texts that are new, and in another order where they are there, cloning the atoms in
@@ -103,11 +115,9 @@ pub fn measure<R: Wait + Clock>(
     };
     let first = live.intern("intern of a new text", texts.first())?;
     let again = live.intern("intern of a text that is there", texts.again())?;
-    let clones = live.clone_all("clone", &again)?;
-    live.drop_all("drop of a clone", clones, false)?;
+    live.clone_and_drop(&again)?;
     drop(first);
-    let newest = live.intern("intern of one more new text", texts.more())?;
-    live.drop_all("last drop, of the newest", newest, true)?;
+    live.intern_and_drop(texts.more())?;
     live.drop_all("last drop, of any", again, true)?;
     let Live { phases, .. } = live;
     Ok(phases)

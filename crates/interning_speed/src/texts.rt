@@ -90,15 +90,6 @@ impl Texts {
     pub fn len(&self) -> usize {
         self.first.len()
     }
-
-    /// How many bytes these have.
-    pub fn bytes(&self) -> u128 {
-        let mut bytes = 0u128;
-        for text in &self.first {
-            bytes = bytes.saturating_add(text.len() as u128);
-        }
-        bytes
-    }
 }
 
 /// The numbers from 0 to `count - 1` in a random order.
