@@ -283,10 +283,16 @@ fn word_of(text: &str) -> Option<u64> {{
     }}
 }}
 
+/// Whether each text is at its place.
+#[cfg(test)]
+fn are_perfect<S: StaticAtomSet>() -> bool {{
+    S::get().check()
+}}
+
 /// Each text is at its place, and each name is found and has its word.
 #[test]
 fn names_are_found(rt: HostRuntime) {{
-    assert!(rt; {constant}_TABLES.check());
+    assert!(rt; are_perfect::<{type}>());
     for (text, word) in &{constant}_WORDS {{
         assert!(rt; word_of(text) == Some(*word), "of {{text}}");
     }}
@@ -336,7 +342,7 @@ class Listed(Module):
             return LIST_IMPORTS.format(used="Atom, PhfStrSet, StaticAtomSet"), self.list_test(names, self.type)
         start = f"static {self.constant()}_WORDS: [(&str, u64); {len(names)}] = "
         pairs = array_of_tuples(start, [(literal(name.text), f"{self.type}::{name.constant}") for name in names])
-        return PAIRS_IMPORTS, PAIRS_TEST.format(pairs=pairs, constant=self.constant(), alias=self.alias)
+        return PAIRS_IMPORTS, PAIRS_TEST.format(pairs=pairs, constant=self.constant(), type=self.type, alias=self.alias)
 
     def answers(self, tables):
         """The proof that `get` gives the tables, where there are too many for the checker's own search."""

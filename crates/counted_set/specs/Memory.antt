@@ -5,7 +5,7 @@ use Rattle.counted_set.specs.Chain.{Linked}
 
 -- the bytes of a node, which has room for four entries
 abbrev pub node_size : ℕ
-node_size = 80
+node_size = 48
 
 -- the bytes of these entries' cells, their texts among them
 abbrev pub cells_size : List Linked → ℕ

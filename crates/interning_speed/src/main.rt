@@ -83,40 +83,41 @@ fn named(word: &str) -> Result<Option<Subject>, ()> {
     }
 }
 
-/// `None` where the arguments aren't those of a command.
-fn asked_for(rt: &(impl Env + AllocGlobal)) -> Result<Option<Command>, anyhow::Error> {
-    let mut args = env::args(rt)?;
-    let _ = args.next();
-    let (Some(report), Some(subject), Some(number), Some(bits), Some(workers), None) = (
-        args.next(),
-        args.next(),
-        args.next(),
-        args.next(),
-        args.next(),
-        args.next(),
-    ) else {
-        return Ok(None);
-    };
-    let report = match report.as_str() {
+/// What the words ask for, or `None` where they aren't those of a command.
+fn command_of(
+    report: &str,
+    subject: &str,
+    number: &str,
+    bits: &str,
+    workers: &str,
+) -> Option<Command> {
+    let report = match report {
         "counts" => Report::Counts,
         "times" => Report::Times,
-        _ => return Ok(None),
+        _ => return None,
     };
-    let (Ok(only), Ok(number), Some(buckets), Ok(workers)) = (
-        named(subject.as_str()),
-        number.as_str().parse::<usize>(),
-        bits.as_str().parse::<u8>().ok().and_then(Buckets::new),
-        workers.as_str().parse::<usize>(),
-    ) else {
-        return Ok(None);
-    };
-    Ok(Some(Command {
+    Some(Command {
         report,
-        only,
-        number,
-        buckets,
-        workers,
-    }))
+        only: named(subject).ok()?,
+        number: number.parse::<usize>().ok()?,
+        buckets: bits.parse::<u8>().ok().and_then(Buckets::new)?,
+        workers: workers.parse::<usize>().ok()?,
+    })
+}
+
+/// `None` where the arguments aren't those of a command.
+fn asked_for(rt: &(impl Env + AllocGlobal)) -> Result<Option<Command>, anyhow::Error> {
+    let words: Vec<String> = env::args(rt)?.skip(1).collect(rt.alloc())?;
+    Ok(match words.as_slice() {
+        [report, subject, number, bits, workers] => command_of(
+            report.as_str(),
+            subject.as_str(),
+            number.as_str(),
+            bits.as_str(),
+            workers.as_str(),
+        ),
+        _ => None,
+    })
 }
 
 /// Makes the calls, and times them.

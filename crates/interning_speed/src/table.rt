@@ -8,35 +8,36 @@ use std::time::Instant;
 use string_cache::EmptyStaticAtomSet;
 use string_cache::table::{Call, Table, TableReply};
 
-/// A table, and what was timed on it.
+/// A table, the words of the texts that were interned last, and what was timed.
 #[derive(Drop)]
 struct Measured {
     table: Table<EmptyStaticAtomSet>,
+    words: Vec<u64>,
     phases: Vec<Phase>,
 }
 
 impl Measured {
-    /// Interns the texts, and answers their words.
+    /// Interns the texts, and keeps their words.
     fn intern<R: Clock>(
         &mut self,
         rt: &R,
-        alloc: Global,
         name: &'static str,
         texts: &[String],
-    ) -> Result<Vec<u64>, anyhow::Error> {
-        let mut words = Vec::with_capacity(alloc, texts.len())?;
+    ) -> Result<(), anyhow::Error> {
+        self.words.clear();
+        self.words.reserve(texts.len())?;
         let start = Instant::now(rt)?;
         for text in texts {
-            words.push(self.table.intern(text.as_str())?)?;
+            self.words.push(self.table.intern(text.as_str())?)?;
         }
         let time = start.elapsed(rt)?;
         self.phases.push(Phase {
             name,
             calls: texts.len(),
-            done: words.len(),
+            done: self.words.len(),
             time,
         })?;
-        Ok(words)
+        Ok(())
     }
 
     /// Makes the calls, none of which may find its word not held.
@@ -58,6 +59,28 @@ impl Measured {
         })?;
         Ok(())
     }
+
+    /// Clones each word.
+    fn clone_all<R: Clock>(&mut self, rt: &R, alloc: Global) -> Result<(), anyhow::Error> {
+        let clones: Vec<Call> = self
+            .words
+            .iter()
+            .map(|word| Call::Clone(*word))
+            .collect(alloc)?;
+        self.run(rt, "clone", &clones)
+    }
+
+    /// Gives each word once for each of its holders, of which it has three.
+    fn give_all<R: Clock>(&mut self, rt: &R, alloc: Global) -> Result<(), anyhow::Error> {
+        let gives: Vec<Call> = self
+            .words
+            .iter()
+            .map(|word| Call::Give(*word))
+            .collect(alloc)?;
+        self.run(rt, "give", &gives)?;
+        self.run(rt, "give again", &gives)?;
+        self.run(rt, "give by the last holder", &gives)
+    }
 }
 
 fn is_done(reply: &TableReply) -> bool {
@@ -73,16 +96,13 @@ pub fn measure<R: Clock>(
 ) -> Result<Vec<Phase>, anyhow::Error> {
     let mut measured = Measured {
         table: Table::new(alloc)?,
+        words: Vec::new(alloc),
         phases: Vec::new(alloc),
     };
-    let _ = measured.intern(rt, alloc, "intern of a new text", texts.first())?;
-    let words = measured.intern(rt, alloc, "intern of a text that is there", texts.again())?;
-    let clones: Vec<Call> = words.iter().map(|word| Call::Clone(*word)).collect(alloc)?;
-    let gives: Vec<Call> = words.iter().map(|word| Call::Give(*word)).collect(alloc)?;
-    measured.run(rt, "clone", &clones)?;
-    measured.run(rt, "give", &gives)?;
-    measured.run(rt, "give again", &gives)?;
-    measured.run(rt, "give by the last holder", &gives)?;
-    let Measured { table: _, phases } = measured;
+    measured.intern(rt, "intern of a new text", texts.first())?;
+    measured.intern(rt, "intern of a text that is there", texts.again())?;
+    measured.clone_all(rt, alloc)?;
+    measured.give_all(rt, alloc)?;
+    let Measured { phases, .. } = measured;
     Ok(phases)
 }

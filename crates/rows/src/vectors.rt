@@ -5,6 +5,7 @@ mod long;
 mod odd;
 
 use crate::begun::new_set;
+use std::alloc::{AllocError, Global};
 use std::sync::Wait;
 use string_cache::dynamic_set::Set;
 use string_cache::static_sets::StaticAtomSet;
@@ -29,6 +30,23 @@ struct Told {
     debug: String,
 }
 
+/// The one form that the atom says it has.
+fn form_told<Static: StaticAtomSet>(atom: &Atom<'_, Static>) -> &'static str {
+    match (atom.is_inline(), atom.is_static(), atom.is_dynamic()) {
+        (true, false, false) => "inline",
+        (false, true, false) => "static",
+        (false, false, true) => "dynamic",
+        _ => "not one form",
+    }
+}
+
+fn printed<Static: StaticAtomSet>(
+    alloc: Global,
+    atom: &Atom<'_, Static>,
+) -> Result<String, AllocError> {
+    format!(in alloc; "{atom:?}")
+}
+
 /// What the atom of a text tells.
 fn tell<R: Wait, Static: StaticAtomSet>(
     rt: &R,
@@ -36,18 +54,12 @@ fn tell<R: Wait, Static: StaticAtomSet>(
     text: &str,
 ) -> Result<Told, Fault> {
     let atom = Atom::from_str_in(rt, set, text)?;
-    let form = match (atom.is_inline(), atom.is_static(), atom.is_dynamic()) {
-        (true, false, false) => "inline",
-        (false, true, false) => "static",
-        (false, false, true) => "dynamic",
-        _ => "not one form",
-    };
     Ok(Told {
         word: atom.unsafe_data(),
-        form,
+        form: form_told(&atom),
         hash: atom.get_hash(),
         precomputed: atom.precomputed_hash(),
-        debug: format!(in set.allocator(); "{atom:?}")?,
+        debug: printed(set.allocator(), &atom)?,
     })
 }
 

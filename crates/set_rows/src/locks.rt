@@ -268,7 +268,7 @@ fn visits_wait_for_each_lock(rt: HostRuntime) {
     assert!(rt; are_free(&set, usize::MAX));
 }
 
-/// The bytes of two entries beside those of the buckets: each has a node of 80 bytes, and a cell of 56 with its text.
+/// The bytes of two entries beside those of the buckets: each has a node of 48 bytes, and a cell of 56 with its text.
 #[test]
 fn memory_waits_for_each_lock(rt: HostRuntime) {
     let set = default_set(&rt, rt.alloc());
@@ -278,7 +278,7 @@ fn memory_waits_for_each_lock(rt: HostRuntime) {
     let (handle, shared) = (&rt, &set);
     let (bytes, ended) = beside(&rt, 1_000, held, || shared.memory(handle));
     assert!(rt; !ended);
-    assert!(rt; bytes == 4096 * 32 + 2 * (80 + 56));
+    assert!(rt; bytes == 4096 * 32 + 2 * (48 + 56));
     assert!(rt; are_free(&set, usize::MAX));
 }
 

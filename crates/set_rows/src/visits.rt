@@ -94,7 +94,7 @@ fn each_node_is_visited(rt: HostRuntime) {
 /// rounded up to eights.
 const BUCKET: u128 = 32;
 
-const NODE: u128 = 80;
+const NODE: u128 = 48;
 
 const CELL: u128 = 40;
 

@@ -15,6 +15,10 @@ IsUnwrittenFault fault = IsOf (record memory { reads = Unit {0}; texts = Unit {0
 abbrev pub IsCountFault : AppFault → Type 0
 IsCountFault fault = IsOf (record memory { workers = Unit {0}; interns = IsInternFault }) fault
 
+-- from counting words and writing lines of them
+abbrev pub IsWritingCountsFault : AppFault → Type 0
+IsWritingCountsFault fault = IsOf (record memory { writes = Unit {0}; workers = Unit {0}; interns = IsInternFault }) fault
+
 -- from counting the words of what is read
 abbrev pub IsCountCommandFault : AppFault → Type 0
 IsCountCommandFault fault = IsOf (record streams { interns = IsInternFault; workers = Unit {0} }) fault

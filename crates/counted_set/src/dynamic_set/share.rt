@@ -17,11 +17,10 @@ use text_forms::word::Buckets;
 /// shares in one block. The count goes up only from one or more, and below the entry's limit of holders: an entry without shares
 /// is dying, and gets none any more.
 ///
-/// Its end frees the block where the count reads 0, and leaves it for ever otherwise. The hash stands here as well, so that a
-/// look-up that passes the entry by doesn't follow the pointer.
+/// Its end frees the block where the count reads 0, and leaves it for ever otherwise. It is one pointer: a pass over a bucket asks
+/// each entry's count, which lies beside the hash.
 #[derive(Drop)]
 pub struct Entry {
-    hash: u64,
     owner: Owner<Global>,
 }
 
@@ -33,8 +32,6 @@ impl Model for Entry {
     ghost Value = { Linked };
 
     ghost view = { λ e. linked_of e.owner };
-
-    ghost invariant = { λ e. e.hash ≡ e.owner.label.hash };
 }
 
 impl Entry {
@@ -59,7 +56,7 @@ impl Entry {
         };
         let bits = u64::from(buckets.bits());
         let (owner, share) = Owner::new(alloc, label, bits, text)?;
-        Ok((Entry { hash, owner }, Share { share }))
+        Ok((Entry { owner }, Share { share }))
     }
 
     /// The ticket.
@@ -93,7 +90,7 @@ impl Entry {
     pub(super) fn is_of(&self, text: &str, hash: u64) -> bool
         ensures { IsTrue result ↔ ((self.now.hash ≡ hash) × (self.now.text ≡ text.now)) }
     {
-        self.hash == hash && self.owner.text() == text
+        self.owner.label().hash == hash && self.owner.text() == text
     }
 
     /// One share more, unless the entry is dying or has as many as it may have: what its cell answers.

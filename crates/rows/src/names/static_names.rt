@@ -1486,10 +1486,16 @@ fn word_of(text: &str) -> Option<u64> {
     }
 }
 
+/// Whether each text is at its place.
+#[cfg(test)]
+fn are_perfect<S: StaticAtomSet>() -> bool {
+    S::get().check()
+}
+
 /// Each text is at its place, and each name is found and has its word.
 #[test]
 fn names_are_found(rt: HostRuntime) {
-    assert!(rt; NAMES_TABLES.check());
+    assert!(rt; are_perfect::<Names>());
     for (text, word) in &NAMES_WORDS {
         assert!(rt; word_of(text) == Some(*word), "of {text}");
     }

@@ -1,72 +1,91 @@
 //! Sets and their atoms: a call that is made again gives the ticket that it would have given the first time.
 
-use crate::begun::new_set;
+use crate::begun::{intern, is_of, links, new_set};
+use serde_json::Value;
 use std::borrow::CowStr;
+use std::alloc::Global;
 use std::io::Print;
+use std::process::Abort;
 use std::sync::Wait;
 use string_cache::dynamic_set::Set;
 use string_cache::word::{Buckets, Limits};
-use string_cache::{Atom, DefaultAtom, EmptyStaticAtomSet, Fault};
+use string_cache::{DefaultAtom, EmptyStaticAtomSet, Fault};
 use text_streams::samples::{End, at_last, begin, finish};
 
 /// The first ticket of "interned": its bucket is 0x210, the low bits of its SipHash by OpenSSL.
 const FIRST: u64 = 0x1_0840;
 
+fn has_greatest_limits(set: &Set<EmptyStaticAtomSet>) -> bool {
+    set.limits() == Limits::greatest()
+}
+
 #[test]
 fn set_is_made(rt: HostRuntime) {
     let alloc = rt.alloc();
     let set: Set<EmptyStaticAtomSet> = at_last(&rt, || Set::new(alloc)).expect(&rt, "an answer");
-    assert!(rt; set.limits() == Limits::greatest());
-    assert!(rt; set.linked(&rt) == 0);
-    assert!(rt;
-        DefaultAtom::from_str_in(&rt, &set, "interned")
-            .expect(&rt, "an atom")
-            .unsafe_data()
-            == FIRST
-    );
+    assert!(rt; has_greatest_limits(&set));
+    assert!(rt; links(&rt, &set, 0));
+    assert!(rt; is_of(&intern(&rt, &set, "interned"), FIRST, "interned"));
+}
+
+/// The atom of a text, interned at last.
+fn interned_at_last<'s, R: Wait + Print>(
+    rt: &R,
+    set: &'s Set<EmptyStaticAtomSet>,
+    text: &str,
+) -> Result<DefaultAtom<'s>, Fault> {
+    at_last(rt, || DefaultAtom::from_str_in(rt, set, text))
 }
 
 #[test]
 fn text_is_interned(rt: HostRuntime) {
-    let set: Set<EmptyStaticAtomSet> = new_set(&rt, rt.alloc());
-    let atom = at_last(&rt, || DefaultAtom::from_str_in(&rt, &set, "interned")).expect(
-        &rt,
-        "an answer",
-    );
-    assert!(rt; atom.unsafe_data() == FIRST && atom.as_str() == "interned");
-    assert!(rt; set.linked(&rt) == 1);
+    let set = new_set(&rt, rt.alloc());
+    let atom = interned_at_last(&rt, &set, "interned").expect(&rt, "an answer");
+    assert!(rt; is_first(&rt, &set, &atom));
 }
 
-/// The atoms of four texts.
+/// Texts that lie in the bucket of one that goes.
+const OTHERS: [&str; 4] = ["tokenised", "sentence", "repeated", "forgotten"];
+
+/// Interns the text, and adds its atom.
+fn add_atom<'s, R: Wait>(
+    rt: &R,
+    set: &'s Set<EmptyStaticAtomSet>,
+    atoms: &mut Vec<DefaultAtom<'s>>,
+    text: &str,
+) -> Result<(), Fault> {
+    let atom = DefaultAtom::from_str_in(rt, set, text)?;
+    atoms.push(atom)?;
+    Ok(())
+}
+
+/// The atoms of these.
 fn four_others<'s, R: Wait>(
     rt: &R,
     set: &'s Set<EmptyStaticAtomSet>,
 ) -> Result<Vec<DefaultAtom<'s>>, Fault> {
     let mut others = Vec::new(set.allocator());
-    for text in ["tokenised", "sentence", "repeated", "forgotten"] {
-        others.push(DefaultAtom::from_str_in(rt, set, text)?)?;
+    for text in &OTHERS {
+        add_atom(rt, set, &mut others, text)?;
     }
     Ok(others)
+}
+
+fn set_of_one_bucket<R: Abort>(rt: &R, alloc: Global) -> Set<EmptyStaticAtomSet> {
+    let buckets = Buckets::new(0).expect(rt, "bits");
+    Set::with_buckets(alloc, Limits::greatest(), buckets).expect(rt, "a set")
 }
 
 /// In a set of one bucket: five texts lie in two nodes, and once the oldest is gone the newer node has room for a sixth.
 #[test]
 fn text_finds_room_in_a_node(rt: HostRuntime) {
-    let buckets = Buckets::new(0).expect(&rt, "bits");
-    let set = Set::<EmptyStaticAtomSet>::with_buckets(
-        rt.alloc(),
-        Limits::greatest(),
-        buckets,
-    ).expect(&rt, "a set");
-    let oldest = DefaultAtom::from_str_in(&rt, &set, "interned").expect(&rt, "an atom");
+    let set = set_of_one_bucket(&rt, rt.alloc());
+    let oldest = intern(&rt, &set, "interned");
     let others = four_others(&rt, &set).expect(&rt, "atoms");
     drop(oldest);
-    let atom = at_last(&rt, || DefaultAtom::from_str_in(&rt, &set, "magnitude")).expect(
-        &rt,
-        "an answer",
-    );
-    assert!(rt; atom.unsafe_data() == 0x6_0000 && atom.as_str() == "magnitude");
-    assert!(rt; set.linked(&rt) == 5 && others.len() == 4);
+    let atom = interned_at_last(&rt, &set, "magnitude").expect(&rt, "an answer");
+    assert!(rt; is_of(&atom, 0x6_0000, "magnitude"));
+    assert!(rt; links(&rt, &set, 5) && others.len() == 4);
 }
 
 /// The atom of an owned text, made of a second one where the call of the first is refused memory.
@@ -99,18 +118,28 @@ fn owned_text_is_interned(rt: HostRuntime) {
     assert!(rt; is_first(&rt, &set, &atom));
 }
 
+/// The atom of a text that may be owned, made of a borrowed one where the call of the first is refused memory.
+fn cow_at_last<'s, R: Wait + Print>(
+    rt: &R,
+    set: &'s Set<EmptyStaticAtomSet>,
+    first: CowStr<'_>,
+    second: &str,
+) -> Result<DefaultAtom<'s>, Fault> {
+    begin(rt);
+    let answer = DefaultAtom::from_cow_in(rt, set, first);
+    finish(rt, End::of(&answer));
+    match answer {
+        Err(Fault::Memory) => DefaultAtom::from_cow_in(rt, set, CowStr::Borrowed(second)),
+        made => made,
+    }
+}
+
 #[test]
 fn text_that_may_be_owned_is_interned(rt: HostRuntime) {
     let set = new_set(&rt, rt.alloc());
     let first = CowStr::Owned(String::from_str(rt.alloc(), "interned").expect(&rt, "a text"));
-    begin(&rt);
-    let answer = DefaultAtom::from_cow_in(&rt, &set, first);
-    finish(&rt, End::of(&answer));
-    let atom = match answer {
-        Err(Fault::Memory) => DefaultAtom::from_cow_in(&rt, &set, CowStr::Borrowed("interned")),
-        made => made,
-    };
-    assert!(rt; is_first(&rt, &set, &atom.expect(&rt, "an atom")));
+    let atom = cow_at_last(&rt, &set, first, "interned").expect(&rt, "an atom");
+    assert!(rt; is_first(&rt, &set, &atom));
 }
 
 /// The atom of the text in capital letters. A call that is refused memory is made again.
@@ -134,33 +163,53 @@ fn long_text_is_put_into_upper_case(rt: HostRuntime) {
     let set = new_set(&rt, rt.alloc());
     let lower = "a".repeat(rt.alloc(), 65).expect(&rt, "a text");
     let wanted = "A".repeat(rt.alloc(), 65).expect(&rt, "a text");
-    let atom = DefaultAtom::from_str_in(&rt, &set, &lower).expect(&rt, "an atom");
+    let atom = intern(&rt, &set, &lower);
     let upper = upper_at_last(&rt, &set, &atom).expect(&rt, "an atom");
-    assert!(rt; upper.eq_str(&wanted) && upper.unsafe_data() == 0x1_2680);
-    assert!(rt; set.linked(&rt) == 2);
+    assert!(rt; is_of(&upper, 0x1_2680, &wanted));
+    assert!(rt; links(&rt, &set, 2));
+}
+
+/// The JSON value of an atom, made at last.
+fn json_at_last<R: Print>(
+    rt: &R,
+    alloc: Global,
+    atom: &DefaultAtom<'_>,
+) -> Result<Value, Fault> {
+    at_last(rt, || atom.to_json(alloc))
+}
+
+fn is_json_of(value: &Value, text: &str) -> bool {
+    value.as_str() == Some(text)
 }
 
 #[test]
 fn json_is_made(rt: HostRuntime) {
-    let alloc = rt.alloc();
-    let set: Set<EmptyStaticAtomSet> = new_set(&rt, alloc);
-    let atom = Atom::from_str_in(&rt, &set, "interned").expect(&rt, "an atom");
-    let value = at_last(&rt, || atom.to_json(alloc)).expect(&rt, "an answer");
-    assert!(rt; value.as_str() == Some("interned"));
+    let set = new_set(&rt, rt.alloc());
+    let atom = intern(&rt, &set, "interned");
+    let value = json_at_last(&rt, rt.alloc(), &atom).expect(&rt, "an answer");
+    assert!(rt; is_json_of(&value, "interned"));
+}
+
+/// The JSON value of a text, from a set of its own.
+fn json_of<R: Wait + Abort>(rt: &R, alloc: Global, text: &str) -> Value {
+    let set: Set<EmptyStaticAtomSet> = new_set(rt, alloc);
+    let atom = intern(rt, &set, text);
+    atom.to_json(alloc).expect(rt, "an answer")
+}
+
+/// The atom of a JSON value, made at last.
+fn atom_at_last<'s, R: Wait + Print>(
+    rt: &R,
+    set: &'s Set<EmptyStaticAtomSet>,
+    value: &Value,
+) -> Result<DefaultAtom<'s>, Fault> {
+    at_last(rt, || DefaultAtom::from_json_in(rt, set, value))
 }
 
 #[test]
 fn json_text_is_interned(rt: HostRuntime) {
-    let other: Set<EmptyStaticAtomSet> = new_set(&rt, rt.alloc());
-    let value = DefaultAtom::from_str_in(&rt, &other, "interned")
-        .expect(&rt, "an atom")
-        .to_json(rt.alloc())
-        .expect(&rt, "an answer");
-    let set: Set<EmptyStaticAtomSet> = new_set(&rt, rt.alloc());
-    let atom = at_last(&rt, || DefaultAtom::from_json_in(&rt, &set, &value)).expect(
-        &rt,
-        "an answer",
-    );
-    assert!(rt; atom.unsafe_data() == FIRST && atom.as_str() == "interned");
-    assert!(rt; set.linked(&rt) == 1);
+    let value = json_of(&rt, rt.alloc(), "interned");
+    let set = new_set(&rt, rt.alloc());
+    let atom = atom_at_last(&rt, &set, &value).expect(&rt, "an answer");
+    assert!(rt; is_first(&rt, &set, &atom));
 }

@@ -1,5 +1,6 @@
 //! Sets with small limits, and no other thread.
 
+use crate::begun::{intern, is_of, links};
 use std::alloc::Global;
 use std::process::Abort;
 use std::sync::Wait;
@@ -49,27 +50,37 @@ fn refused_again<R: Wait>(
     ])
 }
 
+/// Whether the atom's text is refused one more holder, in each way to hand it in.
+fn is_full<R: Wait>(rt: &R, set: &Set<EmptyStaticAtomSet>, atom: &DefaultAtom<'_>) -> bool {
+    refused(rt, set) == Some(Fault::FullCount)
+        && refused_again(rt, set, atom) == Ok([Some(Fault::FullCount); 2])
+}
+
 #[test]
 fn one_holder_and_one_serial(rt: HostRuntime) {
     let set = limited(&rt, rt.alloc(), 1, 1);
     let atom = interned(&rt, &set, FIRST).expect(&rt, "an atom");
-    assert!(rt; refused(&rt, &set) == Some(Fault::FullCount));
-    assert!(rt; refused_again(&rt, &set, &atom) == Ok([Some(Fault::FullCount); 2]));
+    assert!(rt; is_full(&rt, &set, &atom));
     drop(atom);
     assert!(rt; refused(&rt, &set) == Some(Fault::TicketsSpent));
-    let short = DefaultAtom::from_str_in(&rt, &set, "abc").expect(&rt, "an atom");
-    assert!(rt; short.unsafe_data() == 0x6362_6131);
+    assert!(rt; is_of(&intern(&rt, &set, "abc"), 0x6362_6131, "abc"));
+}
+
+/// Whether "interned" has two holders of its first ticket, and no third one.
+fn has_two_holders<R: Wait>(rt: &R, set: &Set<EmptyStaticAtomSet>) -> Option<bool> {
+    let first = interned(rt, set, FIRST)?;
+    let second = interned(rt, set, FIRST)?;
+    let is_full = refused(rt, set) == Some(Fault::FullCount);
+    drop(first);
+    drop(second);
+    Some(is_full)
 }
 
 #[test]
 fn two_holders_and_two_serials(rt: HostRuntime) {
     let set = limited(&rt, rt.alloc(), 2, 2);
-    let first = interned(&rt, &set, FIRST).expect(&rt, "an atom");
-    let second = interned(&rt, &set, FIRST).expect(&rt, "an atom");
-    assert!(rt; refused(&rt, &set) == Some(Fault::FullCount));
-    drop(first);
-    drop(second);
-    drop(interned(&rt, &set, FIRST + TICKET_UNIT).expect(&rt, "an atom"));
+    assert!(rt; has_two_holders(&rt, &set) == Some(true));
+    assert!(rt; interned(&rt, &set, FIRST + TICKET_UNIT).is_some());
     assert!(rt; refused(&rt, &set) == Some(Fault::TicketsSpent));
 }
 
@@ -78,21 +89,30 @@ fn is_cloned<R: Wait>(rt: &R, atom: &DefaultAtom<'_>) -> Result<bool, Fault> {
     Ok(atom.clone_atom(rt)?.unsafe_data() == atom.unsafe_data())
 }
 
+/// Whether the one entry is full, and the atom can't be cloned.
+fn is_not_cloned<R: Wait>(rt: &R, set: &Set<EmptyStaticAtomSet>, atom: &DefaultAtom<'_>) -> bool {
+    links(rt, set, 1)
+        && refused(rt, set) == Some(Fault::FullCount)
+        && is_cloned(rt, atom) == Err(Fault::FullCount)
+}
+
+/// Whether a copy of the atom, which goes first, has its word.
+fn is_copied<R: Wait>(rt: &R, first: DefaultAtom<'_>) -> Result<bool, Fault> {
+    let copied = DefaultAtom::from_atom(rt, &first)?;
+    drop(first);
+    Ok(copied.unsafe_data() == FIRST)
+}
+
 /// Holders come and go below their limit, and have one word as long as one of them is left.
 #[test]
 fn holders_come_and_go(rt: HostRuntime) {
     let set = limited(&rt, rt.alloc(), 2, 9);
     let first = interned(&rt, &set, FIRST).expect(&rt, "an atom");
     let second = interned(&rt, &set, FIRST).expect(&rt, "an atom");
-    assert!(rt; set.linked(&rt) == 1);
-    assert!(rt; refused(&rt, &set) == Some(Fault::FullCount));
-    assert!(rt; is_cloned(&rt, &first) == Err(Fault::FullCount));
+    assert!(rt; is_not_cloned(&rt, &set, &first));
     drop(second);
     assert!(rt; is_cloned(&rt, &first) == Ok(true));
-    let copied = DefaultAtom::from_atom(&rt, &first).expect(&rt, "an atom");
-    assert!(rt; copied.unsafe_data() == FIRST);
-    drop(first);
-    drop(copied);
-    assert!(rt; set.linked(&rt) == 0);
-    drop(interned(&rt, &set, FIRST + TICKET_UNIT).expect(&rt, "an atom"));
+    assert!(rt; is_copied(&rt, first) == Ok(true));
+    assert!(rt; links(&rt, &set, 0));
+    assert!(rt; interned(&rt, &set, FIRST + TICKET_UNIT).is_some());
 }

@@ -4,7 +4,7 @@ ghost use Rattle.std.specs.Prelude.{◌≡◌, ◌↔◌, ◌≤◌, ◌++◌, f
 ghost use Rattle.std.specs.Io.KnownBytes.{Appends};
 ghost use Rattle.std.specs.List.{flat_map};
 ghost use Rattle.word_counts.specs.CountLines.{count_line, count_lines};
-ghost use Rattle.word_counts.specs.Faults.{IsCountCommandFault, IsWritingFault};
+ghost use Rattle.word_counts.specs.Faults.{IsCountCommandFault, IsWritingCountsFault, IsWritingFault};
 ghost use Rattle.text_streams.specs.Streams.{AppendsBeginning};
 ghost use Rattle.word_counts.specs.Told.{TellsLines};
 ghost use Rattle.word_counts.specs.WordCounts.{counted_texts};
@@ -70,6 +70,31 @@ fn let_go<R: Threads + Sync, Static: StaticTables + Send + Sync>(
     );
 }
 
+/// Counts the words of the text by `n` workers, and writes a line for each distinct one. They are interned in a set of this
+/// call's own, whose number of buckets fits the text.
+fn write_counts<R: Threads + Wait + Sync, K: Sink>(
+    rt: &R,
+    alloc: Global,
+    n: u32,
+    text: &str,
+    writer: &mut K,
+) -> Result<(), AppFault>
+    requires low { 1 ≤ n }
+    requires high { n ≤ 64 }
+    requires writer { K.has_failed writer.old ≡ false }
+    ensures ok { OnOk result (Appends (K.contents writer.old) (K.contents writer.new) (count_lines text.now)) }
+    ensures err { OnErr result (AppendsBeginning (K.contents writer.old) (K.contents writer.new) (count_lines text.now)) }
+    ensures fault { IfErr result IsWritingCountsFault }
+    ensures failed { (result ≡ Err AppFault.Write) ↔ (K.has_failed writer.new ≡ true) }
+{
+    let buckets = buckets_for(text.len());
+    let set = Set::<EmptyStaticAtomSet>::with_buckets(alloc, Limits::greatest(), buckets)?;
+    let mut counts = count(rt, &set, text, n, &Open)?;
+    let outcome = write_lines(alloc, &counts, writer);
+    let_go(rt, &mut counts, n);
+    outcome
+}
+
 /// Reads all, counts its words by `n` workers, and writes a line for each distinct one. They are interned in a set of this
 /// call's own, whose number of buckets fits the input.
 ///
@@ -90,10 +115,5 @@ pub fn count_command<R: Threads + Wait + Sync, S: Source, K: Sink>(
         count_lines IsCountCommandFault reader.old reader.new writer.old writer.new result }
 {
     let text = read_text(alloc, reader)?;
-    let buckets = buckets_for(text.len());
-    let set = Set::<EmptyStaticAtomSet>::with_buckets(alloc, Limits::greatest(), buckets)?;
-    let mut counts = count(rt, &set, &text, n, &Open)?;
-    let outcome = write_lines(alloc, &counts, writer);
-    let_go(rt, &mut counts, n);
-    outcome
+    write_counts(rt, alloc, n, &text, writer)
 }

@@ -1,5 +1,5 @@
 use Rattle.std.proofs.Common.{◌≡◌, ◌∷◌, [], ap, subst, sym, ◌∙◌}
-use Rattle.node_chain.proofs.Packs.{Unlinked, grown_view, none_passed, put_packed, put_view}
+use Rattle.node_chain.proofs.Packs.{grown_view, none_passed, put_packed, put_view}
 use Rattle.node_chain.specs.Packs.{ArePacked, items_at}
 use Rattle.node_chain.specs.Walked.{Walked, at_start}
 use Rattle.counted_set.specs.Chain.{Linked}
