@@ -23,20 +23,21 @@ struct Command {
     rounds: u64,
 }
 
+/// What the words ask for, or `None` where they aren't two numbers.
+fn command_of(workers: &str, rounds: &str) -> Option<Command> {
+    Some(Command {
+        workers: workers.parse::<usize>().ok()?,
+        rounds: rounds.parse::<u64>().ok()?,
+    })
+}
+
 /// `None` where the arguments aren't two numbers.
 fn asked_for(rt: &(impl Env + AllocGlobal)) -> Result<Option<Command>, anyhow::Error> {
-    let mut args = env::args(rt)?;
-    let _ = args.next();
-    let (Some(workers), Some(rounds), None) = (args.next(), args.next(), args.next()) else {
-        return Ok(None);
-    };
-    let (Ok(workers), Ok(rounds)) = (
-        workers.as_str().parse::<usize>(),
-        rounds.as_str().parse::<u64>(),
-    ) else {
-        return Ok(None);
-    };
-    Ok(Some(Command { workers, rounds }))
+    let words: Vec<String> = env::args(rt)?.skip(1).collect(rt.alloc())?;
+    Ok(match words.as_slice() {
+        [workers, rounds] => command_of(workers.as_str(), rounds.as_str()),
+        _ => None,
+    })
 }
 
 /// What is left of the work.

@@ -2,8 +2,8 @@
 
 use crate::begun::{intern, is_of, links, new_set};
 use serde_json::Value;
-use std::borrow::CowStr;
 use std::alloc::Global;
+use std::borrow::CowStr;
 use std::io::Print;
 use std::process::Abort;
 use std::sync::Wait;
@@ -170,11 +170,7 @@ fn long_text_is_put_into_upper_case(rt: HostRuntime) {
 }
 
 /// The JSON value of an atom, made at last.
-fn json_at_last<R: Print>(
-    rt: &R,
-    alloc: Global,
-    atom: &DefaultAtom<'_>,
-) -> Result<Value, Fault> {
+fn json_at_last<R: Print>(rt: &R, alloc: Global, atom: &DefaultAtom<'_>) -> Result<Value, Fault> {
     at_last(rt, || atom.to_json(alloc))
 }
 

@@ -8,4 +8,4 @@ use Rattle.word_counts.proofs.count.lines.write_counts.Goals as goal
 pub returns-clause-err : goal.returns-clause-err
 returns-clause-err g c = subst (λ (counts : List (List ℕ × ℕ)). OnErr c.write_lines-outcome.result
     (AppendsBeginning (g.K.Sink.contents c.args.writer.now) (g.K.Sink.contents c.write_lines-outcome.new.writer) (flat_map count_line counts)))
-  (ap counted_texts c.deref.ensures.value ∙ c.in_ok-counts.ensures.counts) c.write_lines-outcome.ensures.err
+    (ap counted_texts c.deref.ensures.value ∙ c.in_ok-counts.ensures.counts) c.write_lines-outcome.ensures.err
