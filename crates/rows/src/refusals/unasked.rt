@@ -124,7 +124,7 @@ fn entries_are_visited(rt: HostRuntime) {
     let bytes = set.memory(&rt);
     finish(&rt, End::Given);
     assert!(rt; atom.as_str() == "interned");
-    assert!(rt; holders == 1 && bytes == 4096 * 32 + 80 + 48);
+    assert!(rt; holders == 1 && bytes == 4096 * 32 + 48 + 48);
 }
 
 /// A set whose one entry died under the lock of its bucket, which is that of "interned", and is still linked.
