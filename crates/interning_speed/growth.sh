@@ -1,9 +1,9 @@
 #!/usr/bin/env bash
 # How the cost of the set's calls grows with the number of live texts, for 8, 12 and 14 bits of buckets: ./growth.sh [MOST]
-# It goes up to so many texts (4,000,000), and with 8 bits to 250,000. The last numbers take half an hour.
+# It goes up to so many texts (1,000,000), and with 8 bits to 250,000. That takes two minutes, and 4,000,000 half an hour.
 set -euo pipefail
 cd "$(dirname "$0")"
-most=${1:-4000000}
+most=${1:-1000000}
 rt run -- counts all 1000 12 4 > /dev/null
 
 # The arguments are the bits, the number of texts, and how many turns there are, of which the least times count.
