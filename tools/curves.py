@@ -81,7 +81,7 @@ def curve(left, bits, points, is_lowest):
     yield f'<polyline class="line bits{bits}" points="{path}"/>'
     yield from (f'<circle class="dot bits{bits}" cx="{x:.1f}" cy="{y:.1f}" r="2.5"/>' for x, y in places)
     x, y = places[-1]
-    anchor, right, under = ("middle", 0, 54) if is_lowest else ("end", -6, -4)
+    anchor, right, under = ("middle", 0, 54) if is_lowest else ("middle", 12, -9)
     yield f'<text x="{x + right:.1f}" y="{y + under:.1f}" text-anchor="{anchor}">{2**bits:,} buckets</text>'
 
 
