@@ -1,4 +1,5 @@
-// A text's bytes, copied to where C has room.
+//! A text's bytes, copied to where C has room.
+
 ghost use Rattle.std.specs.Prelude.{◌≡◌};
 ghost use Rattle.string_cache_c.specs.Calls.{CopiesText};
 

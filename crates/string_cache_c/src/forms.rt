@@ -1,4 +1,4 @@
-// What C is told of a word.
+//! What C is told of a word.
 
 /// What a word tells of itself: its kind, 0 inline, 1 static, 2 dynamic; the index of a static one; the serial and the bucket
 /// of a dynamic one. What a kind hasn't is 0.

@@ -1,4 +1,5 @@
-// A table's beginning and end, and its room.
+//! A table's beginning and end, and its room.
+
 ghost use Rattle.std.specs.Prelude.{◌≡◌, ◌≢◌, ◌-◌, ◌^◌, ◌≤◌, ◌⊎◌, ◌↔◌, [], None, Some, IsSome, IfSome};
 ghost use Rattle.string_cache_core.specs.Bounds.{AreBounds};
 ghost use Rattle.string_cache_core.specs.Kept.{map_of};

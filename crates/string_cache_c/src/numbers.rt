@@ -1,4 +1,4 @@
-// The numbers that calls return. 0 is success, and 1 to 3 are those of `Fault`.
+//! The numbers that calls return. 0 is success, and 1 to 3 are those of `Fault`.
 
 pub const NO_MEMORY: u32 = 1;
 

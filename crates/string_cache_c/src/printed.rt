@@ -1,4 +1,5 @@
-// Static tables in their printed form.
+//! Static tables in their printed form.
+
 ghost use Rattle.std.specs.Prelude.{◌≡◌, ◌≢◌, ◌⊎◌, ◌↔◌, IsTrue};
 ghost use Rattle.std.specs.Str.{IsUtf8};
 ghost use Rattle.table_generator.specs.TableText.{SpellsPerfectTables};

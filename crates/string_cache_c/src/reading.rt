@@ -1,4 +1,5 @@
-// What a table tells of its texts and of words. None of these changes it.
+//! What a table tells of its texts and of words. None of these changes it.
+
 ghost use Rattle.std.specs.Prelude.{◌≡◌, ◌≢◌, ◌<◌, ◌≤◌, ◌⊎◌, ◌↔◌, ◌-◌, ◌^◌, ℕ, List, IsTrue, None, Some, IsSome, slice_get};
 ghost use Rattle.std.specs.List.{IsDistinct};
 ghost use Rattle.std.specs.Map.{keys_of};

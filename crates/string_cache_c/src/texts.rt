@@ -1,4 +1,5 @@
-// What is asked of texts and words without a table.
+//! What is asked of texts and words without a table.
+
 ghost use Rattle.std.specs.Prelude.{◌≡◌, ◌≢◌, ◌<◌, ◌≤◌, ◌⊎◌, ℕ, List, None, Some, length};
 ghost use Rattle.std.specs.Str.{IsUtf8};
 ghost use Rattle.string_cache_core.specs.Form.{IsFormOf};

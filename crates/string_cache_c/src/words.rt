@@ -1,4 +1,5 @@
-// The table that C has, of the empty static type, with a number for each outcome.
+//! The table that C has, of the empty static type, with a number for each outcome.
+
 ghost use Rattle.std.specs.Prelude.{◌≡◌, ◌≢◌, ◌∷◌, ◌++◌, ◌<◌, ◌≤◌, ◌⊎◌, ◌↔◌, ℕ, List, None, Some, slice_get, length};
 ghost use Rattle.std.specs.Str.{IsUtf8};
 ghost use Rattle.string_cache_core.specs.Kept.{Pair, map_of, tickets_of};
