@@ -1,9 +1,9 @@
 #!/usr/bin/env bash
-# The gate: every proof from nothing, every edit that the prover has to refuse, every test, each program as two compilers
-# build it (rt ci), then each request for memory or a thread refused under the tests that rt ci built, the schedules of small
-# scenes, the static types that a script writes, the scripts that count over many machines and that review wrong bodies, what is said of
-# wrong bodies that no test sees, the library for C with its clients and their wrong bodies, and each wrong body that a test has to catch,
-# which begin where rt ci leaves a processor idle. The last line sums up.
+# The gate: every proof from nothing, the edits of must-fail that the prover has to refuse, every test, each program as two compilers
+# build it (rt ci), then the other wrong bodies that the prover has to refuse, many in a check, each request for memory or a thread refused
+# under the tests that rt ci built, the schedules of small scenes, the static types that a script writes, the scripts that count over many
+# machines and that review wrong bodies, what is said of wrong bodies, the library for C with its clients and their wrong bodies, and each
+# wrong body that a test has to catch, which begin where rt ci leaves a processor idle. The last lines tell what each part took, and sum up.
 #
 # `./test.sh quick [CRATE ..]` isn't the gate: it proves what changed over kept work, and runs the tests that see it (tools/quick.py).
 set -uo pipefail
@@ -17,26 +17,32 @@ said=$(mktemp -d)
 trap 'kill $(jobs -p) 2>/dev/null; rm -rf "$said"' EXIT
 passed=0
 failed=0
+spent=0 # seconds of processors, over all parts
 
 # What a line says that tells of something that failed.
 wrong='WRONG|FAILED|BAD EDIT|NOT (PROVED|REFUSED|TRIED|CHECKED)'
 
-# Runs a part of the gate under a name, which keeps what it says, its status and its time.
-run() {
-    local name=$1 begun=$SECONDS
+# Runs a part of the gate under a name, which keeps what it says, its status, its time, and the time that processors spent on it: in a shell
+# of its own, since a shell counts for whatever it runs the time of each part beside it that ends meanwhile.
+run() (
+    name=$1 begun=$SECONDS TIMEFORMAT='%0U %0S'
     shift
+    trap - EXIT
     echo "== $*"
-    "$@" 2>&1 | tee "$said/$name"
-    echo "${PIPESTATUS[0]}" > "$said/$name.status"
+    {
+        time { "$@" 2>&1 | tee "$said/$name" >&3; echo "${PIPESTATUS[0]}" > "$said/$name.status"; }
+    } 3>&1 2> "$said/$name.processors"
     echo $((SECONDS - begun)) > "$said/$name.seconds"
-}
+)
 
-# Adds the numbers of a part's closing line 'N passed, M failed', and says them once more with its time and with what failed.
+# Adds the numbers of a part's closing line 'N passed, M failed', and says them once more with its times and with what failed.
 # A part without that line has failed.
 add() {
-    local line
+    local line user system
     line=$(grep -E '^[0-9]+ passed, [0-9]+ failed$' "$said/$1" | tail -n 1)
-    echo "part $1: ${line:-no closing line}, $(< "$said/$1.seconds") s"
+    read -r user system < "$said/$1.processors"
+    spent=$((spent + user + system))
+    echo "part $1: ${line:-no closing line}, $(< "$said/$1.seconds") s, $((user + system)) s of processors"
     grep -E "$wrong" "$said/$1" | tail -n 20
     if [[ $line =~ ^([0-9]+)\ passed,\ ([0-9]+)\ failed$ ]]; then
         passed=$((passed + BASH_REMATCH[1]))
@@ -55,30 +61,40 @@ ci=$!
 run caught tools/caught.py --beside "$ci" > "$said/bodies" &
 bodies=$!
 wait "$ci"
+run prover tools/refused_bodies.py --proved --jobs "${RT_JOBS:-2}" > "$said/edits" &
+edits=$!
 run schedules tools/schedules/schedules.py --gate --jobs 2 > "$said/scenes" &
 scenes=$!
 run refused tools/refused.py
 run static tools/static_type.py --check
+run pages tools/pages.py
 run many tools/count_many_test.py
 run review tools/review_test.py
 run verdicts tools/caught_test.py
+run batches tools/refused_bodies_test.py
 run clients tools/clients.py
 run wrong_clients tools/clients_caught.py --archive crates/string_cache_c/out/libstring_cache_c.a
 wait "$bodies"
 cat "$said/bodies"
 wait "$scenes"
 cat "$said/scenes"
+wait "$edits"
+cat "$said/edits"
 
 echo "== by parts, on $(nproc) processors, some of them beside each other"
 add ci
+add prover
 add refused
 add static
+add pages
 add many
 add review
 add verdicts
+add batches
 add clients
 add wrong_clients
 add caught
 add schedules
+echo "$spent s of processors in all, $SECONDS s by the clock"
 echo "$passed passed, $failed failed"
 [[ $failed -eq 0 ]]

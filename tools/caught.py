@@ -32,6 +32,7 @@ import time
 from pathlib import Path
 
 from edits import BadEdit, applied, edited, ends_in, read_edit
+from lanes import processors
 from refused import refuser
 from shared_builds import SharedBuild, can_share
 from unproved import NotBuilt, build, outcomes
@@ -215,9 +216,11 @@ def try_error(edit, trials, root):
 
 
 def processor_times():
-    """What the processors did so far, by kinds, in one unit: the fourth kind is idling, and the fifth waiting for a disk."""
-    first = Path("/proc/stat").read_text(encoding="ascii").splitlines()[0]
-    return [int(word) for word in first.split()[1:]]
+    """What the processors that this process may run on did so far, by kinds, in one unit: the fourth kind is idling, and the fifth waiting
+    for a disk."""
+    own = {f"cpu{number}" for number in os.sched_getaffinity(0)}
+    lines = [line.split() for line in Path("/proc/stat").read_text(encoding="ascii").splitlines()]
+    return [sum(times) for times in zip(*([int(word) for word in words[1:]] for words in lines if words[0] in own))]
 
 
 def idle_processors(seconds=2):
@@ -225,7 +228,7 @@ def idle_processors(seconds=2):
     before = processor_times()
     time.sleep(seconds)
     spent = [after - earlier for earlier, after in zip(before, processor_times())]
-    return (os.cpu_count() or 1) * sum(spent[3:5]) / max(sum(spent), 1)
+    return processors() * sum(spent[3:5]) / max(sum(spent), 1)
 
 
 def runs(process):
@@ -296,7 +299,7 @@ def add_tasks(edits, trials):
 
 def main():
     parser = argparse.ArgumentParser(description=__doc__, formatter_class=argparse.RawDescriptionHelpFormatter)
-    parser.add_argument("--jobs", type=int, default=os.cpu_count() or 1)
+    parser.add_argument("--jobs", type=int, default=processors())
     parser.add_argument("--beside", type=int, metavar="PID")
     parser.add_argument("words", nargs="*")
     given = parser.parse_args()

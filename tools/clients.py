@@ -21,6 +21,8 @@ from concurrent.futures import ThreadPoolExecutor
 from dataclasses import dataclass
 from pathlib import Path
 
+from lanes import processors
+
 TOP = Path(__file__).resolve().parent.parent
 CLIENTS = TOP / "clients"
 C = CLIENTS / "c"
@@ -273,7 +275,7 @@ def outcome_of(name, test, place):
 def main():
     parser = argparse.ArgumentParser(description=__doc__, formatter_class=argparse.RawDescriptionHelpFormatter)
     parser.add_argument("--library", type=Path)
-    parser.add_argument("--jobs", type=int, default=os.cpu_count() or 1)
+    parser.add_argument("--jobs", type=int, default=processors())
     parser.add_argument("words", nargs="*")
     given = parser.parse_args()
     results = []

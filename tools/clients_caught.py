@@ -10,7 +10,6 @@ the bodies whose names have one of them. Bodies whose row needs a tool that isn'
 """
 
 import argparse
-import os
 import re
 import shutil
 import subprocess
@@ -20,6 +19,7 @@ from concurrent.futures import ThreadPoolExecutor
 from pathlib import Path
 
 from edits import BadEdit, changed, changes_in
+from lanes import processors
 
 TOP = Path(__file__).resolve().parent.parent
 BODIES = TOP / "clients" / "caught"
@@ -89,7 +89,7 @@ def judge_whole(row, archive, room):
 def main():
     parser = argparse.ArgumentParser(description=__doc__, formatter_class=argparse.RawDescriptionHelpFormatter)
     parser.add_argument("--archive", type=Path)
-    parser.add_argument("--jobs", type=int, default=os.cpu_count() or 1)
+    parser.add_argument("--jobs", type=int, default=processors())
     parser.add_argument("words", nargs="*")
     given = parser.parse_args()
     bodies = [path for path in sorted(BODIES.glob("*.edit")) if not given.words or any(word in path.stem for word in given.words)]

@@ -53,7 +53,7 @@ def main():
     try:
         with Client(**cluster) as client, tempfile.TemporaryDirectory(prefix="count-dask-") as room:
             files = count(client, given, Path(room))
-            with open(sys.stdout.fileno(), "wb", buffering=merge_counts.BUFFER, closefd=False) as out:
+            with merge_counts.opened(sys.stdout, "wb") as out:
                 merge_counts.merge(files, out)
     except (ValueError, RuntimeError, OSError, merge_counts.BadCounts) as why:
         print(why, file=sys.stderr)

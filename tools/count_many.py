@@ -245,9 +245,7 @@ def arguments():
 def main():
     given = arguments()
     try:
-        with tempfile.TemporaryDirectory(prefix="count-many-") as room, open(
-            sys.stdout.fileno(), "wb", buffering=merge_counts.BUFFER, closefd=False
-        ) as out:
+        with tempfile.TemporaryDirectory(prefix="count-many-") as room, merge_counts.opened(sys.stdout, "wb") as out:
             folder = given.keep or Path(room)
             folder.mkdir(parents=True, exist_ok=True)
             count(given, folder, out)

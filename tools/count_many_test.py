@@ -10,6 +10,7 @@ usage: tools/count_many_test.py [WORD..]     with words: only the rows whose nam
 
 import os
 import random
+import re
 import shutil
 import signal
 import subprocess
@@ -110,6 +111,26 @@ def merge_refuses(*texts, why):
 def merge_misses_a_file(room):
     found = ran([MERGE, *written(room, [b"1 a\n"]), room / "absent"])
     return None if found.returncode == 1 and not found.stdout and b"absent" in found.stderr else str(found)
+
+
+def merge_ends_well(redirected, *texts):
+    """A row: `--reduce`, or the merge of files of these texts, with a stream that is closed says so in one line."""
+
+    def row(room):
+        words = written(room, texts) or ["--reduce"]
+        found = ran(["sh", "-c", f'"$0" "$@" {redirected}', MERGE, *words], input=b"a\t1\n", stdin=None)
+        is_well = found.returncode == 1 and re.fullmatch(rb"merge_counts: .*\n", found.stderr)
+        return None if is_well else str(found)
+
+    return row
+
+
+def reduce_refuses(lines, why):
+    def row(room):
+        found = ran([MERGE, "--reduce"], input=lines, stdin=None)
+        return None if found.returncode == 1 and why in found.stderr else str(found)
+
+    return row
 
 
 def merges_in_two_ways(room):
@@ -321,6 +342,11 @@ def rows():
     yield "merge: a file that isn't in order", merge_refuses(b"1 b\n1 a\n", why=b"order")
     yield "merge: a file of something else", merge_refuses(b"one a\n", why=b"no line")
     yield "merge: by the script, and as a map-reduce job", merges_in_two_ways
+    yield "merge: its output is closed", merge_ends_well(">&-", b"1 a\n")
+    yield "reduce: a last line without its end", reduce_refuses(b"a\t1\nb\t12", b"cut off")
+    yield "reduce: lines of something else", reduce_refuses(b"a\tone\n", b"no line")
+    yield "reduce: its output is closed", merge_ends_well(">&-")
+    yield "reduce: its input is closed", merge_ends_well("<&-")
     yield "mapper: fails where the program does", mapper_fails_with_the_program
     yield "dask: two processes", dask
     if not shutil.which("parallel"):

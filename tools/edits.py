@@ -13,9 +13,12 @@ Then come, as in a must-fail edit, lines 'file: src/..', 'old: TEXT' and 'new: T
 """
 
 import contextlib
+import re
 from dataclasses import dataclass, field
 from pathlib import Path
 
+# How a function begins, in a file that `rt fmt` laid out: how far it is indented, and its name.
+FUNCTION = re.compile(r'( *)(?:pub(?:\([a-z ]+\))? )?(?:const )?(?:unsafe )?(?:extern "C" )?fn (\w+)')
 WANTS = ("test", "refused", "error", "scene")
 
 

@@ -2,8 +2,8 @@
 """Prints how many checks `rt ci` may run side by side: the number of processors, where each has memory for the largest check,
 and else nothing, so that rt counts for itself.
 
-rt guesses a check's memory from the lines that it reads, some twice what the largest check here takes (5.5 GB, the tests of
-string_cache), and has checks wait for one another by that guess. It does not where RT_JOBS holds a number.
+rt guesses a check's memory from the lines that it reads, some twice what the largest check so far took (5.5 GB, of atoms with their
+tests in one crate), and has checks wait for one another by that guess. It does not where RT_JOBS holds a number.
 
 usage: RT_JOBS=$(tools/lanes.py) rt ci
 """

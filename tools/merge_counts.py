@@ -8,9 +8,9 @@
 Each file is in the order of its words' bytes already, so `sort -m` puts them together in one pass, in memory for the number of files
 and not for that of the words, and the numbers of equal words are added up on the way.
 
-The status is 0 where all was merged. It is 1, with a line on standard error, where a file can't be read, was cut off in a line, has a
-line that isn't a number and a word, or isn't in order; what was printed until then is to be thrown away. A file that was cut off
-between two lines can't be told from a whole one: tools/count_many.py knows how long each is.
+The status is 0 where all was merged. It is 1, with a line on standard error, where a file or the input can't be read, was cut off in a
+line, has a line that isn't a number and a word, or isn't in order, and where the output can't be written; what was printed until then is
+to be thrown away. A file that was cut off between two lines can't be told from a whole one: tools/count_many.py knows how long each is.
 """
 
 import argparse
@@ -53,6 +53,8 @@ def added(lines, parts):
     """The lines 'number word' of the lines, whose words rise or stay: equal words become one, and their numbers are added."""
     last, total = b"", 0
     for line in lines:
+        if not line.endswith(b"\n"):
+            raise BadCounts(f"cut off in its last line: {line[:80]!r}")
         word, number = parts(line)
         if not (word and number.isdigit()):
             raise BadCounts(f"no line of a word and its number: {line[:80]!r}")
@@ -66,6 +68,13 @@ def added(lines, parts):
             raise BadCounts(f"not in the order of bytes: {word[:80]!r} behind {last[:80]!r}")
     if last:
         yield b"%d %b\n" % (total, last)
+
+
+def opened(stream, mode):
+    """Standard input or output as a binary file of its own."""
+    if stream is None:
+        raise BadCounts("standard input or output is closed")
+    return open(stream.fileno(), mode, buffering=BUFFER, closefd=False)
 
 
 def files_at_once(wanted):
@@ -99,9 +108,9 @@ def main():
     if given.reduce == bool(given.files):
         parser.error("give files to merge, or --reduce")
     try:
-        with open(sys.stdout.fileno(), "wb", buffering=BUFFER, closefd=False) as out:
+        with opened(sys.stdout, "wb") as out:
             if given.reduce:
-                out.writelines(added(sys.stdin.buffer, mapped))
+                out.writelines(added(opened(sys.stdin, "rb"), mapped))
             else:
                 merge(given.files, out)
     except (BadCounts, OSError) as why:

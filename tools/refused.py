@@ -6,7 +6,8 @@ refused, until a run meets none left (tools/refuse.c, preloaded, counts and refu
 to keep none where it says no more, and the test then sees that the call made again gives what it gives the first time. A test of
 `starts` is run once for each thread that the call starts, with that start refused, in the same way. A test of `unasked` is run once with
 every request for memory refused, and may meet none. A test of `told` is run once with none refused, and prints as a line `-- N bytes` how
-many bytes the call asked for, as the library tells. However a test ends, the program has given back all that it got.
+many bytes the call asked for, as the library tells. A test of `whole` is run once with none refused, and keeps no block that it got.
+However a test ends, the program has given back all that it got.
 
 The tests are those that `rt ci`, or `rt test` in such a crate, proved and built last. (tools/caught.py judges wrong bodies by the same
 tests, built without proofs.)
@@ -23,6 +24,7 @@ from concurrent.futures import ThreadPoolExecutor
 from dataclasses import dataclass
 from pathlib import Path
 
+from lanes import processors
 from unproved import compiler, kit
 
 TOP = Path(__file__).resolve().parent.parent
@@ -53,6 +55,9 @@ FEW = {
     "refusals::tables::text_finds_room_in_a_table": 1,
     "refusals::tables::text_finds_room_in_a_cleared_table": 1,
 }
+
+# The fewest requests that a call may make, by its test's name: each dynamic text that a table holds has its bytes.
+MANY = {"refusals::programs::many_words_in_a_table": 100}
 
 
 @dataclass
@@ -135,6 +140,8 @@ class Refuser:
                 return False, f"with number {at} of the {NAMES[what]} refused: {wrong}"
             if ran.requests > FEW.get(test, MOST):
                 return False, f"{ran.requests} {NAMES[what]}, where {FEW[test]} are enough"
+            if not ran.refused and ran.requests < MANY.get(test, 0):
+                return False, f"{ran.requests} {NAMES[what]}, where {MANY[test]} are needed"
             if not ran.refused:
                 return True, f"{ran.requests} {NAMES[what]}, each refused in turn"
         return False, f"there is no end of {NAMES[what]} after {MOST}"
@@ -156,9 +163,17 @@ class Refuser:
             wrong = wrong or f"it tells {told}, where {ran.asked} bytes were asked for"
         return not wrong, wrong or f"{ran.asked} bytes were asked for, as it tells"
 
+    def whole(self, test):
+        """Refuses nothing. Whether all is well and the call keeps no block, and what to say."""
+        ran = self.run(test, "memory", 0, 0)
+        wrong = ran.wrong() or (f"{ran.kept} blocks are kept" if ran.kept else None)
+        return not wrong, wrong or f"{ran.requests} requests for memory, and all of it given back"
+
     def judge(self, test):
         """Whether all is well with the test, and what to say."""
         try:
+            if "::whole::" in test:
+                return self.whole(test)
             if "::told::" in test:
                 return self.bytes_told(test)
             if "::unasked::" in test:
@@ -184,7 +199,7 @@ def refuser(program, room):
 
 def main():
     parser = argparse.ArgumentParser(description=__doc__, formatter_class=argparse.RawDescriptionHelpFormatter)
-    parser.add_argument("--jobs", type=int, default=os.cpu_count() or 1)
+    parser.add_argument("--jobs", type=int, default=processors())
     parser.add_argument("words", nargs="*")
     given = parser.parse_args()
     results = []

@@ -11,35 +11,39 @@ The file has a body after another, each with a name of its own:
     new: TEXT
 
 The function is named by the end of its name as `rt check` prints it. TEXT is one line, and the old one stands once in its file; more
-pairs, and lines 'file:', may follow. Bodies of different functions of a crate share a check, since the checker goes on behind a function
-that it can't prove, and says which goal was left: a body is refused where its own function is not proved. One that a function beside it
-hides, or that only its callers may refuse, is checked once more alone. Those that nothing refused are built beside the bodies that they
-replace (tools/shared_builds.py), and the tests of their crate are run with each; where it has none, those of the crates that name it in
-crates.txt, or else of all that stand on it. What is proved and passes them all is printed last: nothing holds it.
+pairs, and lines 'file:', may follow, all in the body of that function. Bodies of different functions of a crate share a check
+(tools/batches.py), and one that its own function doesn't refuse is checked once more alone, with all that calls it. Those that nothing
+refused are built beside the bodies that they replace (tools/shared_builds.py), and the tests that see their crate are run with each, plainly
+and with requests refused; a test that fails has to pass without the body. What is proved and passes them all is printed last: nothing
+holds it. The exports of string_cache_c have their tests in tools/clients.py, which is run over a library with the body.
+
+A body that can't be read, proved or built is NOT CHECKED: it ends nothing, and counts in the status.
 
 usage: tools/review.py FILE
 """
 
-import re
-import subprocess
 import sys
 import tempfile
 from dataclasses import dataclass, field
 from pathlib import Path
 
-from caught import passes, tests_of
-from edits import BadEdit, applied, changes_in, edited, replaced
+import batches
+from caught import CANT_BUILD, passes, tests_of
+from edits import BadEdit, applied, changes_in, replaced
 from quick import copy_with_work, crates_listed, has_tests, said_by, stands_on
+from refused import refuser
 from shared_builds import SharedBuild, can_share
-from unproved import NotBuilt, build
+from unproved import build
 
 TOP = Path(__file__).resolve().parent.parent
 SECONDS = 60  # for one test
-TOLD = re.compile(r"^fn (\S+): (.*)$", re.MULTILINE)
-GOALS = re.compile(r"`([^`]*)`")
+SAID = 400  # how much is told of what was said
+LIBRARY = "string_cache_c"  # its tests are programs in other languages
+# Whose tests see a crate, beside those that name it in crates.txt: they call it by the names that a crate above gives again.
+SEEN_BY = {"text_forms": {"core_rows", "set_rows", "rows"}, "atomic_steps": {"step_rows"}}
 
 
-@dataclass
+@dataclass(eq=False)
 class Body:
     """A wrong body: its name, its crate, the function that it changes, and what is replaced by what, file by file."""
 
@@ -50,6 +54,20 @@ class Body:
 
     def __str__(self):
         return f"{self.name} ({self.crate}, {self.function})"
+
+
+class Review:
+    """What is said of the bodies."""
+
+    def __init__(self):
+        self.unheld, self.unchecked = [], []
+
+    def held(self, body, by):
+        print(f"{body}: {by}", flush=True)
+
+    def not_checked(self, body, why):
+        print(f"{body}: NOT CHECKED: {str(why).strip()[-SAID:]}", flush=True)
+        self.unchecked.append(body)
 
 
 def read_bodies(path):
@@ -66,133 +84,144 @@ def read_bodies(path):
             lines.append(line)
     for body, lines in bodies:
         body.changes = changes_in(lines)
-        if not (body.crate and body.function and body.changes):
-            raise BadEdit(f"{body.name} lacks a crate, a function, or a pair 'old:' and 'new:'")
-        edited(body, TOP)
     return [body for body, _ in bodies]
 
 
-def batches(bodies):
-    """The bodies in as few lists as there may be, with one crate each, no function twice, and each old text left as it is."""
-    left = list(bodies)
-    while left:
-        batch, functions, lines = [], set(), set()
-        for body in left:
-            own = {(file, old) for file, old, _ in body.changes}
-            if body.crate == left[0].crate and body.function not in functions and not own & lines:
-                batch.append(body)
-                functions.add(body.function)
-                lines |= own
-        left = [body for body in left if body not in batch]
-        yield batch
-
-
-def together(batch, root):
-    """The texts that have all these bodies, by their files in the copy at root."""
-    texts = {}
-    for body in batch:
-        with replaced(texts):
-            texts.update(edited(body, root))
-    return texts
+def in_crates(bodies, review):
+    """The bodies that can be read, by their crates, each with its places."""
+    listed, found = crates_listed(), {}
+    for body in bodies:
+        try:
+            if body.crate not in listed or not (body.function and body.changes):
+                raise BadEdit("it lacks a crate of crates.txt, a function, or a pair 'old:' and 'new:'")
+            placed = batches.placed(str(body), TOP / "crates" / body.crate, body.function, body.changes)
+            found.setdefault(body.crate, []).append((body, placed))
+        except (BadEdit, OSError) as why:
+            review.not_checked(body, f"BAD EDIT: {why}")
+    return found
 
 
 def refusals(said):
-    """The functions that a check didn't prove for a goal of their own, each with its goals."""
-    own = {}
-    for name, text in TOLD.findall(said):
-        if text not in ("proved", "assumed") and "it calls" not in text:
-            own[name] = ", ".join(GOALS.findall(text)[-3:]) or text
-    return own
+    """The functions that a check refused at goals of their own, each with its goals."""
+    found = {name: batches.goals_of(name, text, said) for name, text in batches.TOLD.findall(said)}
+    return {name: goals for name, goals in found.items() if goals}
 
 
-def check(texts, crate, root):
-    """What a check of the crate says with these texts."""
-    with replaced(texts):
-        return said_by("rt", "check", folder=root / "crates" / crate)[1]
-
-
-def prove(batch, root):
-    """Checks the bodies at once, and prints what refused each. Those that are left, which nothing did or that others hid."""
-    said, left = check(together(batch, root), batch[0].crate, root), []
-    for body in batch:
-        found = {name: goals for name, goals in refusals(said).items() if f"::{name}".endswith(f"::{body.function}")}
-        if found:
-            print(f"{body}: refused at {', '.join(found.values())}", flush=True)
-        else:
-            left.append(body)
-    return left
-
-
-def prove_alone(body, root):
-    """Whether a check of this body alone proves all functions. Where not, prints which of them refused it."""
-    said = check(edited(body, root), body.crate, root)
+def is_proved(body, placed, folder, review):
+    """Whether a check of the whole crate with this body alone proves it. Where not, says what refused it."""
+    with replaced(batches.texts_with([placed], folder)):
+        said = said_by("rt", "check", "--jobs", "1", folder=folder)[1]
     if "logic=proved" in said:
         return True
-    found = "; ".join(f"{name} at {goals}" for name, goals in refusals(said).items())
-    print(f"{body}: {'refused elsewhere: ' + found if found else 'NOT CHECKED: ' + said.strip()[-400:]}", flush=True)
+    found = "; ".join(f"{name} at {', '.join(goals)}" for name, goals in refusals(said).items())
+    if found:
+        review.held(body, f"refused elsewhere: {found}")
+    else:
+        review.not_checked(body, said)
     return False
 
 
-def first_failure(program):
-    """The first test that fails in a program, or None."""
-    return next((test for test in tests_of(program) if not passes(program, test, SECONDS)), None)
-
-
-def failures(crate, bodies, root):
-    """The test of a crate that fails with each of these bodies, or None, by the body's name."""
-    shared = [body for body in bodies if can_share(body, root)]
-    found = {}
+def proved(crate, pairs, review):
+    """The bodies of a crate that the prover passes."""
+    left, by = [], {placed: body for body, placed in pairs}
     with tempfile.TemporaryDirectory(prefix="review-") as room:
-        if shared:
-            built = SharedBuild(crate, shared, root, Path(room))
+        folder = batches.copy_of(crate, Path(room))
+        for placed, goals, _ in batches.tried(list(by), folder):
+            if goals:
+                review.held(by[placed], f"refused at {', '.join(goals)}")
+            elif is_proved(by[placed], placed, folder, review):
+                left.append(by[placed])
+    return left
+
+
+def failure(wrong, own):
+    """The first test that fails in the program with a body, plainly or as requests are refused, and not in the one without; or None."""
+    for test in tests_of(wrong):
+        if not passes(wrong, test, SECONDS) and passes(own, test, SECONDS):
+            return test
+    tried, without = refuser(wrong, wrong.parent), refuser(own, own.parent)
+    for test in tried.tests():
+        if not tried.judge(test)[0] and without.judge(test)[0]:
+            return f"{test}, as requests are refused,"
+    return None
+
+
+def failures(crate, bodies, root, review):
+    """The test of a crate that fails with each of these bodies, or None, by the body, for those that can be built."""
+    found, alone = {}, [body for body in bodies if not can_share(body, root)]
+    shared = [body for body in bodies if body not in alone]
+    try:
+        with tempfile.TemporaryDirectory(prefix="review-") as room:
+            made = SharedBuild(crate, shared, root, Path(room)) if shared else None
+            own = made.program(0) if made else None
             for number, body in enumerate(shared, 1):
-                found[body.name] = first_failure(built.program(number))
-    for body in bodies:
-        if body not in shared:
-            with tempfile.TemporaryDirectory(prefix="review-") as room, applied(body, root):
-                found[body.name] = first_failure(build(root / "crates" / crate, Path(room)))
+                found[body] = failure(made.program(number), own)
+    except CANT_BUILD:
+        alone += [body for body in shared if body not in found]
+    for body in alone:
+        try:
+            with tempfile.TemporaryDirectory(prefix="review-") as room, tempfile.TemporaryDirectory(prefix="review-") as other:
+                own = build(root / "crates" / crate, Path(other))
+                with applied(body, root):
+                    found[body] = failure(build(root / "crates" / crate, Path(room)), own)
+        except CANT_BUILD as why:
+            review.not_checked(body, f"it can't be built for the tests of {crate}: {why}")
     return found
 
 
 def seeing(listed, crate):
-    """The crates whose tests are to see a body of this crate: itself, where it has none those that name it, and else those that stand on
-    it."""
+    """The crates whose tests are to see a body of this crate: itself, where it has some, those that name it, and where there is none of
+    these, those that stand on it."""
     tested = [name for name in listed if has_tests(name)]
-    if crate in tested:
-        return [crate]
-    naming = [name for name in tested if crate in listed[name]]
+    naming = [name for name in tested if name == crate or crate in listed[name] or name in SEEN_BY.get(crate, ())]
     return naming or [name for name in tested if crate in stands_on(listed, name)]
 
 
-def held_by_nothing(bodies, root):
+def seen_by_clients(body, root):
+    """What tools/clients.py says is wrong with the library that has this body, or None."""
+    with tempfile.TemporaryDirectory(prefix="review-") as room, applied(body, root):
+        status, said = said_by(root / "tools" / "c_library.sh", room, folder=root)
+        if status:
+            raise OSError(f"the library with it isn't built: {said}")
+        status, said = said_by(root / "tools" / "clients.py", "--library", room, folder=root)
+    return next((line for line in said.splitlines() if "WRONG" in line), "tools/clients.py") if status else None
+
+
+def held_by_nothing(bodies, root, review):
     """Runs the tests that are to see each body with it. The bodies that pass all of them."""
     listed, left = crates_listed(), list(bodies)
     for crate in listed:
         seen = [body for body in left if crate in seeing(listed, body.crate)]
-        for name, test in (failures(crate, seen, root) if seen else {}).items():
+        for body, test in (failures(crate, seen, root, review) if seen else {}).items():
             if test:
-                body = next(body for body in left if body.name == name)
-                print(f"{body}: proved, and the test {test} of {crate} fails", flush=True)
+                review.held(body, f"proved, and the test {test} of {crate} fails")
                 left.remove(body)
-    return left
+    for body in [body for body in left if body.crate == LIBRARY]:
+        try:
+            wrong = seen_by_clients(body, root)
+        except OSError as why:
+            review.not_checked(body, why)
+            continue
+        if wrong:
+            review.held(body, f"proved, and a client sees it: {wrong[:SAID]}")
+            left.remove(body)
+    return [body for body in left if body not in review.unchecked]
 
 
 def main():
     if len(sys.argv) != 2:
         sys.exit(__doc__)
-    try:
-        bodies = read_bodies(Path(sys.argv[1]))
-        with tempfile.TemporaryDirectory(prefix="review-") as room:
-            root = copy_with_work(Path(room) / "copy", {body.crate for body in bodies})
-            left = [body for batch in batches(bodies) for body in prove(batch, root)]
-            proved = [body for body in left if prove_alone(body, root)]
-            unheld = held_by_nothing(proved, root)
-    except (BadEdit, NotBuilt, OSError, subprocess.CalledProcessError) as why:
-        sys.exit(f"review: {why}")
-    print(f"review: {len(bodies)} bodies, {len(unheld)} that nothing holds{':' if unheld else ''}")
-    for body in unheld:
+    review = Review()
+    bodies = read_bodies(Path(sys.argv[1]))
+    found = [body for crate, pairs in in_crates(bodies, review).items() for body in proved(crate, pairs, review)]
+    with tempfile.TemporaryDirectory(prefix="review-") as room:
+        root = copy_with_work(Path(room) / "copy", {body.crate for body in found})
+        review.unheld = held_by_nothing(found, root, review)
+    what = f"{len(bodies)} bodies, {len(review.unheld)} that nothing holds, {len(review.unchecked)} not checked"
+    print(f"review: {what}{':' if review.unheld else ''}")
+    for body in review.unheld:
         print(f"  {body}")
-    return 1 if unheld else 0
+    return 1 if review.unheld or review.unchecked else 0
 
 
 if __name__ == "__main__":

@@ -17,13 +17,11 @@ An edit can share where it changes no more than what stands between the braces o
 """
 
 import contextlib
-import re
 import subprocess
 
-from edits import edited, replaced
+from edits import FUNCTION, edited, replaced
 from unproved import compiler, kit, link, object_of
 
-FUNCTION = re.compile(r"( *)(?:pub(?:\([a-z ]+\))? )?(?:unsafe )?fn ")
 SWITCH = 'unsafe extern "C" {\n    safe fn wrong_body() -> u32;\n}\n'
 ANSWER = "unsigned wrong_body(void) {{ return {number}; }}\n"
 
@@ -52,7 +50,8 @@ def bodies(lines):
     """The lines that open and close the bodies of the functions in these lines."""
     at = 0
     while at < len(lines):
-        found = braces(lines, at) if FUNCTION.match(lines[at]) else None
+        # (a constant function can ask nothing of C)
+        found = braces(lines, at) if FUNCTION.match(lines[at]) and "const fn " not in lines[at] else None
         if found:
             yield found
             at = found[1]

@@ -8,7 +8,7 @@ import tempfile
 from pathlib import Path
 
 from static_forms import MANY, MOST_PACKED, MOST_PRODUCT, Listed, Name, Packed, Refused, Tables, read
-from static_type import TOP, alias_of, listed_of, names_of, tables_of
+from static_type import TOP, alias_of, listed_of, names_of
 
 CRATES = TOP / "crates"
 
@@ -68,16 +68,38 @@ NAMES = [
 PAIR = b"minestrone\nsoup \"du jour\" \\ bread\tSOUP\n"
 TABLES = "key 2\ndisp 0 1\natom a88f6f8b8dd470e4 soup \"du jour\" \\ bread\natom 89ec7caec7b87cfe minestrone\n"
 
-# A stand-in for the program, which places names under the key 2 alone.
+# Two names of which the second is inline, with the table texts of the first alone and of both.
+SHORT = b"gazpacho\nborscht\n"
+FIRST = "key 0\ndisp 0 0\natom 7c545eca6c1fbede gazpacho\n"
+BOTH = "key 0\ndisp 0 0\natom 15bc07bc217f8d90 borscht\natom 7c545eca6c1fbede gazpacho\n"
+
+# What a stand-in for the program prints of texts under the keys that place them, and the stand-in.
+PRINTED = {
+    "".join(f"{name.text}\n" for name in names_of(PAIR)).encode(): {"2": TABLES, "5": TABLES.replace("key 2", "key 5")},
+    b"gazpacho\n": {"0": FIRST},
+    SHORT: {"0": BOTH},
+}
 PROGRAM = f"""#!{sys.executable}
 import sys
-given = sys.stdin.buffer.read()
-if given != {"".join(f"{name.text}{chr(10)}" for name in names_of(PAIR)).encode()!r}:
+printed = {PRINTED!r}.get(sys.stdin.buffer.read())
+if printed is None:
     sys.exit("atoms: other texts")
-if sys.argv[1:] != ["generate", "2", "1024"]:
+if sys.argv[1::2] != ["generate", "1024"] or sys.argv[2] not in printed:
     sys.exit("atoms: no tables within the bound")
-sys.stdout.buffer.write({TABLES.encode()!r})
+sys.stdout.buffer.write(printed[sys.argv[2]].encode())
 """
+
+# Whole calls: the arguments, the input, what stands in the module and what doesn't.
+BORSCHT = "    pub const BORSCHT: u64 = 0x7468_6373_726f_6271;"
+WRITTEN = [
+    ([], PAIR, ["key: 2,", "pub type Soup<'s> = Atom<'s, Soups>;", "Some(Soup::try_static(text)?"], ["key: 5,"]),
+    (["--packed"], PAIR, ["key: 2,", "pub type Soup<'s> = Atom<'s, Soups>;"], ["key: 5,"]),
+    (["--alias", "Bowl"], PAIR, ["pub type Bowl<'s> = Atom<'s, Soups>;", "Some(Bowl::try_static(text)?"], ["Soup<'s>", "Soup::"]),
+    (["--alias", "Bowl", "--packed"], PAIR, ["pub type Bowl<'s> = Atom<'s, Soups>;"], ["Soup<'s>"]),
+    ([], SHORT, ['atoms: &["gazpacho"],', BORSCHT, "GAZPACHO: u64 = 0x0000_0000_0000_0002;"], ['"borscht"]']),
+    (["--short"], SHORT, ['atoms: &["borscht", "gazpacho"],', BORSCHT, "GAZPACHO: u64 = 0x0000_0001_0000_0002;"], []),
+    (["--short", "--packed"], SHORT, ['SOUPS_TEXT: &str = "borschtgazpacho";', "SOUPS_SPANS: [(u32, u32); 2] = ", BORSCHT], []),
+]
 
 # Whole calls that are refused: the arguments behind the program and the crate, the input, and a part of what is said.
 CALLS = [
@@ -192,6 +214,14 @@ def wrong_module(crate, program, form, args, data):
     return None if is_laid else f"rt fmt changes what {args} writes: {laid.stdout.decode()}{laid.stderr.decode()}"
 
 
+def wrong_text(crate, program, args, data, has, lacks):
+    """What is wrong in a call whose module has to have some texts, as they are written here, and not to have others."""
+    ran = call(crate, program, [*args, "Soups"], data)
+    text = (crate / "src" / "soups.rt").read_text(encoding="utf-8") if ran.returncode == 0 else ""
+    wrong = [it for it in has if it not in text] + [it for it in lacks if it in text]
+    return f"{args} of {data} has the status {ran.returncode}, and {wrong} wrong: {ran.stderr.decode()}" if wrong or not text else None
+
+
 def wrong_calls():
     """What is wrong in whole calls, over a stand-in for the program."""
     with small_crate() as (crate, program):
@@ -203,8 +233,8 @@ def wrong_calls():
             (Listed, [], PAIR), (Packed, ["--packed"], PAIR), (Listed, ["--tables"], TABLES.encode()), (Packed, ["--packed", "--tables"], TABLES.encode()),
         ]:
             yield wrong_module(crate, program, form, args, data)
-        first = tables_of([name.text for name in names_of(PAIR)], 1024, program)
-        yield None if first == TABLES else f"the tables under the first key that has some are {first!r}"
+        for row in WRITTEN:
+            yield wrong_text(crate, program, *row)
 
 
 def wrong_files():

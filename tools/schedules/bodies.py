@@ -1,7 +1,7 @@
 """Wrong bodies that the tester of schedules has to find, as they are kept in crates/NAME/scheduled/*.edit (tools/edits.py reads them).
 
 The first line of such a file is `scene: NAME`, which names the scene that shows the body to be wrong. Each body is built from a copy of
-the repository, with the checks of rt try, and its scene is searched with no preemption, one and two, until an outcome is wrong.
+the repository, with the checks of rt try, and its scene is searched as it is without the body, until an outcome is wrong.
 """
 
 import shutil
@@ -11,7 +11,7 @@ from pathlib import Path
 
 from build import CantBuild, build
 from edits import BadEdit, applied, read_edit
-from explore import Search, explore
+from explore import Search, explore, searches_of
 from picture import print_schedule
 
 # Those that the gate tries: one for each way in which a wrong outcome shows.
@@ -27,7 +27,7 @@ GUARDS = (
 
 def search_body(program, scene, is_shown):
     """Whether an outcome of the scene is wrong, and what to say. Prints the steps of the first one, where that is asked for."""
-    for how in map(Search, range(3)):
+    for how in searches_of(scene):
         found, wrong = explore(program, scene, how)
         if found.error:
             return False, found.error

@@ -1,11 +1,13 @@
 """Runs a built program over the schedules of a scene, and judges each outcome."""
 
+import re
 import subprocess
 from dataclasses import dataclass, field
 
 from history import Call, is_explained
 
 SECONDS = 600  # for one search
+MOST = 60_000  # schedules with more than two preemptions: such a search may be cut
 
 
 @dataclass(frozen=True)
@@ -41,9 +43,16 @@ class Search:
         return ("by order" if self.is_by_order else f"K={self.preemptions}") + refused
 
 
-def overlap(calls):
-    """Whether two of the calls, of different threads, overlap."""
-    return any(one.thread != other.thread and one.begun <= other.ended and other.begun <= one.ended for one in calls for other in calls)
+def searches_of(scene):
+    """The searches of a scene, the smallest first."""
+    found = [Search(k) for k in range(3)]
+    if scene.is_by_order:
+        found.append(Search(is_by_order=True))
+    if scene.has_refusals:
+        found.append(Search(2, refusals=1))
+    if scene.deep > 2:
+        found.append(Search(scene.deep, most=MOST))
+    return found
 
 
 @dataclass
@@ -59,19 +68,29 @@ class Outcome:
         words = [line.split(" ") for line in self.lines[:-2]]
         return [Call(int(w[0]), w[1], w[2], int(w[3]), int(w[4]), w[5], int(w[6])) for w in words]
 
-    def wrong(self, limits):
-        """What is wrong with it, or None."""
+    def wrong(self, scene, refusals):
+        """What is wrong with it, as one of the scene in which this many requests for memory may be refused, or None."""
         _, status, _, blocks, why = self.lines[-1].split(" ", 4)
         if why or status != "0" or blocks != "0":
             return why or f"it ends with status {status}, and leaves {blocks} blocks"
-        if not self.lines[-2].startswith("linked ") or not self.lines[-2].endswith(" left 0"):
-            return f"a sweep leaves entries: {self.lines[-2]}"
+        said = self.lines[-2] if self.lines[1:] else "nothing"
+        end = re.fullmatch(r"linked (\d+) left 0", said)
+        if not end:
+            return f"a sweep leaves entries, or that it leaves none isn't said: {said}"
+        return self.wrong_calls(scene, scene.limits(refusals), int(end[1]))
+
+    def wrong_calls(self, scene, limits, linked):
+        """What is wrong with its calls, behind which so many entries are linked, or None."""
         calls = self.calls()
         if any(call.answer == "other-text" for call in calls):
             return "an atom has another text than its own"
-        if not overlap(calls) and not self.lines[-2].startswith("linked 0 "):
-            return f"no two calls overlap, and yet a text without holders isn't taken out: {self.lines[-2]}"
-        return None if is_explained(calls, limits) else "no order of these calls is one map's"
+        if not scene.is_made(calls):
+            return "these aren't the calls of the scene"
+        end = max((call.ended for call in calls), default=0) + 1
+        if is_explained([*calls, Call(0, "linked", "-", end, end, "linked", linked)], limits):
+            return None
+        is_map = is_explained(calls, limits)
+        return f"a text without holders isn't taken out: linked {linked}" if is_map else "no order of these calls is one map's"
 
 
 @dataclass
@@ -109,7 +128,9 @@ def explore(program, scene, how):
     """Searches the schedules of a scene: what was found, and the first wrong outcome with what is wrong with it, or None."""
     found = search(program, how.words(), scene.arguments())
     for outcome in found.outcomes:
-        wrong = outcome.wrong(scene.limits(how.refusals))
+        kept = (how.refusals, *outcome.lines)
+        wrong = None if kept in scene.well else outcome.wrong(scene, how.refusals)
         if wrong:
             return found, (outcome, wrong)
+        scene.well.add(kept)
     return found, None

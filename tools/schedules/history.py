@@ -1,15 +1,34 @@
-"""Whether the answers of some calls on a set are those of one map from text to ticket and holders, in some order of the calls."""
+"""Whether the answers of some calls on a set are those of one map from text to ticket and holders, in some order of the calls.
 
-from dataclasses import dataclass
+Beside the map stands what may be linked though nobody holds it. A last drop takes its entry out, but where another call had the lock of its
+bucket; then the next pass over the bucket does, unless it had begun before the drop ended.
+"""
+
+from typing import NamedTuple
 
 MEMORY, FULL_COUNT, TICKETS_SPENT = 1, 2, 3  # the numbers of the faults
 
 # The low bits of the texts' hashes, by SipHash: they give the bucket.
-HASHES = {"forgotten": 0x72F, "magnitude": 0x72F, "afterwards": 0, "geometric": 0xFFF, "FORGOTTEN": 0xCF5, "MAGNITUDE": 0x9D8}
+HASHES = {
+    "forgotten": 0x72F,
+    "magnitude": 0x72F,
+    "afterwards": 0,
+    "geometric": 0xFFF,
+    "FORGOTTEN": 0xCF5,
+    "MAGNITUDE": 0x9D8,
+    "AFTERWARDS": 0x924,
+    "GEOMETRIC": 0x1F1,
+}
+
+WALKS = ("linked", "visit")  # they go over the buckets one after another, and leave each as it is
+
+# What a call may answer; all others give an atom or are refused.
+ANSWERS = {"linked": ("linked",), "visit": ("visited",), "sweep": ("nothing",), "memory": ("nothing",), "drop": ("ticket",)}
+ANSWERS["find"] = ("ticket", "fault", "absent")
+GIVES = ("ticket", "fault")
 
 
-@dataclass(frozen=True)
-class Limits:
+class Limits(NamedTuple):
     """The limits of a set and its number of buckets, and how many requests for memory were refused at most."""
 
     holders: int = 9
@@ -17,9 +36,11 @@ class Limits:
     bits: int = 0
     refusals: int = 0
 
+    def bucket_of(self, text):
+        return HASHES[text] % 2**self.bits
 
-@dataclass(frozen=True)
-class Call:
+
+class Call(NamedTuple):
     """A call and its answer. It ended before another began exactly where `ended` is below the other's `begun`."""
 
     thread: int
@@ -29,56 +50,148 @@ class Call:
     ended: int
     answer: str
     number: int
+    bucket: int = 0  # of a part of a walk
+    is_end: bool = True  # it is no part, or the last one
+    may_leave: bool = False  # of a drop: where it is the last, it may leave its entry linked
+
+    def overlaps(self, other):
+        return self.begun <= other.ended and other.begun <= self.ended
+
+    def atoms_text(self):
+        """The text of the atom that it gives, or takes."""
+        return self.text.upper() if self.name == "upper" else self.text.lower() if self.name == "lower" else self.text
+
+    def is_clone(self):
+        return self.name == "clone" or self.name in ("upper", "lower") and self.atoms_text() == self.text
+
+    def takes_lock(self, bucket, limits):
+        """Whether it may take the lock of the bucket."""
+        if self.name in (*WALKS, "sweep", "memory"):
+            return True
+        return not self.is_clone() and limits.bucket_of(self.atoms_text()) == bucket
+
+    def fault(self):
+        return self.number if self.answer == "fault" else None
 
 
-@dataclass(frozen=True)
-class Map:
-    """Held texts with ticket and holders, and the last serial of each bucket that has given one."""
+class Map(NamedTuple):
+    """Held texts with ticket and holders, the last serial of each bucket that has given one, and how many requests for memory were
+    refused; the last drops whose entries may be linked; and of each thread in a walk how many entries it has met, at least and at most."""
 
     held: frozenset = frozenset()
     last: frozenset = frozenset()
+    refused: int = 0
+    dying: frozenset = frozenset()
+    walks: frozenset = frozenset()
+
+    def of(self, text):
+        """The ticket and the number of holders of a text."""
+        for it, ticket, holders in self.held:
+            if it == text:
+                return ticket, holders
+        return None, 0
 
     def with_held(self, text, ticket, holders):
         others = frozenset(it for it in self.held if it[0] != text)
-        return Map(others | {(text, ticket, holders)} if holders else others, self.last)
+        return self._replace(held=others | {(text, ticket, holders)} if holders else others)
+
+    def without_dying(self, is_out):
+        return self._replace(dying=frozenset(drop for drop in self.dying if not is_out(drop))) if self.dying else self
+
+
+def after_walk(state, call, limits):
+    """The map after a part of a walk, which meets what is held in its bucket, and may meet what is dying there."""
+    held = sum(limits.bucket_of(text) == call.bucket for text, _, _ in state.held)
+    dying = sum(limits.bucket_of(drop.text) == call.bucket for drop in state.dying)
+    least, most = next(((least, most) for thread, least, most in state.walks if thread == call.thread), (0, 0))
+    least, most = least + held, most + held + dying
+    others = frozenset(it for it in state.walks if it[0] != call.thread)
+    if not call.is_end:
+        return state._replace(walks=others | {(call.thread, least, most)})
+    return state._replace(walks=others) if least <= call.number <= most else None
+
+
+def after_drop(state, call):
+    ticket, holders = state.of(call.text)
+    if not holders or call.number != ticket:
+        return None
+    new = state.with_held(call.text, ticket, holders - 1)
+    return new._replace(dying=new.dying | {call}) if holders == 1 and call.may_leave else new
+
+
+def after_share(state, call, text, limits):
+    """The map after one holder more of a text that is held."""
+    ticket, holders = state.of(text)
+    if holders >= limits.holders:
+        return state if call.fault() == FULL_COUNT else None
+    is_right = holders and call.answer == "ticket" and call.number == ticket
+    return state.with_held(text, ticket, holders + 1) if is_right else None
+
+
+def after_link(state, call, text, limits):
+    """The map after a new entry of a text that isn't held."""
+    last, bucket = dict(state.last), limits.bucket_of(text)
+    serial = last.get(bucket, 0) + 1
+    if serial > limits.serials:
+        return state if call.fault() == TICKETS_SPENT else None
+    if call.fault() == MEMORY and state.refused < limits.refusals:
+        return state._replace(refused=state.refused + 1)
+    if call.answer != "ticket" or call.number != serial << 16 | bucket << 2:
+        return None
+    return state._replace(last=frozenset({**last, bucket: serial}.items())).with_held(text, call.number, 1)
+
+
+def after_pass(state, call, text, limits):
+    """The map after a call that goes over the bucket of its text: each entry of this text that is dying is taken out, and so is each other
+    one whose drop had ended."""
+    bucket = limits.bucket_of(text)
+    state = state.without_dying(lambda drop: drop.text == text or drop.ended < call.begun and limits.bucket_of(drop.text) == bucket)
+    if state.of(text)[1]:
+        return after_share(state, call, text, limits)
+    if call.name == "find":
+        return state if call.answer == "absent" else None
+    return after_link(state, call, text, limits)
 
 
 def after(state, call, limits):
     """The map after the call, or None where the map answers the call otherwise."""
-    held = {text: (ticket, holders) for text, ticket, holders in state.held}
-    fault = call.number if call.answer == "fault" else None
-    if call.name in ("sweep", "memory"):
-        return state
-    if call.answer == "strange":
+    if call.answer not in ANSWERS.get(call.name, GIVES):
         return None
-    if call.name in ("linked", "visit"):  # dropped texts may be linked still, and what several buckets have isn't read at once
-        return state if limits.bits or len(held) <= call.number <= sum(serial for _, serial in state.last) else None
-    text = {"upper": call.text.upper(), "lower": call.text.lower()}.get(call.name, call.text)
-    ticket, holders = held.get(text, (None, 0))
+    if call.name == "memory":
+        return state
+    if call.name == "sweep":
+        return state.without_dying(lambda drop: drop.ended < call.begun)
+    if call.name in WALKS:
+        return after_walk(state, call, limits)
     if call.name == "drop":
-        return state.with_held(text, ticket, holders - 1) if holders and call.number == ticket else None
-    if holders >= limits.holders:
-        return state if fault == FULL_COUNT else None
-    if holders:
-        return state.with_held(text, ticket, holders + 1) if fault is None and call.number == ticket else None
-    if call.name == "find":
-        return state if call.answer == "absent" else None
-    if call.name == "clone" or text == call.text and call.name in ("upper", "lower"):
-        return None  # it is made on an atom, which is held
-    last, bucket = dict(state.last), HASHES[text] % 2**limits.bits
-    serial = last.get(bucket, 0) + 1
-    if serial > limits.serials:
-        return state if fault == TICKETS_SPENT else None
-    if fault == MEMORY and limits.refusals:
-        return state
-    if fault is not None or call.number != serial << 16 | bucket << 2:
-        return None
-    return Map(state.held, frozenset({**last, bucket: serial}.items())).with_held(text, call.number, 1)
+        return after_drop(state, call)
+    if call.is_clone():  # it is made on an atom, which is held
+        return after_share(state, call, call.text, limits)
+    return after_pass(state, call, call.atoms_text(), limits)
+
+
+def may_leave(drop, calls, limits):
+    """Whether another call may have had the lock of the drop's bucket while it tried."""
+    bucket = limits.bucket_of(drop.text)
+    return any(it.thread != drop.thread and it.overlaps(drop) and it.takes_lock(bucket, limits) for it in calls)
+
+
+def steps_of(calls, limits):
+    """The calls, but that a walk is a part for each bucket that may have entries, and that a drop tells whether it may leave its entry."""
+    buckets = sorted({limits.bucket_of(call.atoms_text()) for call in calls if call.text in HASHES}) or [0]
+    for call in calls:
+        if call.name in WALKS:
+            yield from (call._replace(bucket=bucket, is_end=bucket == buckets[-1]) for bucket in buckets)
+        elif call.name == "drop" and may_leave(call, calls, limits):
+            yield call._replace(may_leave=True)
+        else:
+            yield call
 
 
 def is_explained(calls, limits):
     """Whether some order of the calls, in which one that ended before another began comes before it, is one map's from the empty map."""
-    seen, left = set(), [(frozenset(range(len(calls))), Map())]
+    steps = list(steps_of(calls, limits))
+    seen, left = set(), [(frozenset(range(len(steps))), Map())]
     while left:
         at = left.pop()
         if at in seen:
@@ -87,11 +200,11 @@ def is_explained(calls, limits):
         to_come, state = at
         if not to_come:
             return True
-        first_end = min(calls[n].ended for n in to_come)
+        first_end = min(steps[n].ended for n in to_come)
         for n in to_come:
-            if calls[n].begun > first_end or any(m < n and calls[m].thread == calls[n].thread for m in to_come):
+            if steps[n].begun > first_end or any(m < n and steps[m].thread == steps[n].thread for m in to_come):
                 continue
-            new = after(state, calls[n], limits)
+            new = after(state, steps[n], limits)
             if new is not None:
                 left.append((to_come - {n}, new))
     return False

@@ -2,7 +2,9 @@
 
 import unittest
 
-from history import FULL_COUNT, MEMORY, TICKETS_SPENT, Call, Limits, is_explained
+from explore import Outcome
+from history import FULL_COUNT, HASHES, MEMORY, TICKETS_SPENT, Call, Limits, is_explained
+from scenes import TEXTS, read_scenes
 
 FIRST, SECOND = 1 << 16, 2 << 16
 
@@ -15,8 +17,12 @@ def intern(thread, begun, ended, number, answer="ticket", text="forgotten"):
     return call(thread, begun, ended, "intern", text, number, answer)
 
 
-def drop(thread, begun, ended, number):
-    return call(thread, begun, ended, "drop", "forgotten", number)
+def drop(thread, begun, ended, number, text="forgotten"):
+    return call(thread, begun, ended, "drop", text, number)
+
+
+def linked(thread, begun, ended, number):
+    return call(thread, begun, ended, "linked", "-", number, "linked")
 
 
 class Histories(unittest.TestCase):
@@ -69,6 +75,12 @@ class Histories(unittest.TestCase):
         self.wrong(intern(1, 0, 0, FIRST), refused)
         self.wrong(intern(1, 0, 0, FIRST), intern(2, 1, 1, MEMORY, "fault"), refusals=1)
 
+    def test_memory_comes_no_more_often_than_it_was_refused(self):
+        both = intern(1, 0, 0, MEMORY, "fault"), intern(2, 1, 1, MEMORY, "fault", text="magnitude")
+        self.well(*both, refusals=2)
+        self.wrong(*both, refusals=1)
+        self.wrong(intern(1, 0, 0, MEMORY, "fault"), intern(2, 1, 1, FIRST), intern(2, 2, 2, MEMORY, "fault", text="magnitude"), refusals=1)
+
     def test_the_other_case_is_another_text(self):
         self.well(intern(1, 0, 0, FIRST), call(1, 1, 1, "upper", "forgotten", SECOND))
         self.wrong(intern(1, 0, 0, FIRST), call(1, 1, 1, "upper", "forgotten", FIRST))
@@ -94,9 +106,111 @@ class Histories(unittest.TestCase):
         self.wrong(intern(1, 0, 0, FIRST), call(2, 1, 1, "visit", "-", 1, "strange"))
 
     def test_all_that_are_held_are_linked(self):
-        count = call(2, 1, 1, "linked", "-", 0, "linked")
-        self.wrong(intern(1, 0, 0, FIRST), count)
-        self.well(intern(1, 0, 0, FIRST), drop(1, 1, 1, FIRST), count)
+        self.wrong(intern(1, 0, 0, FIRST), linked(2, 1, 1, 0))
+        self.well(intern(1, 0, 0, FIRST), drop(1, 1, 1, FIRST), linked(2, 1, 1, 0))
+
+    def test_what_several_buckets_have_is_counted(self):
+        both = intern(1, 0, 0, FIRST, text="afterwards"), intern(1, 1, 1, FIRST | 15 << 2, text="geometric")
+        for name, answer in (("linked", "linked"), ("visit", "visited")):
+            self.well(*both, call(2, 2, 2, name, "-", 2, answer), bits=4)
+            self.wrong(*both, call(2, 2, 2, name, "-", 1, answer), bits=4)
+            self.wrong(*both, call(2, 2, 2, name, "-", 3, answer), bits=4)
+
+    def test_buckets_are_counted_one_after_another(self):
+        self.well(intern(1, 0, 0, FIRST, text="afterwards"), drop(1, 1, 1, FIRST, text="afterwards"), linked(2, 0, 1, 1), bits=4)
+        moved = intern(1, 1, 1, FIRST | 15 << 2, text="geometric"), drop(1, 2, 2, FIRST | 15 << 2, text="geometric")
+        self.well(*moved, intern(1, 3, 3, FIRST, text="afterwards"), linked(2, 0, 9, 0), bits=4)
+        moved = intern(1, 1, 1, FIRST, text="afterwards"), intern(1, 2, 2, FIRST | 15 << 2, text="geometric")
+        self.well(*moved, linked(2, 0, 9, 1), bits=4)  # the first came behind the walk
+        self.wrong(intern(1, 0, 0, FIRST, text="afterwards"), moved[1], linked(2, 1, 9, 0), bits=4)
+
+    def test_a_last_drop_takes_its_entry_out(self):
+        ended = intern(1, 0, 0, FIRST), drop(1, 1, 1, FIRST)
+        self.wrong(*ended, linked(2, 2, 2, 1))
+        self.wrong(*ended, call(2, 2, 2, "visit", "-", 1, "visited"))
+        self.wrong(*ended, call(2, 0, 1, "clone", "forgotten", FIRST), drop(2, 2, 2, FIRST), linked(2, 3, 3, 1))  # clones take no lock
+
+    def test_a_last_drop_leaves_its_entry_where_the_lock_was_taken(self):
+        left = intern(1, 0, 0, FIRST), drop(1, 2, 4, FIRST), call(2, 1, 3, "memory", "-", 0, "nothing")
+        self.well(*left, linked(2, 5, 5, 1))
+        self.well(*left, linked(2, 5, 5, 0))
+        self.wrong(*left, linked(2, 5, 5, 2))
+        self.wrong(intern(1, 0, 0, FIRST), drop(1, 2, 2, FIRST), left[2], linked(2, 5, 5, 1), linked(2, 6, 6, 2))
+
+    def test_a_last_drop_of_another_bucket_takes_its_entry_out(self):
+        ended = intern(1, 0, 0, FIRST, text="afterwards"), drop(1, 2, 4, FIRST, text="afterwards")
+        self.wrong(*ended, intern(2, 1, 3, FIRST | 15 << 2), linked(2, 5, 5, 2), bits=4)
+        self.well(*ended, intern(2, 1, 3, FIRST | 15 << 2), linked(2, 5, 5, 1), bits=4)
+
+    def test_the_next_pass_takes_out_what_was_left(self):
+        left = intern(1, 0, 0, FIRST), drop(1, 2, 4, FIRST), call(2, 1, 3, "memory", "-", 0, "nothing")
+        for begun, most in ((4, 1), (5, 0)):  # a sweep that had begun may have passed the entry
+            sweep = call(2, begun, 6, "sweep", "-", 0, "nothing")
+            self.well(*left, sweep, linked(2, 7, 7, most))
+            self.wrong(*left, sweep, linked(2, 7, 7, most + 1))
+        self.wrong(*left, intern(2, 5, 6, SECOND, text="magnitude"), linked(2, 7, 7, 2))
+        self.wrong(*left, intern(2, 4, 6, SECOND), linked(2, 7, 7, 2))  # the text is looked for, and its entry is dying
+
+    def test_a_call_answers_in_its_own_way(self):
+        self.wrong(intern(1, 0, 0, FIRST, "absent"))
+        self.wrong(intern(1, 0, 0, FIRST), call(1, 1, 1, "clone", "forgotten", FIRST, "absent"))
+        self.wrong(intern(1, 0, 0, FIRST), call(1, 1, 1, "linked", "-", 1, "visited"))
+        self.wrong(call(1, 0, 0, "sweep", "-", 0, "linked"))
+
+    def test_each_text_has_a_bucket(self):
+        self.assertEqual(set(HASHES), set(TEXTS))
+        self.well(intern(1, 0, 0, FIRST, text="AFTERWARDS"), call(1, 1, 1, "lower", "AFTERWARDS", SECOND))
+        self.well(intern(1, 0, 0, FIRST, text="GEOMETRIC"), call(1, 1, 1, "lower", "GEOMETRIC", SECOND))
+
+
+SCENE = """scene: a clone and a sweep
+thread: intern forgotten | clone upper
+thread: | find afterwards drop sweep
+"""
+
+# What the program may print of it, in a schedule without a switch.
+LINES = """1 intern forgotten 0 1 ticket 65536
+1 clone forgotten 2 3 ticket 65536
+1 upper forgotten 4 5 ticket 131072
+1 drop FORGOTTEN 6 7 ticket 131072
+1 drop forgotten 8 9 ticket 65536
+1 drop forgotten 10 11 ticket 65536
+2 find afterwards 12 13 absent 0
+2 sweep - 14 15 nothing 0
+linked 0 left 0
+status 0 blocks 0 """
+
+
+class Outcomes(unittest.TestCase):
+    def wrong(self, old="", new=""):
+        """What is wrong with the lines, of which one text is replaced."""
+        return Outcome(1, "", LINES.replace(old, new).split("\n")).wrong(read_scenes(SCENE)[0], 0)
+
+    def test_the_calls_are_those_of_the_scene(self):
+        self.assertIsNone(self.wrong())
+        first, *_, sweep, linked, status = LINES.split("\n")
+        second = "\n".join(LINES.split("\n")[6:8])
+        strange = [
+            (LINES, f"{linked}\n{status}"),  # no calls
+            (f"{second}\n", ""),  # none of a thread
+            (f"{sweep}\n", ""),
+            (f"{sweep}\n", f"{sweep}\n2 sweep - 16 17 nothing 0\n"),
+            ("2 find", "2 read"),
+            ("2 find afterwards", "2 find geometric"),
+            ("1 clone forgotten", "1 clone magnitude"),
+            ("1 drop forgotten 10 11 ticket 65536\n", ""),
+            (f"{sweep}\n", f"{sweep}\n3 sweep - 16 17 nothing 0\n"),  # of a third thread
+        ]
+        for old, new in strange:
+            self.assertEqual(self.wrong(old, new), "these aren't the calls of the scene", new)
+
+    def test_it_ends_with_nothing_that_is_left(self):
+        self.assertIn("linked 1", self.wrong("linked 0 left", "linked 1 left"))
+        self.assertIn("left 1", self.wrong("left 0", "left 1"))
+        self.assertIn("status 1", self.wrong("status 0", "status 1"))
+        self.assertIn("2 blocks", self.wrong("blocks 0", "blocks 2"))
+        self.assertIn("nothing", self.wrong(LINES, "status 0 blocks 0 "))
+        self.assertEqual("a block is read once freed", self.wrong(LINES, "status 0 blocks 0 a block is read once freed"))
 
 
 if __name__ == "__main__":

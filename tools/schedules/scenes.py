@@ -9,6 +9,7 @@ FILE = Path(__file__).resolve().parent / "scenes.txt"
 TEXTS = ("forgotten", "magnitude", "afterwards", "geometric", "FORGOTTEN", "MAGNITUDE", "AFTERWARDS", "GEOMETRIC")
 LETTERS = {"clone": "c", "drop": "d", "upper": "u", "lower": "w", "sweep": "s", "linked": "l", "visit": "v", "memory": "m"}
 FIRST_LETTERS = {"intern": "0", "read": "A", "find": "I"}  # of the first text
+ON_ATOM = ("clone", "drop", "upper", "lower")
 
 
 class BadScene(Exception):
@@ -28,13 +29,40 @@ class Scene:
     is_compared: bool = False
     has_refusals: bool = False
     threads: list = field(default_factory=list)  # as the program takes them
-    calls: list = field(default_factory=list)  # of each thread beside the others
+    firsts: list = field(default_factory=list)  # the calls of each thread before any starts
+    calls: list = field(default_factory=list)  # and beside the others
+    well: set = field(default_factory=set)  # outcomes that were judged already, each with the number of refusals
 
     def arguments(self):
         return [str(self.holders), str(self.serials), str(self.bits), *self.threads]
 
     def limits(self, refusals):
         return Limits(self.holders, self.serials, self.bits, refusals)
+
+    def is_made(self, calls):
+        """Whether these are the calls that its threads make, each thread's own in its order."""
+        if not {call.thread for call in calls} <= set(range(1, len(self.threads) + 1)):
+            return False
+        asked = [firsts + beside for firsts, beside in zip(self.firsts, self.calls)]
+        return all(are_made(it, [call for call in calls if call.thread == thread]) for thread, it in enumerate(asked, 1))
+
+
+def are_made(asked, own):
+    """Whether a thread that is asked for these calls makes its own ones, by their answers: none on its newest atom where it has none, and
+    at its end a drop of each that it has."""
+    atoms, left = [], list(own)
+    for call in asked + ["drop"] * len(own):
+        name, _, text = call.partition(" ")
+        if name in ON_ATOM and not atoms:
+            continue
+        made = left.pop(0) if left else None
+        if not made or (made.name, made.text) != (name, text or (atoms[-1] if name in ON_ATOM else "-")):
+            return False
+        if name == "drop":
+            atoms.pop()
+        elif made.answer == "ticket":
+            atoms.append(made.atoms_text())
+    return not left
 
 
 def calls_of(text):
@@ -71,6 +99,7 @@ def read_line(scene, line):
     elif word == "thread" and rest.count("|") == 1:
         first, calls = map(calls_of, rest.split("|"))
         scene.threads.append("/".join("".join(map(letter_of, it)) for it in (first, calls)))
+        scene.firsts.append(first)
         scene.calls.append(calls)
     else:
         raise BadScene(f"'{line}' is no line of a scene{'' if colon else ', which is WORD: ..'}")

@@ -24,27 +24,14 @@ sys.path.append(str(Path(__file__).resolve().parent.parent))
 import history_tests
 from bodies import GUARDS, try_bodies
 from build import CantBuild, build
-from explore import Search, explore, search
+from explore import MOST, Search, explore, search, searches_of
 from picture import print_schedule, print_wrong
 from scenes import BadScene, all_scenes
 
 TOP = Path(__file__).resolve().parent.parent.parent
 PROGRAM = TOP / "crates" / "schedules" / "out" / "scheduled"
 COUNTING = TOP / "crates" / "atoms" / "out" / "scheduled"
-MOST = 60_000  # schedules with more than two preemptions: such a search may be cut
 TEXT = "tokenised forgotten forgotten tokenised\n"  # what two workers count
-
-
-def searches_of(scene):
-    """The searches of a scene, the smallest first."""
-    found = [Search(k) for k in range(3)]
-    if scene.is_by_order:
-        found.append(Search(is_by_order=True))
-    if scene.has_refusals:
-        found.append(Search(2, refusals=1))
-    if scene.deep > 2:
-        found.append(Search(scene.deep, most=MOST))
-    return found
 
 
 def try_scene(program, scene, totals):

@@ -2,6 +2,7 @@
 //! is 0, that a block is really freed, and what threads do to one count.
 ghost use Rattle.std.specs.Prelude.{◌≤◌, ◌<◌, ◌^◌};
 
+use crate::receipts::first_receipt;
 use counted_cell::{AtLimit, CellShare, Ending, Label, Owner, ShareReply};
 use linked_list_allocator::LocalHeap;
 use std::alloc::{AllocError, Allocator, Global};
@@ -23,8 +24,13 @@ impl Drop for ShareGuard {
 impl ShareGuard {
     /// Gives the share back. Whether it was the last.
     fn gives_last(self) -> bool {
+        self.into_share().give().last().is_some()
+    }
+
+    /// The share, which isn't given back.
+    fn into_share(self) -> CellShare {
         let Self { share } = self;
-        share.give().last().is_some()
+        share
     }
 }
 
@@ -38,7 +44,7 @@ enum Answer {
 
 fn reply_answer(reply: ShareReply) -> Answer {
     match reply {
-        ShareReply::Added(share) => Answer::Added(ShareGuard { share }),
+        ShareReply::Added(share, _) => Answer::Added(ShareGuard { share }),
         ShareReply::Dying(_) => Answer::Dying,
         ShareReply::Full(_) => Answer::Full,
     }
@@ -122,6 +128,17 @@ fn replies(rt: HostRuntime) {
     assert!(rt; third.gives_last());
     assert!(rt; owner.dying().is_ok());
     assert!(rt; matches!(reply_answer(owner.add(&rt)), Answer::Dying));
+    assert!(rt; owner.dying().is_ok());
+    assert!(rt; frees(owner));
+}
+
+/// No share is left once both were given back.
+#[test]
+fn both_are_given_back(rt: HostRuntime) {
+    let (owner, first) = make(rt.alloc(), 2, "interned").expect(&rt, "an answer");
+    let second = reply_answer(owner.add(&rt)).share(&rt);
+    assert!(rt; owner.dying().is_err());
+    drop(first_receipt(first.into_share(), second.into_share()));
     assert!(rt; owner.dying().is_ok());
     assert!(rt; frees(owner));
 }

@@ -1,7 +1,8 @@
-//! Tests of chains, packs and counted cells, and nothing else.
+//! Tests of chains, packs and counted cells, with a caller of cells, and nothing else.
 #![tactic(auto)]
 
 #[cfg(test)]
 mod cells;
 #[cfg(test)]
 mod chains;
+pub mod receipts;

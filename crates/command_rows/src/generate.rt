@@ -32,7 +32,7 @@ fn makes_tables_of<R: Threads + Wait + Sync>(
     let Ok(args) = words_of_line(alloc, line) else {
         return false;
     };
-    let answer = answer_of(rt, alloc, &args, &Streams::ample(input));
+    let answer = answer_of(rt, alloc, args, &Streams::ample(input));
     answer.status == 0
         && answer.output.written() == tables.as_bytes()
         && answer.faults.written().is_empty()

@@ -1,7 +1,7 @@
 //! A reader and a writer over memory, for tests: they give or take few bytes a call, fail at a call of choice, and take no
 //! memory themselves.
 
-ghost use Rattle.std.specs.Prelude.{◌≡◌, ◌<◌, ◌≤◌, Some, false};
+ghost use Rattle.std.specs.Prelude.{◌≡◌, ◌<◌, ◌≤◌, None, Some, false};
 
 use std::io;
 use text_streams::streams::{Sink, Source};
@@ -181,5 +181,23 @@ impl Sink for Page {
 
     fn failed(&self) -> bool {
         self.failed
+    }
+}
+
+/// Takes all bytes, and keeps none.
+#[derive(Drop)]
+pub struct Lost;
+
+impl Sink for Lost {
+    ghost contents = { λ _. None };
+
+    ghost has_failed = { λ _. false };
+
+    fn write(&mut self, buf: &[u8]) -> io::Result<usize> {
+        Ok(buf.len())
+    }
+
+    fn failed(&self) -> bool {
+        false
     }
 }

@@ -30,15 +30,16 @@ pub struct Answer {
     pub faults: Page,
 }
 
-pub fn answer_of<R: Threads + Wait + Sync>(
+/// What is run for an outcome of reading the arguments, as `main` does.
+fn ran<R: Threads + Wait + Sync>(
     rt: &R,
     alloc: Global,
-    args: &[String],
+    args: Result<Option<Vec<String>>, AppFault>,
     streams: &Streams,
 ) -> Answer {
     let mut output = streams.writer();
     let mut faults = Page::new(3, 0);
-    let status = program(
+    let status = run(
         rt,
         alloc,
         args,
@@ -51,6 +52,16 @@ pub fn answer_of<R: Threads + Wait + Sync>(
         output,
         faults,
     }
+}
+
+/// What is run for these arguments.
+pub fn answer_of<R: Threads + Wait + Sync>(
+    rt: &R,
+    alloc: Global,
+    args: Vec<String>,
+    streams: &Streams,
+) -> Answer {
+    ran(rt, alloc, Ok(Some(args)), streams)
 }
 
 /// The arguments of a line, parted by single spaces.
@@ -111,7 +122,7 @@ impl Run {
         let Ok(args) = words_of_line(alloc, self.line) else {
             return false;
         };
-        let answer = answer_of(rt, alloc, &args, &Streams::ample(self.input));
+        let answer = answer_of(rt, alloc, args, &Streams::ample(self.input));
         answer.status == self.status
             && answer.output.written() == self.output
             && answer.faults.written() == self.faults
@@ -132,7 +143,12 @@ pub fn try_runs<R: Threads + Wait + Sync + Abort>(rt: &R, alloc: Global, runs: &
 
 #[test]
 fn no_arguments(rt: HostRuntime) {
-    let answer = answer_of(&rt, rt.alloc(), &[], &Streams::ample(EXAMPLE));
+    let answer = answer_of(
+        &rt,
+        rt.alloc(),
+        Vec::new(rt.alloc()),
+        &Streams::ample(EXAMPLE),
+    );
     assert_eq!(rt; answer.status, 2);
     assert!(rt; answer.faults.written() == USAGE);
 }
@@ -176,7 +192,7 @@ fn other_number_of_workers(rt: HostRuntime) {
     let mut args = words_of_line(alloc, "count").expect(&rt, "an answer");
     args.push(String::from_str(alloc, " 1").expect(&rt, "a text"))
         .expect(&rt, "room");
-    let answer = answer_of(&rt, alloc, &args, &Streams::ample(EXAMPLE));
+    let answer = answer_of(&rt, alloc, args, &Streams::ample(EXAMPLE));
     assert_eq!(rt; answer.status, 2);
     assert!(rt; answer.output.written().is_empty());
     assert!(rt; answer.faults.written() == USAGE);
@@ -246,11 +262,11 @@ pub fn failures_are_told<R: Threads + Wait + Sync>(
     };
     let mut writing = Streams::ample(input);
     writing.takes = 0;
-    let Ok(args) = words_of_line(alloc, line) else {
+    let (Ok(args), Ok(same)) = (words_of_line(alloc, line), words_of_line(alloc, line)) else {
         return false;
     };
-    let unread = answer_of(rt, alloc, &args, &reading);
-    let unwritten = answer_of(rt, alloc, &args, &writing);
+    let unread = answer_of(rt, alloc, args, &reading);
+    let unwritten = answer_of(rt, alloc, same, &writing);
     fails_with(&unread, b"atoms: read failed\n") && fails_with(&unwritten, b"atoms: write failed\n")
 }
 
@@ -369,13 +385,22 @@ const NAME_LINE: CommandLine = &[b"atoms"];
 
 const BYTES_LINE: CommandLine = &[b"atoms", b"words", b"\xff"];
 
+/// Lines with the arguments that they give, parted by single spaces.
+const WORD_LINES: [(CommandLine, &str); 3] = [
+    (COUNT_LINE, "count 3"),
+    (&[b"atoms", b"generate", b"0", b"1", b"x"], "generate 0 1 x"),
+    (&[b"atoms", b"", b"words"], " words"),
+];
+
 #[test]
 fn arguments_without_the_name(rt: HostRuntime) {
-    let args = arguments_of(rt.alloc(), COUNT_LINE)
-        .expect(&rt, "an answer")
-        .expect(&rt, "texts");
-    let wanted = words_of_line(rt.alloc(), "count 3").expect(&rt, "an answer");
-    assert!(rt; args.as_slice() == wanted.as_slice());
+    for (line, words) in WORD_LINES {
+        let args = arguments_of(rt.alloc(), line)
+            .expect(&rt, "an answer")
+            .expect(&rt, "texts");
+        let wanted = words_of_line(rt.alloc(), words).expect(&rt, "an answer");
+        assert!(rt; args.as_slice() == wanted.as_slice(), "of {words:?}");
+    }
     for line in [EMPTY_LINE, NAME_LINE] {
         let args = arguments_of(rt.alloc(), line)
             .expect(&rt, "an answer")
@@ -389,30 +414,6 @@ fn arguments_without_the_name(rt: HostRuntime) {
     );
 }
 
-/// What is run for an outcome of reading the arguments. The input isn't a text.
-fn ran<R: Threads + Wait + Sync>(
-    rt: &R,
-    alloc: Global,
-    args: Result<Option<Vec<String>>, AppFault>,
-) -> Answer {
-    let streams = Streams::ample(b"\xff");
-    let mut output = streams.writer();
-    let mut faults = Page::wide();
-    let status = run(
-        rt,
-        alloc,
-        args,
-        &mut streams.reader(),
-        &mut output,
-        &mut faults,
-    );
-    Answer {
-        status,
-        output,
-        faults,
-    }
-}
-
 #[test]
 fn outcomes_of_arguments(rt: HostRuntime) {
     let words = words_of_line(rt.alloc(), "words").expect(&rt, "an answer");
@@ -423,7 +424,7 @@ fn outcomes_of_arguments(rt: HostRuntime) {
         (Ok(None), 2, USAGE),
         (Err(AppFault::Intern(Fault::Memory)), 1, NO_MEMORY),
     ] {
-        let answer = ran(&rt, rt.alloc(), args);
+        let answer = ran(&rt, rt.alloc(), args, &Streams::ample(b"\xff"));
         assert_eq!(rt; answer.status, status);
         assert!(rt; answer.output.written().is_empty());
         assert!(rt; answer.faults.written() == faults);

@@ -12,8 +12,9 @@ ghost use Rattle.commands.specs.TableCommands.{IsTableOutput, IsAnswer, WritesTa
 
 use replay_script::next_line;
 use std::alloc::{AllocError, Global};
-use table_generator::check::check_tables;
-use table_generator::generate::generate;
+pub use table_generator::check::check_tables;
+pub use table_generator::generate::generate;
+pub use table_generator::tables::{GenFault, Tables};
 use text_streams::faults::AppFault;
 use text_streams::streams::{Sink, Source, read_text, write_whole};
 

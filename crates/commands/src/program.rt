@@ -1,16 +1,8 @@
 //! All that the program does, over any reader and writers.
 
-ghost use Rattle.std.specs.Prelude.{◌≡◌, ◌≢◌, ℕ, ◌≤◌, List, codes, false, IfSome, IsErr, IfErr, MatchOption, OnOk, OnErr};
-ghost use Rattle.std.specs.Str.{IsUtf8};
-ghost use Rattle.std.specs.Io.KnownBytes.{Appends};
-ghost use Rattle.text_streams.specs.Streams.{AppendsBeginning};
-ghost use Rattle.word_counts.specs.CountLines.{count_lines};
+ghost use Rattle.std.specs.Prelude.{◌≡◌, ◌≢◌, ℕ, ◌≤◌, codes, false, IfOk, IfSome, IsErr, IfErr, MatchOption, OnOk, OnErr};
 ghost use Rattle.commands.specs.Commands.{AreCheck, AreCount, AreGenerate, AreWords, AreReplay, IsRequest, IsWorkers};
-ghost use Rattle.commands.specs.Replay.{BeginsReplay};
-ghost use Rattle.commands.specs.WordLines.{word_lines};
-ghost use Rattle.commands.specs.TableCommands.{WritesTables, BeginsTables, WritesAnswer, BeginsAnswer};
-ghost use Rattle.replay_script.specs.Replay.{IsReplay};
-ghost use Rattle.string_cache.specs.Tables.{empty_tables};
+ghost use Rattle.commands.specs.Program.{Runs};
 
 use crate::generate::{check_command, generate_command};
 use crate::replay::replay;
@@ -206,36 +198,7 @@ pub fn program<R: Threads + Wait + Sync, S: Source, K: Sink, F: Sink>(
     requires input { S.has_failed input.old ≡ false }
     requires output { K.has_failed output.old ≡ false }
     requires faults { F.has_failed faults.old ≡ false }
-    ensures utf8 { result ≡ 0 → IfSome (S.remaining input.old) IsUtf8 }
-    ensures words { AreWords args.now → result ≡ 0 → IfSome (S.remaining input.old) (λ bytes.
-        Appends (K.contents output.old) (K.contents output.new) (word_lines bytes)) }
-    ensures beginning { AreWords args.now → result ≡ 1 → IfSome (S.remaining input.old) (λ bytes.
-        AppendsBeginning (K.contents output.old) (K.contents output.new) (word_lines bytes)) }
-    ensures status { AreWords args.now → result ≤ 1 }
-    ensures count { (n : ℕ) → AreCount args.now n → result ≡ 0 → IfSome (S.remaining input.old) (λ bytes.
-        Appends (K.contents output.old) (K.contents output.new) (count_lines bytes)) }
-    ensures count_beginning { (n : ℕ) → AreCount args.now n → result ≡ 1 → IfSome (S.remaining input.old) (λ bytes.
-        AppendsBeginning (K.contents output.old) (K.contents output.new) (count_lines bytes)) }
-    ensures count_status { (n : ℕ) → AreCount args.now n → result ≤ 1 }
-    ensures replay { AreReplay args.now → result ≡ 0 → IfSome (S.remaining input.old) (λ bytes.
-        (lines : List ℕ) × IsReplay empty_tables bytes lines
-        × Appends (K.contents output.old) (K.contents output.new) lines) }
-    ensures replay_beginning { AreReplay args.now → result ≡ 1 → IfSome (S.remaining input.old) (λ bytes.
-        BeginsReplay empty_tables bytes (K.contents output.old) (K.contents output.new)) }
-    ensures replay_status { AreReplay args.now → result ≤ 1 }
-    ensures generate { (key bound : ℕ) → AreGenerate args.now key bound → result ≡ 0 → IfSome (S.remaining input.old) (λ bytes.
-        WritesTables key bound bytes (K.contents output.old) (K.contents output.new)) }
-    ensures generate_beginning { (key bound : ℕ) → AreGenerate args.now key bound → result ≡ 1
-        → IfSome (S.remaining input.old) (λ bytes. BeginsTables key bound bytes (K.contents output.old) (K.contents output.new)) }
-    ensures generate_status { (key bound : ℕ) → AreGenerate args.now key bound → result ≤ 1 }
-    ensures check { AreCheck args.now → result ≡ 0 → IfSome (S.remaining input.old) (λ bytes.
-        WritesAnswer bytes (K.contents output.old) (K.contents output.new)) }
-    ensures check_beginning { AreCheck args.now → result ≡ 1 → IfSome (S.remaining input.old) (λ bytes.
-        BeginsAnswer bytes (K.contents output.old) (K.contents output.new)) }
-    ensures check_status { AreCheck args.now → result ≤ 1 }
-    ensures other { ¬ (AreWords args.now) → ((n : ℕ) → ¬ (AreCount args.now n)) → ¬ (AreReplay args.now)
-        → ((key bound : ℕ) → ¬ (AreGenerate args.now key bound)) → ¬ (AreCheck args.now)
-        → (result ≡ 2) × (input.new ≡ input.old) × (output.new ≡ output.old) }
+    ensures { Runs S.remaining K.contents args.now input.old input.new output.old output.new result }
 {
     let Some(command) = command_of(args) else {
         return usage(faults);
@@ -266,6 +229,8 @@ pub fn run<R: Threads + Wait + Sync, S: Source, K: Sink, F: Sink>(
     requires input { S.has_failed input.old ≡ false }
     requires output { K.has_failed output.old ≡ false }
     requires faults { F.has_failed faults.old ≡ false }
+    ensures ran { IfOk args (λ given. IfSome given (λ list.
+        Runs S.remaining K.contents list.items input.old input.new output.old output.new result)) }
     ensures refused { IsErr args → (result ≡ 1) × (input.new ≡ input.old) × (output.new ≡ output.old) }
     ensures usage { args ≡ Ok None → (result ≡ 2) × (input.new ≡ input.old) × (output.new ≡ output.old) }
 {

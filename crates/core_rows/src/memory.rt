@@ -2,9 +2,8 @@
 
 use std::alloc::Global;
 use std::process::Abort;
-use string_cache_core::Fault;
 use string_cache_core::static_sets::EmptyStaticAtomSet;
-use string_cache_core::table::Table;
+use string_cache_core::table::{Names, Table};
 use string_cache_core::word::{Buckets, Limits};
 
 type Plain = Table<EmptyStaticAtomSet>;
@@ -27,32 +26,51 @@ fn takes(table: &Plain, bytes: u128) -> bool {
     table.memory() == bytes
 }
 
-/// The words of texts that are parted by spaces.
-fn words_of(alloc: Global, table: &mut Plain, texts: &str) -> Result<Vec<u64>, Fault> {
-    let mut words = Vec::new(alloc);
+fn interns(table: &mut Plain, text: &str) -> bool {
+    table.intern(text).is_ok()
+}
+
+/// Whether the text has a word, of which a holder goes.
+fn loses(table: &mut Plain, text: &str) -> bool {
+    match table.get(text) {
+        Some(word) => table.release(word),
+        None => false,
+    }
+}
+
+/// Whether all texts, which are parted by spaces, are interned.
+fn are_interned(table: &mut Plain, texts: &str) -> bool {
     for text in texts.split(' ') {
-        words.push(table.intern(text)?)?;
+        if !interns(table, text) {
+            return false;
+        }
     }
-    Ok(words)
+    true
 }
 
-/// The words of as many texts of 15 bytes.
-fn numbered_words(alloc: Global, table: &mut Plain, number: usize) -> Result<Vec<u64>, Fault> {
-    let mut words = Vec::new(alloc);
+/// A text of 15 bytes.
+fn numbered_text(rt: &impl Abort, alloc: Global, number: usize) -> String {
+    format!(in alloc; "the text {number:06}").expect(rt, "a text")
+}
+
+/// Whether as many texts are interned.
+fn interns_numbered(rt: &impl Abort, alloc: Global, table: &mut Plain, number: usize) -> bool {
     for n in 0..number {
-        let text = format!(in alloc; "the text {n:06}")?;
-        words.push(table.intern(text.as_str())?)?;
+        if !interns(table, &numbered_text(rt, alloc, n)) {
+            return false;
+        }
     }
-    Ok(words)
+    true
 }
 
-/// Whether all words are held, and given.
-fn are_given(table: &mut Plain, words: &[u64]) -> bool {
-    let mut are_held = true;
-    for word in words {
-        are_held &= table.release(*word);
+/// Whether as many texts are held, and let go.
+fn loses_numbered(rt: &impl Abort, alloc: Global, table: &mut Plain, number: usize) -> bool {
+    for n in 0..number {
+        if !loses(table, &numbered_text(rt, alloc, n)) {
+            return false;
+        }
     }
-    are_held
+    true
 }
 
 /// Texts, and the bytes of a table of one bucket that holds them. A short text has none, and ten texts have a second group.
@@ -70,8 +88,7 @@ const TEXTS: [(&str, u128); 6] = [
 
 fn has_memory(rt: &impl Abort, alloc: Global, texts: &str, bytes: u128) -> bool {
     let mut table = one_bucket(rt, alloc);
-    let words = words_of(alloc, &mut table, texts).expect(rt, "words");
-    takes(&table, bytes) && !words.is_empty()
+    are_interned(&mut table, texts) && takes(&table, bytes)
 }
 
 #[test]
@@ -81,70 +98,147 @@ fn memory_of_texts(rt: HostRuntime) {
     }
 }
 
-#[test]
-fn memory_of_a_table_as_it_is_made(rt: HostRuntime) {
-    let table: Plain = Table::new(rt.alloc()).expect(&rt, "a table");
-    assert!(rt; takes(&table, 4096 * BUCKET));
+fn takes_as_made(rt: &impl Abort, alloc: Global, bytes: u128) -> bool {
+    let table = Plain::new(alloc).expect(rt, "a table");
+    takes(&table, bytes)
 }
 
-/// Numbers of texts, and the groups that a table has for them. Where it has room for 576, it doesn't ask for more till then.
-const GROUPS: [(usize, u32); 5] = [(1, 1), (9, 1), (10, 2), (576, 64), (577, 128)];
+#[test]
+fn memory_of_a_table_as_it_is_made(rt: HostRuntime) {
+    assert!(rt; takes_as_made(&rt, rt.alloc(), 4096 * BUCKET));
+}
 
-/// Whether a table has so many groups with this number of texts, and once they are gone.
+/// Numbers of texts, and the groups that a table has for them: twice as many each time. Where it has room for 576, it doesn't ask for more till
+/// then.
+const GROUPS: [(usize, u32); 6] = [
+    (1, 1),
+    (9, 1),
+    (10, 2),
+    (576, 64),
+    (577, 128),
+    (5_000, 1_024),
+];
+
+/// The bytes of a table of so many buckets and groups without texts.
+fn empty_bytes(buckets: u32, groups: u32) -> u128 {
+    u128::from(buckets) * BUCKET + u128::from(groups) * GROUP + UNITS
+}
+
+/// Whether a table of so many bytes without texts takes them and those of as many texts more, once these are interned.
+fn takes_numbered(
+    rt: &impl Abort,
+    alloc: Global,
+    table: &mut Plain,
+    number: usize,
+    empty: u128,
+) -> bool {
+    interns_numbered(rt, alloc, table, number)
+        && takes(table, empty.saturating_add(15 * number as u128))
+}
+
+/// Whether a table has so many groups with this number of texts, once they are gone, and with a text again.
 fn keeps_groups(rt: &impl Abort, alloc: Global, number: usize, groups: u32) -> bool {
     let mut table = one_bucket(rt, alloc);
-    let words = numbered_words(alloc, &mut table, number).expect(rt, "words");
-    let empty = BUCKET + u128::from(groups) * GROUP + UNITS;
-    let is_filled = takes(&table, empty + 15 * words.len() as u128);
-    is_filled && are_given(&mut table, &words) && takes(&table, empty)
+    let empty = empty_bytes(1, groups);
+    takes_numbered(rt, alloc, &mut table, number, empty)
+        && loses_numbered(rt, alloc, &mut table, number)
+        && takes(&table, empty)
+        && interns(&mut table, "tokenised")
+        && takes(&table, empty.saturating_add(9))
 }
 
 #[test]
 fn memory_stays_when_texts_go(rt: HostRuntime) {
-    for (number, groups) in GROUPS {
+    for (number, groups) in &GROUPS {
         assert!(rt;
-            keeps_groups(&rt, rt.alloc(), number, groups),
+            keeps_groups(&rt, rt.alloc(), *number, *groups),
             "with {number}"
         );
     }
 }
 
-/// Whether a table that is made with room for this number of texts has so many groups, with texts in it and after `clear`.
+/// Whether the table, which was made with room for this number of texts, takes so many bytes, with texts in it too and after `clear`.
+fn keeps_room(
+    rt: &impl Abort,
+    alloc: Global,
+    table: &mut Plain,
+    number: usize,
+    empty: u128,
+) -> bool {
+    let is_right = takes(table, empty) && takes_numbered(rt, alloc, table, number, empty);
+    table.clear();
+    is_right && takes(table, empty)
+}
+
+/// Whether a table that is made with room for this number of texts has so many groups.
 fn has_room(rt: &impl Abort, alloc: Global, number: usize, groups: u32) -> bool {
     let mut table = Plain::with_capacity(alloc, number).expect(rt, "a table");
-    let empty = 4096 * BUCKET + u128::from(groups) * GROUP + UNITS;
-    let is_made = takes(&table, empty);
-    let words = numbered_words(alloc, &mut table, number).expect(rt, "words");
-    let is_filled = takes(&table, empty + 15 * words.len() as u128);
-    table.clear();
-    is_made && is_filled && takes(&table, empty)
+    keeps_room(rt, alloc, &mut table, number, empty_bytes(4096, groups))
 }
 
 #[test]
 fn memory_of_room(rt: HostRuntime) {
-    for (number, groups) in GROUPS {
-        assert!(rt; has_room(&rt, rt.alloc(), number, groups), "for {number}");
+    for (number, groups) in &GROUPS {
+        assert!(rt; has_room(&rt, rt.alloc(), *number, *groups), "for {number}");
     }
 }
 
-/// Whether a table of one bucket with a text takes so many bytes once it has room for as many more, and so many once the text is gone.
-fn takes_with_room(
-    alloc: Global,
-    table: &mut Plain,
-    number: usize,
-    filled: u128,
-    empty: u128,
-) -> Result<bool, Fault> {
-    let words = words_of(alloc, table, "interned")?;
-    table.reserve(number)?;
-    Ok(takes(table, filled) && are_given(table, &words) && takes(table, empty))
+/// Whether a table with a text takes so many bytes once it has room for as many more, and so many once the text is gone.
+fn takes_with_room(table: &mut Plain, number: usize, filled: u128, empty: u128) -> bool {
+    interns(table, "interned")
+        && table.reserve(number) == Ok(())
+        && takes(table, filled)
+        && loses(table, "interned")
+        && takes(table, empty)
+}
+
+fn one_bucket_takes_with_room(rt: &impl Abort, alloc: Global, empty: u128) -> bool {
+    let mut table = one_bucket(rt, alloc);
+    takes_with_room(&mut table, 1000, empty.saturating_add(8), empty)
 }
 
 /// Room for 1000 texts in a table with one: 128 groups.
 #[test]
 fn memory_of_room_beside_texts(rt: HostRuntime) {
-    let mut table = one_bucket(&rt, rt.alloc());
-    let empty = BUCKET + 128 * GROUP + UNITS;
-    let takes_so = takes_with_room(rt.alloc(), &mut table, 1000, empty + 8, empty);
-    assert!(rt; takes_so == Ok(true));
+    let empty = empty_bytes(1, 128);
+    assert!(rt; one_bucket_takes_with_room(&rt, rt.alloc(), empty));
+}
+
+/// What the names below are of.
+#[derive(Drop)]
+struct Files;
+
+/// Whether the text has a name, of which a holder goes.
+fn loses_name(names: &mut Names<Files>, text: &str) -> bool {
+    match names.get(text) {
+        Some(name) => names.release(name),
+        None => false,
+    }
+}
+
+/// Whether as many texts have a name, and lose it.
+fn loses_names(rt: &impl Abort, alloc: Global, names: &mut Names<Files>, number: usize) -> bool {
+    for n in 0..number {
+        if !loses_name(names, &numbered_text(rt, alloc, n)) {
+            return false;
+        }
+    }
+    true
+}
+
+/// Whether names of as many texts take so many bytes once all are gone, and one that comes then its own beside.
+fn names_keep_room(rt: &impl Abort, alloc: Global, number: usize, empty: u128) -> bool {
+    let mut table = one_bucket(rt, alloc);
+    let is_right = interns_numbered(rt, alloc, &mut table, number);
+    let mut names = Names::of_table(table);
+    is_right
+        && loses_names(rt, alloc, &mut names, number)
+        && takes(names.table(), empty)
+        && names.intern("tokenised").is_ok()
+        && takes(names.table(), empty.saturating_add(9))
+}
+
+#[test]
+fn memory_stays_when_names_go(rt: HostRuntime) {
+    assert!(rt; names_keep_room(&rt, rt.alloc(), 576, empty_bytes(1, 64)));
 }

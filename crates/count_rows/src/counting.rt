@@ -68,28 +68,39 @@ fn halves_of_lists_are_merged(rt: HostRuntime) {
     }
 }
 
-/// Two workers are in their pieces at once.
-#[test]
-fn workers_run_at_once(rt: HostRuntime) {
-    let set = Set::<EmptyStaticAtomSet>::new(rt.alloc()).expect(&rt, "a set");
-    let text = str::from_utf8(EXAMPLE).expect(&rt, "a text");
-    let gate = Together::of(2);
-    let counts = count(&rt, &set, text, 2, &gate).expect(&rt, "counts");
-    assert!(rt; are(&counts, &EXAMPLE_COUNTS));
-    assert!(rt; !gate.was_missed());
+/// Whether all of this many workers are in their pieces of the example at once, and each goes in once and out once.
+fn meet<R: Threads + Wait + Sync>(rt: &R, alloc: Global, n: u32) -> Result<bool, AppFault>
+    requires low { 1 ≤ n }
+    requires high { n ≤ 64 }
+{
+    let set = Set::<EmptyStaticAtomSet>::new(alloc)?;
+    let text = str::from_utf8(EXAMPLE).unwrap_or("");
+    let gate = Together::of(n);
+    let counts = count(rt, &set, text, n, &gate)?;
+    Ok(are(&counts, &EXAMPLE_COUNTS) && gate.met())
 }
 
-/// All of eight workers are in their pieces at once, and each number comes in once and goes out once.
+#[test]
+fn workers_run_at_once(rt: HostRuntime) {
+    assert!(rt; meet(&rt, rt.alloc(), 2).expect(&rt, "counts"));
+}
+
 #[test]
 fn eight_workers_run_at_once(rt: HostRuntime) {
-    let set = Set::<EmptyStaticAtomSet>::new(rt.alloc()).expect(&rt, "a set");
-    let text = str::from_utf8(EXAMPLE).expect(&rt, "a text");
-    let gate = Together::of(8);
-    let counts = count(&rt, &set, text, 8, &gate).expect(&rt, "counts");
-    assert!(rt; are(&counts, &EXAMPLE_COUNTS));
-    drop(counts);
-    assert!(rt; !gate.was_missed());
-    assert!(rt; gate.passed() == (0x1111_1111, 0x1111_1111));
+    assert!(rt; meet(&rt, rt.alloc(), 8).expect(&rt, "counts"));
+}
+
+/// The most that there may be, of which some have no word.
+#[test]
+fn sixty_four_workers_run_at_once(rt: HostRuntime) {
+    assert!(rt; meet(&rt, rt.alloc(), 64).expect(&rt, "counts"));
+}
+
+/// One worker holds a word that came twice, till the counts are dropped.
+#[test]
+fn repeated_word_goes_with_its_counts(rt: HostRuntime) {
+    let are_right = come_twice(&rt, rt.alloc(), "interned interned", 1, 1).expect(&rt, "counts");
+    assert!(rt; are_right);
 }
 
 /// So many different words, each of `long` letters or more and before this white space.
@@ -158,7 +169,7 @@ fn empty_pieces(rt: HostRuntime) {
     let gate = Together::of(2);
     let counts = count(&rt, &set, "a", 2, &gate).expect(&rt, "counts");
     assert!(rt; are(&counts, &[("a", 1)]));
-    assert!(rt; !gate.was_missed());
+    assert!(rt; gate.met());
     let watch = Watch::new(&set);
     let counts = count(&rt, &set, "", 64, &watch).expect(&rt, "counts");
     assert!(rt; counts.is_empty());

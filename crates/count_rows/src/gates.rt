@@ -47,52 +47,73 @@ impl Meeting {
     }
 }
 
-/// How often each piece came by: a digit of base 16 for each piece up to 15, the first piece's to the right.
-fn digit(piece: u32) -> u64 {
+/// A piece's own bit, the first piece's to the right.
+fn bit(piece: u32) -> u64 {
     match piece {
-        1..=15 => 1 << (4 * (piece - 1)),
+        1..=64 => 1 << (piece - 1),
         _ => 0,
     }
 }
 
-/// Holds each piece up to a number in `enter` until all of them have come, and notes how often each enters and leaves.
+/// The pieces that came by. As many calls as bits add up to all of these bits only where each piece came once.
+#[derive(Drop)]
+struct Passed {
+    calls: AtomicU64,
+    bits: AtomicU64,
+}
+
+impl Passed {
+    fn new() -> Passed {
+        Passed {
+            calls: AtomicU64::new(0),
+            bits: AtomicU64::new(0),
+        }
+    }
+
+    fn note(&self, piece: u32) {
+        self.calls.fetch_add(1, Ordering::SeqCst);
+        self.bits.fetch_add(bit(piece), Ordering::SeqCst);
+    }
+
+    /// Whether each of so many pieces came once, and no other.
+    fn are_all(&self, pieces: u32) -> bool {
+        self.calls.load(Ordering::SeqCst) == u64::from(pieces)
+            && self.bits.load(Ordering::SeqCst) == bit(pieces) | bit(pieces).wrapping_sub(1)
+    }
+}
+
+/// Holds each piece up to a number in `enter` until all of them have come, and notes which enter and leave.
 #[derive(Drop)]
 pub struct Together {
     meeting: Meeting,
-    entered: AtomicU64,
-    left: AtomicU64,
+    entered: Passed,
+    left: Passed,
 }
 
 impl Together {
     pub fn of(pieces: u32) -> Together {
         Together {
             meeting: Meeting::of(pieces),
-            entered: AtomicU64::new(0),
-            left: AtomicU64::new(0),
+            entered: Passed::new(),
+            left: Passed::new(),
         }
     }
 
-    pub fn was_missed(&self) -> bool {
-        self.meeting.was_missed()
-    }
-
-    /// How often each piece entered and left, as `digit` has it.
-    pub fn passed(&self) -> (u64, u64) {
-        (
-            self.entered.load(Ordering::SeqCst),
-            self.left.load(Ordering::SeqCst),
-        )
+    /// Whether the pieces met, and each of them entered once and left once.
+    pub fn met(&self) -> bool {
+        let pieces = self.meeting.pieces;
+        !self.meeting.was_missed() && self.entered.are_all(pieces) && self.left.are_all(pieces)
     }
 }
 
 impl Gate for Together {
     fn enter<R: Wait>(&self, _rt: &R, piece: u32) {
-        self.entered.fetch_add(digit(piece), Ordering::SeqCst);
+        self.entered.note(piece);
         self.meeting.meet(piece);
     }
 
     fn leave<R: Wait>(&self, _rt: &R, piece: u32) {
-        self.left.fetch_add(digit(piece), Ordering::SeqCst);
+        self.left.note(piece);
     }
 }
 

@@ -1,6 +1,6 @@
 -- The data field of a `CellRef`, and what is read off what it owns. Assumes `Logic`.
 use mathlib.Core.Logic.{inl, inr}
-use Rattle.std.proofs.Common.{sym, subst, ◌≡◌, T, List, [], ◌∷◌, ◌++◌, refl, ap, ◌∙◌}
+use Rattle.std.proofs.Common.{sym, subst, ◌≡◌, ℕ, T, List, [], ◌∷◌, ◌++◌, refl, ap, ◌∙◌}
 use seplogic.Ra.Ura.{Ura}
 use mir.Syntax.{ty_ptr, ty_struct, tcons, tnil}
 use mir.Val.{Val, vstruct, vcons, vnil, of_list, has_ty, WT}
@@ -20,6 +20,7 @@ use denote.Struct.Struct.{Struct}
 use denote.Struct.Owning.{shape}
 use Rattle.counted_cell.specs.contracts.cell_ref.CellRef as cell_ref
 use Rattle.counted_cell.specs.contracts.cell_ref.Reading as reading
+use Rattle.counted_cell.specs.contracts.cell_ref.Receipt as receipt
 use Rattle.counted_cell.specs.Counting.{CellName, Right, CanRead, no_right, owner_right, share_right, sole_right, right_to, seen_by, seen_with, ref_owns, ref_shares}
 
 abbrev pub word_of : Ptr → Val
@@ -66,9 +67,9 @@ module _ {M : Type 1} {𝓤 : Ura M} (𝓛 : Logic 𝓤) (R : RattleType) (x : R
   share_in null_ptr κ = never_e 𝓤 _
   share_in (block_ptr b o) κ = qed 𝓛 (‵ (seen_with R b o x t share_right κ) ∷ []) ∵ fsplit ! $ keep ! (1 ∷ []) $ done !
 
-  pub owned_in : (p : Ptr) (right : Right) → ent 𝓤 (sem 𝓛 (ref_owns R p x t right)) (guard 𝓤 (InBlock p) (sem 𝓛 (right_to R (block_of p) (count_of p) x t right)))
-  owned_in null_ptr right = never_e 𝓤 _
-  owned_in (block_ptr b o) right = guard_i 𝓤 (Unit {0}) (sem 𝓛 (right_to R b o x t right)) tt
+  pub owned_in : (p : Ptr) (number : ℕ) (right : Right) → ent 𝓤 (sem 𝓛 (ref_owns R p x t number right)) (guard 𝓤 (InBlock p) (sem 𝓛 (right_to R (block_of p) (count_of p) x t number right)))
+  owned_in null_ptr number right = never_e 𝓤 _
+  owned_in (block_ptr b o) number right = guard_i 𝓤 (Unit {0}) (sem 𝓛 (right_to R b o x t number right)) tt
 
 -- the data field of a `Reading`
 abbrev pub reading_word : Val
@@ -80,5 +81,15 @@ Marks = Struct (shape reading.the_type)
 pub marked : {M : Type 1} {𝓤 : Ura M} (𝓛 : Logic 𝓤) → ent 𝓤 (emp 𝓤) (sem 𝓛 (Marks.own_val (tt, tt) (reading_word ∷ [])))
 marked 𝓛 = makes_shadow 𝓛 (Marks.own_val (tt, tt) (reading_word ∷ [])) (λ vss. (tt, ((λ uss. (tt, tt)), tt))) ((vstruct vnil ∷ [], tt), (refl, ((tt, (refl, tt)), tt)))
 
+-- that of a `Receipt` is like it
+abbrev pub ReceiptMarks : RattleType
+ReceiptMarks = Struct (shape receipt.the_type)
+
+pub receipt_marked : {M : Type 1} {𝓤 : Ura M} (𝓛 : Logic 𝓤) → ent 𝓤 (emp 𝓤) (sem 𝓛 (ReceiptMarks.own_val (tt, tt) (reading_word ∷ [])))
+receipt_marked 𝓛 = makes_shadow 𝓛 (ReceiptMarks.own_val (tt, tt) (reading_word ∷ [])) (λ vss. (tt, ((λ uss. (tt, tt)), tt))) ((vstruct vnil ∷ [], tt), (refl, ((tt, (refl, tt)), tt)))
+
 pub reading_told : (vs : List Val) → Is Marks (tt, tt) vs → vs ≡ reading_word ∷ []
 reading_told vs is = is.1.0 ∙ ap (λ (ws : List Val). vstruct (of_list (ws ++ [])) ∷ []) is.1.1.0.1.0
+
+pub receipt_told : (vs : List Val) → Is ReceiptMarks (tt, tt) vs → vs ≡ reading_word ∷ []
+receipt_told vs is = is.1.0 ∙ ap (λ (ws : List Val). vstruct (of_list (ws ++ [])) ∷ []) is.1.1.0.1.0

@@ -1,3 +1,5 @@
+pub mod Book
+pub mod KnownCount
 pub mod Steps
 pub mod CellRefLent
 pub mod Names

@@ -17,6 +17,14 @@ pub record Cell : Type 0 where
 abbrev pub cell_of : CellRef Content → Cell
 cell_of r = record { name = r.name; label = r.value.label; note = r.value.note.number; text = somes r.value.text.places.slots }
 
+-- a share: of which cell, and its number, which no other share of that cell ever has
+pub record OneShare : Type 0 where
+  pub cell : Cell
+  pub number : ℕ
+
+abbrev pub share_of : CellRef Content → OneShare
+share_of r = record { cell = cell_of r; number = r.number }
+
 -- how many bytes lie before the text
 abbrev pub header_size : ℕ
 header_size = 40

@@ -1,11 +1,20 @@
 -- The count of a cell's shares: what holds between any two steps on it, and what the owner and each share own.
 -- A cell has two lifetimes. While the first lives its value may be read: the owner and each share has one part in 2 ^ 64 of its token.
 -- While the second lives there is a share: each share has one part in 2 ^ 64 of that token too.
-use Rattle.std.specs.Prelude.{◌≡◌, ◌⊎◌, refl, ℕ, ◌+◌, ◌≤◌, Bool, true, false, cond, ◌==◌, [], ◌∷◌, Option, Some, None}
-use Rattle.std.specs.Coded.{Coded, code_by, coded×, coded_ℕ}
+-- Each share that a cell ever gets has a number, from 0 up, and no two have the same. To each number belong a claim and a receipt, and there
+-- is one of either. The share has the claim, and the count has a seat for each number: while the share is out, the receipt lies there. A
+-- subtraction puts the share's claim into its seat, and hands its receipt out. So how many seats have a receipt is how many shares are
+-- out, and whoever has a receipt knows that the share of its number was taken off the count.
+-- Whether a cell gets more shares is part of its name, which nothing reads when it runs. All that are made do. But whoever may add shares
+-- could, in these books alone, add one, take the receipt of his own and forget the new one, with no step on the word. So what a
+-- subtraction does is said of cells that get no more shares as well. There are as many receipts there as shares, and none is to be had
+-- but by taking one share off (proofs/KnownCount.antt).
+use Rattle.std.specs.Prelude.{◌≡◌, ◌⊎◌, refl, ℕ, suc, ◌+◌, ◌≤◌, Bool, true, false, cond, ◌==◌, List, [], ◌∷◌, Option, Some, None}
+use Rattle.std.specs.Coded.{Coded, code_by, coded×, coded_ℕ, coded_bool}
 use base.Fml.{Lft, Fml, ftrue, ffalse, fsep, fex, fall, flft, fdead, finv}
 use prog.Memory.{up, align}
 use types.RcWeak.{part, rest}
+use types.Keyed.{ticket, tickets_from}
 use denote.RattleType.{RattleType}
 use denote.Memory.{lone}
 use denote.RawPtr.{Ptr, block_ptr, null_ptr}
@@ -16,23 +25,40 @@ use Rattle.std.specs.Sync.RawAtomic.{word}
 abbrev pub fact : Type 0 → Fml
 fact φ = fex φ (λ _. ftrue)
 
--- a cell's name, which no other cell has: its two lifetimes, and how many shares there may be
+-- a cell's name, which no other cell has: its two lifetimes, the row of its claims and that of its receipts, how many shares there may
+-- be at a time, and whether it gets more of them
 pub record CellName : Type 0 where
   pub value_life : ℕ
   pub share_life : ℕ
+  pub claims : ℕ
+  pub receipts : ℕ
   pub limit : ℕ
+  pub grows : Bool
 
 abbrev pub cell_name_coded : Coded CellName
-cell_name_coded = code_by (ℕ × (ℕ × ℕ)) (coded× coded_ℕ (coded× coded_ℕ coded_ℕ)) (λ t. (t.value_life, (t.share_life, t.limit))) (λ p. record { value_life = p.0; share_life = p.1.0; limit = p.1.1 }) (λ _. refl)
+cell_name_coded = code_by (ℕ × (ℕ × (ℕ × (ℕ × (ℕ × Bool))))) (coded× coded_ℕ (coded× coded_ℕ (coded× coded_ℕ (coded× coded_ℕ (coded× coded_ℕ coded_bool)))))
+    (λ t. (t.value_life, (t.share_life, (t.claims, (t.receipts, (t.limit, t.grows))))))
+    (λ p. record { value_life = p.0; share_life = p.1.0; claims = p.1.1.0; receipts = p.1.1.1.0; limit = p.1.1.1.1.0; grows = p.1.1.1.1.1 }) (λ _. refl)
 
 -- a count of the shares of a cell
 pub record Count : Type 0 where
   pub name : CellName
   pub count : ℕ
 
+-- what giving a share back shows: of which cell and of which number it was, and the count that it left
+pub record Giving : Type 0 where
+  pub name : CellName
+  pub number : ℕ
+  pub count : ℕ
+
 -- the cell's name where the count is 0
-abbrev pub if_none_left : Count → Option CellName
-if_none_left c = cond (c.count == 0) (Some c.name) None
+abbrev pub if_none_left : Giving → Option CellName
+if_none_left g = cond (g.count == 0) (Some g.name) None
+
+-- how many shares are out, where a list says of each number whether its share is
+abbrev pub number_out : List Bool → ℕ
+number_out [] = 0
+number_out (out ∷ outs) = cond out 1 0 + number_out outs
 
 -- what a reference to a cell may do: nothing; read, and end the cell; read, and count as a share; or have the cell to itself
 pub data Right : Type 0 where
@@ -68,14 +94,59 @@ abbrev pub offset : RattleType → ℕ
 offset R = up (align (lone R.mir)) 8
 
 module _ (t : CellName) where
-  -- n shares are out, or none is left and none will ever be
+  -- no share is left, and none will ever be
+  abbrev pub none_left : Fml
+  none_left = fdead (t.share_life ∷ [])
+
+  -- n shares are out, or none is left
   abbrev pub shares_out : ℕ → Bool → Fml
   shares_out n true = rest 64 t.share_life n
-  shares_out n false = fsep (fact (n ≡ 0)) (fdead (t.share_life ∷ []))
+  shares_out n false = fsep (fact (n ≡ 0)) none_left
 
-  -- the owner and n shares are out
+  -- the owner and n shares are out, by their parts of the two lifetimes
+  abbrev pub tally : ℕ → Fml
+  tally n = fsep (rest 64 t.value_life (n + 1)) (fex Bool (shares_out n))
+
+  -- the claim of a number, and its receipt: there is one of either
+  abbrev pub claim : ℕ → Fml
+  claim number = ticket t.claims number
+
+  abbrev pub receipt_owns : ℕ → Fml
+  receipt_owns number = ticket t.receipts number
+
+  -- the receipt of one share or another
+  abbrev pub some_receipt : Fml
+  some_receipt = fex ℕ receipt_owns
+
+  -- what a share has beside what it reads
+  abbrev pub share_owns : ℕ → Fml
+  share_owns number = fsep (part 64 t.share_life) (claim number)
+
+  -- what lies in the seat of a number: the receipt while the share is out, and the claim once it was given back
+  abbrev pub seat : ℕ → Bool → Fml
+  seat number true = receipt_owns number
+  seat number false = claim number
+
+  -- the receipts of the numbers to come, where the cell gets more shares
+  abbrev pub spare : Bool → ℕ → Fml
+  spare true next = tickets_from t.receipts next
+  spare false next = ftrue
+
+  -- the seats of the numbers from this one on; behind them the claims and the receipts of the numbers to come
+  abbrev pub seats : ℕ → List Bool → Fml
+  seats next [] = fsep (tickets_from t.claims next) (spare t.grows next)
+  seats number (out ∷ outs) = fsep (seat number out) (seats (suc number) outs)
+
+  abbrev pub seats_with : ℕ → ℕ → List Bool → Fml
+  seats_with number n outs = fsep (fact (number_out outs ≡ n)) (seats number outs)
+
+  -- the seats of the numbers from this one on, of which n have a receipt
+  abbrev pub book : ℕ → ℕ → Fml
+  book number n = fex (List Bool) (seats_with number n)
+
+  -- the owner and n shares are out, and the seats say so
   abbrev pub counted : ℕ → Fml
-  counted n = fsep (rest 64 t.value_life (n + 1)) (fex Bool (shares_out n))
+  counted n = fsep (tally n) (book 0 n)
 
   module _ (b o : ℕ) where
     -- the word is the number of the shares, and at most the limit
@@ -99,11 +170,12 @@ module _ (R : RattleType) (b o : ℕ) (x : R.Denot) (t : CellName) where
   abbrev pub reads : Fml
   reads = fsep (part 64 t.value_life) (fsep (finv (Inv t b (o + 0))) (shown (t.value_life ∷ [])))
 
-  abbrev pub right_to : Right → Fml
-  right_to no_right = ftrue
-  right_to owner_right = reads
-  right_to share_right = fsep reads (part 64 t.share_life)
-  right_to sole_right = fsep (word b (o + 0) 0) (fdead (t.value_life ∷ []))
+  -- a share's number says which it is
+  abbrev pub right_to : ℕ → Right → Fml
+  right_to number no_right = ftrue
+  right_to number owner_right = reads
+  right_to number share_right = fsep reads (share_owns t number)
+  right_to number sole_right = fsep (word b (o + 0) 0) (fdead (t.value_life ∷ []))
 
   -- what a `&` to one of them has
   abbrev pub seen_by : Lft → Fml
@@ -115,9 +187,9 @@ module _ (R : RattleType) (b o : ℕ) (x : R.Denot) (t : CellName) where
   seen_with share_right = beside seen_by (one (λ q. flft (t.share_life ∷ []) q))
   seen_with sole_right = nothing
 
-abbrev pub ref_owns : (R : RattleType) → Ptr → R.Denot → CellName → Right → Fml
-ref_owns R (block_ptr b o) x t right = right_to R b o x t right
-ref_owns R null_ptr x t right = ffalse
+abbrev pub ref_owns : (R : RattleType) → Ptr → R.Denot → CellName → ℕ → Right → Fml
+ref_owns R (block_ptr b o) x t number right = right_to R b o x t number right
+ref_owns R null_ptr x t number right = ffalse
 
 abbrev pub ref_shares : (R : RattleType) → Ptr → R.Denot → CellName → Right → Lft → Fml
 ref_shares R (block_ptr b o) x t right = seen_with R b o x t right
@@ -125,4 +197,4 @@ ref_shares R null_ptr x t right = said ffalse
 
 -- what a look that found n shows
 abbrev pub reading_owns : CellName → ℕ → Fml
-reading_owns t n = fall (n ≡ 0) (λ _. fdead (t.share_life ∷ []))
+reading_owns t n = fall (n ≡ 0) (λ _. none_left t)

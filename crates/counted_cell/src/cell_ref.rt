@@ -2,8 +2,8 @@
 //!
 //! A step is one atomic operation: a load, a compare-and-exchange upwards, or a subtraction. All are sequentially consistent, and the
 //! proofs are of that ordering alone: they say nothing of a weaker one.
-ghost use Rattle.std.specs.Prelude.{◌≡◌, ◌≢◌, ℕ, ◌+◌, ◌^◌, ◌<◌};
-ghost use Rattle.counted_cell.specs.Counting.{CellName, cell_name_coded, Right, right_coded, CanRead, no_right, owner_right, share_right, sole_right, ref_owns, ref_shares, reading_owns};
+ghost use Rattle.std.specs.Prelude.{◌≡◌, ◌≢◌, true, ℕ, ◌+◌, ◌^◌, ◌<◌};
+ghost use Rattle.counted_cell.specs.Counting.{CellName, cell_name_coded, Right, right_coded, CanRead, no_right, owner_right, share_right, sole_right, ref_owns, ref_shares, reading_owns, receipt_owns};
 ghost use Rattle.counted_cell.specs.BlockRight.{header_bytes};
 ghost use denote.RawPtr.{◌+ₚ◌};
 
@@ -17,16 +17,17 @@ use std::sync::atomic::raw;
 
 /// A pointer to a cell, with the right that its holder has there. It has no drop, so no right ends unseen: a share's is spent by
 /// `decrement` alone, the owner's by `close`, what `close` gained by `reclaim`, and none at all by `done`. What can be forgotten is
-/// a struct with a drop of its own that holds one: its right is then never spent.
+/// a struct with a drop of its own that holds one: its right is then never spent. A share's number is its own in its cell.
 pub struct CellRef<T> {
     pub(crate) ptr: *const Header<T>,
     pub ghost value: { T },
     pub ghost name: { CellName } by { cell_name_coded },
+    pub ghost number: { ℕ },
     pub ghost right: { Right } by { right_coded },
 }
 
 impl<T> Model for CellRef<T> {
-    ghost also_owns = { λ h. ref_owns T.row h.ptr h.value h.name h.right };
+    ghost also_owns = { λ h. ref_owns T.row h.ptr h.value h.name h.number h.right };
 
     ghost also_shares = { λ h _ κ. ref_shares T.row h.ptr h.value h.name h.right κ };
 }
@@ -41,6 +42,18 @@ pub struct Reading {
 
 impl Model for Reading {
     ghost also_owns = { λ s. reading_owns s.name s.count };
+}
+
+/// Shows that the share of this number was taken off the count. The subtraction alone makes one. It takes no space.
+#[derive(Drop)]
+pub struct Receipt {
+    marker: PhantomData<()>,
+    pub ghost name: { CellName } by { cell_name_coded },
+    pub ghost number: { ℕ },
+}
+
+impl Model for Receipt {
+    ghost also_owns = { λ r. receipt_owns r.name r.number };
 }
 
 impl<T> CellRef<T> {
@@ -80,9 +93,10 @@ impl<T> CellRef<T> {
     }
 
     /// One share more, where the count is still `seen`, which is above 0 and below the limit: one exchange. Returns the count that
-    /// was found, and the right to the share where that is `seen`.
+    /// was found, and the right to the share where that is `seen`. The cell is one that gets more shares, as each that is made.
     pub fn increment(&self, seen: u64) -> (u64, Reading, CellRef<T>)
         requires reads { CanRead self.now.right }
+        requires grows { self.now.name.grows ≡ true }
         requires room { (0 < seen) × (seen < self.now.name.limit) × (seen + 1 < 2 ^ 63) }
         ensures found { (result.1.name ≡ self.now.name) × (result.1.count ≡ result.0) × (result.2.value ≡ self.now.value) × (result.2.name ≡ self.now.name) × (result.2.ptr ≡ self.now.ptr) }
         ensures gained { (result.0 ≡ seen → result.2.right ≡ share_right) × (result.0 ≢ seen → result.2.right ≡ no_right) }
@@ -99,16 +113,23 @@ impl<T> CellRef<T> {
         )
     }
 
-    /// One share less: one subtraction. Returns the count that it found, and a reading of what is left.
-    pub fn decrement(self) -> (u64, Reading)
+    /// One share less: one subtraction. Returns the count that it found, a reading of what is left, and the share's receipt.
+    ///
+    /// It doesn't ask that the cell gets more shares. In one that gets none there is no receipt to spare, and nothing that runs can tell
+    /// such a cell from another. So a body that lets the share go without a step has no receipt to give.
+    pub fn decrement(self) -> (u64, Reading, Receipt)
         requires { self.right ≡ share_right }
-        ensures { (0 < result.0) × (result.1.name ≡ self.name) × (result.1.count + 1 ≡ result.0) }
+        ensures left { (0 < result.0) × (result.1.name ≡ self.name) × (result.1.count + 1 ≡ result.0) }
+        ensures receipt { (result.2.name ≡ self.name) × (result.2.number ≡ self.number) }
     {
         let CellRef { ptr } = self;
         let found = unsafe { raw::fetch_sub::<Brand>(&raw const (*ptr).count, 1, SeqCst) };
         (
             found,
             Reading {
+                marker: PhantomData,
+            },
+            Receipt {
                 marker: PhantomData,
             },
         )

@@ -24,9 +24,17 @@ impl Model for NoShares {
 impl NoShares {
     ghost use Rattle.std.specs.Prelude.{◌≡◌};
 
+    /// What was read.
+    pub fn reading(self) -> Reading
+        ensures { (result.name ≡ self) × (result.count ≡ 0) }
+    {
+        let Self { reading } = self;
+        reading
+    }
+
     /// A law: it is never together with a share of the same cell.
     pub fn excludes(self, share: &CellShare)
-        requires { share.now.name ≡ self }
+        requires { share.now.cell.name ≡ self }
         ensures { ⊥ }
     {
         let Self { reading } = self;
@@ -49,6 +57,18 @@ impl Model for AtLimit {
     ghost view = { λ a. a.reading.name };
 
     ghost invariant = { λ a. a.reading.name.limit ≤ a.reading.count };
+}
+
+impl AtLimit {
+    ghost use Rattle.std.specs.Prelude.{◌≡◌, ◌≤◌};
+
+    /// What was read.
+    pub fn reading(self) -> Reading
+        ensures { (result.name ≡ self) × (self.limit ≤ result.count) }
+    {
+        let Self { reading } = self;
+        reading
+    }
 }
 
 /// What was read off the count of a cell. Nothing else makes one. In a clause it is the cell's name and the count.
@@ -95,4 +115,16 @@ impl Model for SharesLeft {
     ghost view = { λ s. s.reading.name };
 
     ghost invariant = { λ s. 0 < s.reading.count };
+}
+
+impl SharesLeft {
+    ghost use Rattle.std.specs.Prelude.{◌≡◌, ◌<◌};
+
+    /// What was read.
+    pub fn reading(self) -> Reading
+        ensures { (result.name ≡ self) × (0 < result.count) }
+    {
+        let Self { reading } = self;
+        reading
+    }
 }

@@ -24,6 +24,7 @@ mod reply;
 mod share;
 mod text;
 
+pub use cell_ref::{Reading, Receipt};
 pub use ending::Ending;
 pub use evidence::{AtLimit, CountSeen, NoShares, SharesLeft};
 pub use label::Label;

@@ -30,7 +30,7 @@ pub struct Owner<A: Allocator> {
 }
 
 impl<A: Allocator> Model for Owner<A> {
-    ghost use Rattle.std.specs.Prelude.{◌≡◌, ◌^◌, ◌<◌, ◌≤◌, length};
+    ghost use Rattle.std.specs.Prelude.{◌≡◌, true, ◌^◌, ◌<◌, ◌≤◌, length};
     ghost use Rattle.counted_cell.specs.Cell.{Cell, IsBehind, cell_of, most_bytes};
     ghost use Rattle.counted_cell.specs.Counting.{owner_right};
 
@@ -38,7 +38,7 @@ impl<A: Allocator> Model for Owner<A> {
 
     ghost view = { λ o. cell_of o.cell };
 
-    ghost invariant = { λ o. (o.cell.right ≡ owner_right) × (o.cell.value.label.limit ≡ o.cell.name.limit) × (o.cell.name.limit < 2 ^ 63)
+    ghost invariant = { λ o. (o.cell.right ≡ owner_right) × (o.cell.value.label.limit ≡ o.cell.name.limit) × (o.cell.name.limit < 2 ^ 63) × (o.cell.name.grows ≡ true)
         × ((o.block.name ≡ o.cell.name) × (o.block.value ≡ o.cell.value) × (o.block.ptr ≡ o.free.at) × (o.cell.ptr ≡ o.block.ptr))
         × ((o.free.alloc ≡ o.alloc) × IsBehind o.cell × (length o.block.value.text.places.slots ≡ o.free.len) × (o.free.len ≤ most_bytes)) };
 }
@@ -80,7 +80,7 @@ impl<A: Allocator> Owner<A> {
         requires { (1 ≤ label.limit) × (label.limit < 2 ^ 63) }
         ensures owner { IfOk result (λ made. (made.0.label ≡ label) × (made.0.note ≡ note) × (made.0.text ≡ text.now)) }
         ensures limit { IfOk result (λ made. made.0.name.limit ≡ label.limit) }
-        ensures share { IfOk result (λ made. made.1 ≡ made.0) }
+        ensures share { IfOk result (λ made. made.1.cell ≡ made.0) }
     {
         let len = text.len();
         if len > MOST_BYTES {

@@ -1,7 +1,7 @@
 //! The shares of a cell.
-ghost use Rattle.std.specs.Prelude.{◌≡◌, ◌^◌, ◌<◌, IfErr, IfOk};
+ghost use Rattle.std.specs.Prelude.{◌≡◌, true, ◌^◌, ◌<◌, IfErr, IfOk};
 
-use crate::cell_ref::{CellRef, Reading};
+use crate::cell_ref::{CellRef, Reading, Receipt};
 use crate::content::Content;
 use crate::evidence::{AtLimit, NoShares};
 use crate::label::Label;
@@ -11,52 +11,52 @@ use std::sync::Wait;
 
 /// One of the shares that the count counts. It has no drop, so that it can be neither dropped nor forgotten by itself: `give`
 /// alone spends it. A struct of a caller's that holds one, with a drop of its own, can be forgotten, and the share with it: then the
-/// count never comes to 0 and the cell's block is never freed, which is a leak and no more. In a clause it is its cell.
+/// count never comes to 0 and the cell's block is never freed, which is a leak and no more. In a clause it is its cell, and its number.
 pub struct CellShare {
     cell: CellRef<Content>,
 }
 
 impl Model for CellShare {
-    ghost use Rattle.std.specs.Prelude.{◌≡◌, ◌^◌, ◌<◌};
-    ghost use Rattle.counted_cell.specs.Cell.{Cell, IsBehind, cell_of};
+    ghost use Rattle.std.specs.Prelude.{◌≡◌, true, ◌^◌, ◌<◌};
+    ghost use Rattle.counted_cell.specs.Cell.{OneShare, IsBehind, share_of};
     ghost use Rattle.counted_cell.specs.Counting.{share_right};
 
-    ghost Value = { Cell };
+    ghost Value = { OneShare };
 
-    ghost view = { λ s. cell_of s.cell };
+    ghost view = { λ s. share_of s.cell };
 
-    ghost invariant = { λ s. (s.cell.right ≡ share_right) × (s.cell.value.label.limit ≡ s.cell.name.limit) × (s.cell.name.limit < 2 ^ 63) × IsBehind s.cell };
+    ghost invariant = { λ s. (s.cell.right ≡ share_right) × (s.cell.name.grows ≡ true) × (s.cell.value.label.limit ≡ s.cell.name.limit) × (s.cell.name.limit < 2 ^ 63) × IsBehind s.cell };
 }
 
 impl CellShare {
     ghost use Rattle.counted_cell.specs.Counting.{share_right};
-    ghost use Rattle.counted_cell.specs.Cell.{IsBehind, cell_of};
+    ghost use Rattle.counted_cell.specs.Cell.{IsBehind, share_of};
 
     /// The share whose right it is.
     pub(crate) fn of_ref(cell: CellRef<Content>) -> CellShare
-        requires { (cell.right ≡ share_right) × (cell.value.label.limit ≡ cell.name.limit) × (cell.name.limit < 2 ^ 63) × IsBehind cell }
-        ensures { result ≡ cell_of cell }
+        requires { (cell.right ≡ share_right) × (cell.name.grows ≡ true) × (cell.value.label.limit ≡ cell.name.limit) × (cell.name.limit < 2 ^ 63) × IsBehind cell }
+        ensures { result ≡ share_of cell }
     {
         CellShare { cell }
     }
 
     /// The right of the share.
     pub(crate) fn as_ref(&self) -> &CellRef<Content>
-        ensures { (result.now.right ≡ share_right) × (cell_of result.now ≡ self.now) }
+        ensures { (result.now.right ≡ share_right) × (share_of result.now ≡ self.now) }
     {
         &self.cell
     }
 
     /// The numbers of its cell.
     pub fn label(&self) -> Label
-        ensures { result ≡ self.now.label }
+        ensures { result ≡ self.now.cell.label }
     {
         self.cell.get().label
     }
 
     /// The text of its cell.
     pub fn text(&self) -> &str
-        ensures { result.now ≡ self.now.text }
+        ensures { result.now ≡ self.now.cell.text }
     {
         self.cell.get().text.as_str(self.cell.end())
     }
@@ -64,11 +64,11 @@ impl CellShare {
     /// One share more of the same cell. Where the cell has as many as it may have, nothing has changed.
     #[inline]
     pub fn add<R: Wait>(&self, rt: &R) -> Result<CellShare, AtLimit>
-        ensures added { IfOk result (λ share. share ≡ self.now) }
-        ensures full { IfErr result (λ full. full ≡ self.now.name) }
+        ensures added { IfOk result (λ share. share.cell ≡ self.now.cell) }
+        ensures full { IfErr result (λ full. full ≡ self.now.cell.name) }
     {
         match ShareReply::one_more(rt, &self.cell) {
-            ShareReply::Added(share) => Ok(share),
+            ShareReply::Added(share, _) => Ok(share),
             ShareReply::Full(full) => Err(full),
             ShareReply::Dying(none) => {
                 none.excludes(self);
@@ -80,47 +80,65 @@ impl CellShare {
     /// Takes the share off the count, and tells what that left.
     #[inline]
     pub fn give(self) -> Given
-        ensures { result.name ≡ self.name }
+        ensures receipt { (result.name ≡ self.cell.name) × (result.number ≡ self.number) }
     {
         let Self { cell } = self;
-        let (found, reading) = cell.decrement();
+        let (found, reading, receipt) = cell.decrement();
         Given {
             left: found - 1,
             reading,
+            receipt,
         }
     }
 }
 
-/// What giving a share back left. Nothing else makes one. In a clause it is the cell's name and the count that was left.
+/// Shows that a share was taken off its cell's count, and what that left. Nothing else makes one. In a clause it is the cell's name,
+/// the share's number and the count that was left.
 #[derive(Drop)]
 pub struct Given {
     left: u64,
     reading: Reading,
+    receipt: Receipt,
 }
 
 impl Model for Given {
     ghost use Rattle.std.specs.Prelude.{◌≡◌};
-    ghost use Rattle.counted_cell.specs.Counting.{Count};
+    ghost use Rattle.counted_cell.specs.Counting.{Giving};
 
-    ghost Value = { Count };
+    ghost Value = { Giving };
 
-    ghost view = { λ g. record { name = g.reading.name; count = g.reading.count } };
+    ghost view = { λ g. record { name = g.receipt.name; number = g.receipt.number; count = g.reading.count } };
 
-    ghost invariant = { λ g. g.reading.count ≡ g.left };
+    ghost invariant = { λ g. (g.reading.count ≡ g.left) × (g.reading.name ≡ g.receipt.name) };
 }
 
 impl Given {
+    ghost use Rattle.std.specs.Prelude.{◌≡◌};
     ghost use Rattle.counted_cell.specs.Counting.{if_none_left};
+
+    /// The share's receipt. Where the share was the last one, also that no share is left.
+    #[inline]
+    pub fn parts(self) -> (Receipt, Option<NoShares>)
+        ensures receipt { (result.0.name ≡ self.name) × (result.0.number ≡ self.number) }
+        ensures last { result.1 ≡ if_none_left self }
+    {
+        let Self {
+            left,
+            reading,
+            receipt,
+        } = self;
+        if left == 0 {
+            (receipt, Some(NoShares { reading }))
+        } else {
+            (receipt, None)
+        }
+    }
 
     /// Where the share was the last one: that no share is left.
     pub fn last(self) -> Option<NoShares>
         ensures { result ≡ if_none_left self }
     {
-        let Self { left, reading } = self;
-        if left == 0 {
-            Some(NoShares { reading })
-        } else {
-            None
-        }
+        let (_, last) = self.parts();
+        last
     }
 }

@@ -1,3 +1,4 @@
+pub mod Names
 pub mod PassKeeps
 pub mod Passes
 pub mod Shares

@@ -4,15 +4,17 @@ use Rattle.std.specs.List.{AllByRecursion}
 use Rattle.text_forms.specs.Layout.{most_bits, ticket_unit}
 use Rattle.text_forms.specs.Tables.{Tables, entry_hash}
 use Rattle.text_forms.specs.Word.{ticket_of, IsTicket}
+use Rattle.counted_cell.specs.Counting.{CellName}
 
--- an entry: its ticket, its text, the hash of the text, the bits of the number of buckets that its bucket is one of, and the
--- limit of its holders: how many shares of it there may be at a time
+-- an entry: its ticket, its text, the hash of the text, the bits of the number of buckets that its bucket is one of, the
+-- limit of its holders: how many shares of it there may be at a time, and the name of its cell, which no other entry has
 pub record Linked : Type 0 where
   pub ticket : ℕ
   pub text : List ℕ
   pub hash : ℕ
   pub bits : ℕ
   pub limit : ℕ
+  pub name : CellName
 
 -- a bucket: the bits of the number of buckets that it is one of, its entries, newest first, and the serial that it gave last,
 -- at first 0

@@ -1,5 +1,5 @@
 -- What is asked of an entry's count, and a pass over a bucket's entries that asks it of each.
-use Rattle.std.specs.Prelude.{◌≡◌, ℕ, ⊤, Bool, true, false, List, [], ◌∷◌, map, Option}
+use Rattle.std.specs.Prelude.{◌≡◌, ◌<◌, ◌≤◌, ℕ, ⊤, Bool, true, false, List, [], ◌∷◌, map, Option}
 use Rattle.text_forms.specs.Pass.{PassReply, added, full, died, gone, stays, Asked, Outcome, found, found_full, absent, outcome, kept}
 use Rattle.counted_set.specs.Chain.{Linked}
 use Rattle.counted_set.specs.declared.dynamic_set.counts.CountReply.{CountReply}
@@ -12,6 +12,18 @@ abbrev pub IfAdded : {S : Type 0} → CountReply S → (S → Type 0) → Type 0
 IfAdded (Added s) P = P s
 IfAdded Dying P = ⊤
 IfAdded Full P = ⊤
+
+-- no share is left, by this reply
+abbrev pub IsDying : {S : Type 0} → CountReply S → Type 0
+IsDying (Added s) = ⊥
+IsDying Dying = ⊤
+IsDying Full = ⊥
+
+-- the reply to an addition that found this count, where there may be as many shares as the limit
+abbrev pub IsReadAs : {S : Type 0} → ℕ → ℕ → CountReply S → Type 0
+IsReadAs count limit (Added s) = (0 < count) × (count < limit)
+IsReadAs count limit Dying = count ≡ 0
+IsReadAs count limit Full = limit ≤ count
 
 -- what `add` gives is a share of the entry that it is asked about
 abbrev pub GivesShares : {C : Type 0} → (C → Linked → CountReply Linked → C → Type 0) → Type 0

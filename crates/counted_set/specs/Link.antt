@@ -4,24 +4,25 @@ use Rattle.text_forms.specs.Bounds.{Bounds}
 use Rattle.text_forms.specs.Word.{ticket_of}
 use Rattle.text_forms.specs.declared.faults.Fault.{Fault}
 use Rattle.text_forms.specs.declared.faults.Fault.TheVariants.{Memory, FullCount, TicketsSpent, NotText}
+use Rattle.counted_cell.specs.Counting.{CellName}
 use Rattle.counted_set.specs.Chain.{Linked, Chain}
 use Rattle.counted_set.specs.Counted.{IsPass}
 use Rattle.counted_set.specs.declared.dynamic_set.counts.CountReply.{CountReply}
 use Rattle.counted_set.specs.declared.dynamic_set.counts.Pass.{Pass}
 use Rattle.counted_set.specs.declared.dynamic_set.counts.Pass.TheVariants.{Found, Full, Absent}
 
--- the next entry of a bucket for a text with this hash, and with this limit of holders
-abbrev pub next_entry : Chain → List ℕ → ℕ → ℕ → Linked
-next_entry c text hash holders = record { ticket = ticket_of (c.last + 1) (hash % 2 ^ c.bits); text = text; hash = hash; bits = c.bits; limit = holders }
+-- the next entry of a bucket for a text with this hash, with this limit of holders and this cell
+abbrev pub next_entry : Chain → List ℕ → ℕ → ℕ → CellName → Linked
+next_entry c text hash holders name = record { ticket = ticket_of (c.last + 1) (hash % 2 ^ c.bits); text = text; hash = hash; bits = c.bits; limit = holders; name = name }
 
 -- the bucket with that entry as its head, and the serial given
-abbrev pub with_next : Chain → List ℕ → ℕ → ℕ → Chain
-with_next c text hash holders = record { bits = c.bits; entries = next_entry c text hash holders ∷ c.entries; last = c.last + 1 }
+abbrev pub with_next : Chain → List ℕ → ℕ → ℕ → CellName → Chain
+with_next c text hash holders name = record { bits = c.bits; entries = next_entry c text hash holders name ∷ c.entries; last = c.last + 1 }
 
 -- Linking answers a share of the new head, which has the limit of holders. The tickets are spent exactly where the last serial
 -- is at the limit of serials; any other refusal is for want of memory. A refusal leaves the bucket.
 abbrev pub IsLink : Bounds → List ℕ → ℕ → Chain → Result Linked Fault → Chain → Type 0
-IsLink limits text hash c (Ok s) d = (c.last < limits.serials) × (s ≡ next_entry c text hash limits.holders) × (d ≡ with_next c text hash limits.holders)
+IsLink limits text hash c (Ok s) d = (c.last < limits.serials) × (s ≡ next_entry c text hash limits.holders s.name) × (d ≡ with_next c text hash limits.holders s.name)
 IsLink limits text hash c (Err Memory) d = (c.last < limits.serials) × (d ≡ c)
 IsLink limits text hash c (Err TicketsSpent) d = (limits.serials ≤ c.last) × (d ≡ c)
 IsLink limits text hash c (Err FullCount) d = ⊥

@@ -1,8 +1,10 @@
 //! Sets of each number of buckets. The low bits of the hash of "interned" are 0x7210, and a word is its serial times 0x10000 and its
 //! bucket times 4.
 
-use crate::samples::{DefaultSet, atom_of, bucket_numbers, check_atom, check_linked, hash_of};
-use std::alloc::{AllocError, Global};
+use crate::samples::{
+    DefaultSet, atom_of, bucket_numbers, check_atom, check_linked, drop_under_locks, hash_of,
+};
+use std::alloc::Global;
 use std::process::Abort;
 use std::sync::Wait;
 use std::test::Fail;
@@ -28,11 +30,20 @@ fn has_one_entry<R: Wait>(rt: &R, set: &DefaultSet, number: usize, place: usize)
     is_right
 }
 
+/// Whether the text is found with this word.
+fn is_found<R: Wait>(rt: &R, set: &DefaultSet, word: u64) -> bool {
+    match DefaultAtom::get_in(rt, set, "interned") {
+        Ok(Some(atom)) => atom.unsafe_data() == word,
+        _ => false,
+    }
+}
+
 /// Checks that the text's first word is this one, and that the next one has the next serial.
 fn check_words<R: Wait + Abort>(rt: &R, set: &DefaultSet, number: usize, place: usize, first: u64) {
     let atom = atom_of(rt, set, "interned");
     assert_eq!(rt; atom.unsafe_data(), first);
     assert!(rt; has_one_entry(rt, set, number, place));
+    assert!(rt; is_found(rt, set, first));
     drop(atom);
     let next = atom_of(rt, set, "interned");
     assert_eq!(rt; next.unsafe_data().wrapping_sub(first), 0x1_0000);
@@ -83,22 +94,6 @@ fn text_of_bucket(alloc: Global, buckets: Buckets, place: usize) -> Result<Strin
         }
     }
     Err("no text has the bucket")?
-}
-
-/// Drops the atoms while all locks of their set are held, so that their entries die and stay linked.
-fn drop_under_locks<R: Wait, A: Drop>(
-    rt: &R,
-    alloc: Global,
-    set: &DefaultSet,
-    atoms: A,
-) -> Result<(), AllocError> {
-    let mut held = Vec::with_capacity(alloc, set.buckets().len())?;
-    for bucket in set.buckets() {
-        held.push(bucket.lock(rt))?;
-    }
-    drop(atoms);
-    drop(held);
-    Ok(())
 }
 
 /// Checks that this many entries are linked, also once they die as the atoms are dropped, and that a sweep takes them all.

@@ -9,7 +9,11 @@ mod buckets;
 #[cfg(test)]
 mod crowds;
 #[cfg(test)]
+mod every_bucket;
+#[cfg(test)]
 mod locks;
+#[cfg(test)]
+mod many;
 #[cfg(test)]
 mod samples;
 #[cfg(test)]

@@ -320,3 +320,49 @@ fn sweep_goes_on_to_the_last_bucket(rt: HostRuntime) {
     assert!(rt; is_first_swept);
     check_linked(&rt, &set, 0);
 }
+
+/// Whether the call, once it waits for the last bucket's lock, comes to hold no other.
+fn waits_alone<R: Threads + Wait + Clock + Abort, F: FnOnce() + Send>(
+    rt: &R,
+    set: &DefaultSet,
+    call: F,
+) -> bool
+    requires { F.pre call }
+{
+    let held = lock_of(rt, set, 0xfff);
+    let ((), is_alone) = thread::join(rt, call, move || {
+        let mut is_alone = false;
+        for _ in 0..100 {
+            thread::sleep(rt, Duration::from_millis(100));
+            is_alone = are_free(set, 0xfff);
+            if is_alone {
+                break;
+            }
+        }
+        drop(held);
+        is_alone
+    });
+    is_alone
+}
+
+#[test]
+fn one_lock_is_held_at_a_time(rt: HostRuntime) {
+    let owned = default_set(&rt, rt.alloc());
+    let (handle, set) = (&rt, &owned);
+    assert!(rt; waits_alone(&rt, set, || set.sweep(handle)));
+    assert!(rt;
+        waits_alone(&rt, set, || {
+            let _ = set.linked(handle);
+        })
+    );
+    assert!(rt;
+        waits_alone(&rt, set, || {
+            let _ = set.memory(handle);
+        })
+    );
+    assert!(rt;
+        waits_alone(&rt, set, || {
+            let _ = count_holders(handle, set);
+        })
+    );
+}

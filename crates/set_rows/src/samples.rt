@@ -4,7 +4,7 @@
 ghost use Rattle.std.specs.Prelude.{◌≡◌};
 ghost use Rattle.string_cache_core.specs.Tables.{entry_hash};
 
-use std::alloc::Global;
+use std::alloc::{AllocError, Global};
 use std::process::Abort;
 use std::sync::{MutexGuard, Wait};
 use std::test::Fail;
@@ -60,4 +60,20 @@ pub fn check_linked<R: Wait + Abort>(rt: &R, set: &DefaultSet, count: u128) {
 pub fn check_atom(rt: &impl Abort, atom: &DefaultAtom<'_>, text: &str, word: u64) {
     assert!(rt; atom.as_str() == text);
     assert_eq!(rt; atom.unsafe_data(), word);
+}
+
+/// Drops the atoms while all locks of their set are held, so that their entries die and stay linked.
+pub fn drop_under_locks<R: Wait, A: Drop>(
+    rt: &R,
+    alloc: Global,
+    set: &DefaultSet,
+    atoms: A,
+) -> Result<(), AllocError> {
+    let mut held = Vec::with_capacity(alloc, set.buckets().len())?;
+    for bucket in set.buckets() {
+        held.push(bucket.lock(rt))?;
+    }
+    drop(atoms);
+    drop(held);
+    Ok(())
 }

@@ -7,11 +7,11 @@ use StepReply::{
     Added, Cloned, Dying, Freed, Full, Given, Kept, Left, Linked, Memory, No, Spent, Taken,
     Unlinked,
 };
-use atomic_steps::steps::{Step, StepReply, World};
 use std::alloc::{AllocError, Global};
 use std::process::Abort;
 use string_cache_core::Fault;
 use string_cache_core::static_sets::{EmptyStaticAtomSet, TextForm, form_of_text};
+use string_cache_core::steps::{Step, StepReply, World};
 use string_cache_core::word::{Buckets, Limits, SERIAL_BOUND};
 
 // A step whose text is a literal.

@@ -34,7 +34,7 @@ pub extern "C" fn sc_table_holders(t: &mut ScTable, word: u64, holders: &mut u64
     ensures none { t.old.seat.value ≡ None → result ≡ closed }
     ensures holders { IfOpen t.old.seat.value (λ kept. result ≡ 0 → HasHolders (map_of kept) word holders.new) }
     ensures unheld { IfOpen t.old.seat.value (λ kept. result ≡ not_held → ¬ (IsHeldTicket (map_of kept) word)) }
-    ensures number { (result ≡ 0) ⊎ (result ≡ not_held) ⊎ (result ≡ closed) }
+    ensures number { IsSome t.old.seat.value → (result ≡ 0) ⊎ (result ≡ not_held) }
     ensures same { t.new.seat.value ≡ t.old.seat.value }
     ensures err { result ≢ 0 → holders.new ≡ holders.old }
 {

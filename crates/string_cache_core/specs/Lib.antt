@@ -13,11 +13,16 @@ pub mod Order
 pub use Rattle.text_forms.specs.Packed
 pub use Rattle.text_forms.specs.Parts
 pub use Rattle.text_forms.specs.Pass
+pub use Rattle.atomic_steps.specs.PassSteps
 pub use Rattle.text_forms.specs.Phf
 pub use Rattle.text_forms.specs.PhfStrSet
 pub mod Places
+pub use Rattle.atomic_steps.specs.Runs
+pub use Rattle.atomic_steps.specs.Steps
 pub mod Table
 pub use Rattle.text_forms.specs.Tables
+pub use Rattle.atomic_steps.specs.Theorem
 pub use Rattle.text_forms.specs.Times
 pub use Rattle.text_forms.specs.Word
+pub use Rattle.atomic_steps.specs.World
 pub mod WordText

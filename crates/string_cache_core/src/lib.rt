@@ -1,8 +1,10 @@
-//! The table for one thread. The words, hashes and static tables of `text_forms` stand here as well.
+//! The table for one thread. The words, hashes and static tables of `text_forms`, and the core of atomic steps of `atomic_steps`, stand
+//! here as well.
 #![tactic(auto)]
 
 pub mod table;
 
+pub use atomic_steps::steps;
 #[doc(hidden)]
 pub use text_forms::samples;
 pub use text_forms::{Fault, packed_sets, phf, static_sets, word};

@@ -1,13 +1,11 @@
-//! Small programs over `Table`, as its users write them. Each has a contract that is proved from the contracts of the library alone, and a
-//! test that runs it.
+//! Small programs over `Table`, as its users write them. Each has a contract that is proved from the contracts of the library alone. The
+//! tests that run them are `table_use_rows`.
 #![tactic(auto)]
 
 mod calls;
 mod program;
 mod symbols;
 mod tables;
-#[cfg(test)]
-mod tests;
 mod upkeep;
 mod words;
 

@@ -168,8 +168,7 @@ pub fn hash(text: &str, key: u64) -> Hashes
     }
 }
 
-/// The place of a text with these hashes, in static tables of `len` texts.
-#[doc(hidden)]
+/// The place of a text with these hashes, in static tables of `len` texts, one at least, that have a displacement at least.
 #[inline]
 pub fn place(hashes: &Hashes, disps: &[(u32, u32)], len: u32) -> u32
     requires displaced { 1 ≤ length disps.now }

@@ -1,9 +1,10 @@
 //! Static tables that are made while a program runs.
 
-ghost use Rattle.std.specs.Prelude.{ℕ, ◌<◌};
+ghost use Rattle.std.specs.Prelude.{◌≡◌, ◌<◌, ℕ, IfOk, IsTrue};
 ghost use Rattle.table_generator.specs.Generated.{TellsTables, texts_of};
 
 use std::alloc::Global;
+use table_generator::check::check_tables;
 use table_generator::generate::generate;
 use table_generator::tables::{GenFault, Tables};
 
@@ -18,4 +19,16 @@ pub fn tables_of_names(alloc: Global, names: &[&str]) -> Result<Tables, GenFault
         }
     }
     generate(alloc, names, 99, 1024)
+}
+
+/// Whether the printed tables of some names are accepted: where none wants memory, they are.
+pub fn prints_well(alloc: Global, names: &[&str], key: u64) -> Result<bool, GenFault>
+    ensures { IfOk result (λ yes. IsTrue yes) }
+{
+    let tables = generate(alloc, names, key, 1024)?;
+    let text = format!(in alloc; "{tables}")?;
+    match check_tables(alloc, &text) {
+        Ok(yes) => Ok(yes),
+        Err(_) => Err(GenFault::Memory),
+    }
 }

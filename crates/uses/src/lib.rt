@@ -1,5 +1,5 @@
-//! Small programs over `string_cache`, as its users write them. Each has a contract that is proved from the contracts of
-//! the library alone, and a test that runs it.
+//! Small programs over `string_cache` and the crates that it stands on, as their users write them. Each has a contract that is
+//! proved from the contracts of the libraries alone. The tests that run them are `use_rows`.
 #![tactic(auto)]
 
 ghost use Rattle.std.specs.Prelude.{◌≡◌, ◌≢◌, ◌↔◌, codes, IfOk, IsTrue, None, Some};
@@ -7,6 +7,8 @@ ghost use Rattle.std.specs.Cmp.Lexicographic.{slice_cmp};
 ghost use Rattle.std.specs.Ordering.{nat_cmp};
 ghost use Rattle.std.specs.Str.{str_to_ascii_uppercase};
 
+mod cells;
+mod chains;
 mod dishes;
 mod generated;
 mod headers;
@@ -15,11 +17,11 @@ mod prices;
 mod sets;
 mod sharing;
 mod tags;
-#[cfg(test)]
-mod tests;
 
+pub use cells::length_by_share;
+pub use chains::take_next;
 pub use dishes::{DISHES_TABLES, Dishes};
-pub use generated::tables_of_names;
+pub use generated::{prints_well, tables_of_names};
 pub use headers::header_name;
 pub use json::{Priced, load, priced_json, save, through_json};
 pub use prices::{price_of, price_of_text, set_price};

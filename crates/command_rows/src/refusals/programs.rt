@@ -2,7 +2,7 @@
 
 ghost use Rattle.std.specs.Prelude.{◌≤◌};
 
-use crate::memory::{Bytes, Page, Streams};
+use crate::memory::{Bytes, Lost, Page, Streams};
 use crate::program::{COUNT_LINE, NO_MEMORY, answer_of, arguments_of, words_of_line};
 use crate::replay::WORKED;
 use crate::words::EXAMPLE_LINES;
@@ -56,6 +56,20 @@ fn words_in_a_table(rt: HostRuntime) {
         answer.expect(&rt, "an answer");
     }
     assert!(rt; page.written() == EXAMPLE_LINES);
+}
+
+/// 100 different words of eight bytes, each of which the table holds with bytes of its own.
+#[test]
+fn many_words_in_a_table(rt: HostRuntime) -> Result<(), Fail> {
+    let alloc = rt.alloc();
+    let mut text = String::new(alloc);
+    for n in 0..100 {
+        write!(text, "word{n:04} ")?;
+    }
+    at_last(&rt, || {
+        words_alone(alloc, &mut Bytes::whole(text.as_bytes()), &mut Lost)
+    })?;
+    Ok(())
 }
 
 /// What a worked script prints.
@@ -203,7 +217,7 @@ pub fn line_is_run<R: Threads + Wait + Sync + Print + Abort>(
 ) {
     let args = words_of_line(alloc, line).expect(rt, "an answer");
     begin(rt);
-    let answer = answer_of(rt, alloc, &args, &Streams::ample(input));
+    let answer = answer_of(rt, alloc, args, &Streams::ample(input));
     let is_refused = answer.status == 1;
     finish(rt, if is_refused { End::Refused } else { End::Given });
     if is_refused {

@@ -49,7 +49,8 @@ pub trait Counts {
         ensures { dies self.old entry.now result self.new };
 }
 
-/// The counts that the entries have themselves. What is added is a share of the entry.
+/// The counts that the entries have themselves. What is added is a share of the entry. It asks an entry what the entry's `add` asks, in one
+/// call fewer: each call that may wait is looked at when it returns.
 #[derive(Drop)]
 pub struct OwnCounts;
 
@@ -64,7 +65,8 @@ impl Counts for OwnCounts {
     ghost dies = { λ _ _ _ _. ⊤ };
 
     fn add<R: Wait>(&mut self, rt: &R, entry: &Entry) -> CountReply<Share> {
-        entry.add(rt)
+        let (reply, _) = entry.asked(rt);
+        reply
     }
 
     fn dying(&mut self, entry: &Entry) -> bool {

@@ -1,10 +1,12 @@
 //! A share with its set: what a dynamic atom holds.
 
 ghost use Rattle.std.specs.Prelude.{◌≡◌, IfErr, IfOk};
+ghost use Rattle.counted_cell.specs.Counting.{some_receipt};
+ghost use types.Logic.{sem};
 
 use super::set::Set;
 use super::share::Share;
-use counted_cell::CellShare;
+use counted_cell::{CellShare, Receipt};
 use std::marker::Model;
 use std::sync::Wait;
 use text_forms::Fault;
@@ -26,16 +28,17 @@ impl<'s, Static: StaticTables> Model for Held<'s, Static> {
 
     ghost use Rattle.counted_set.specs.Share.{linked_of};
 
-    ghost view = { λ h. linked_of h.share };
+    ghost view = { λ h. linked_of h.share.cell };
 
-    ghost invariant = { λ h. IsRight Static.tables (linked_of h.share) };
+    ghost invariant = { λ h. IsRight Static.tables (linked_of h.share.cell) };
 }
 
 impl<'s, Static: StaticTables> Drop for Held<'s, Static> {
     #[inline]
-    fn drop(self) {
-        let Self { share, set } = self;
-        set.give_back(share);
+    fn drop(self)
+        ensures* given { sem 𝓛 (some_receipt self.entry.name) }
+    {
+        let _ = self.give();
     }
 }
 
@@ -50,6 +53,15 @@ impl<'s, Static: StaticTables> Held<'s, Static> {
             share: share.into_counted(),
             set,
         }
+    }
+
+    /// Takes the share off the entry's count, and tries the bucket's lock where it was the last.
+    #[inline]
+    fn give(self) -> Receipt
+        ensures { result.name ≡ self.entry.name }
+    {
+        let Self { share, set } = self;
+        set.give_back(share)
     }
 
     /// The entry's ticket.

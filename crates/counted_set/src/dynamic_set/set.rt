@@ -9,7 +9,7 @@ ghost use Rattle.counted_set.specs.Chain.{IsRight};
 use super::bucket::Bucket;
 use super::counts::OwnCounts;
 use super::held::Held;
-use counted_cell::CellShare;
+use counted_cell::{CellShare, Receipt};
 use std::alloc::Global;
 use std::marker::Model;
 use std::mem::size_of;
@@ -182,11 +182,15 @@ impl<Static: StaticTables> Set<Static> {
 
     /// Gives a share back. Where it was its entry's last, tries the lock of the entry's bucket, once, and prunes the bucket.
     #[inline]
-    pub(super) fn give_back(&self, share: CellShare) {
+    pub(super) fn give_back(&self, share: CellShare) -> Receipt
+        ensures { result.name ≡ share.cell.name }
+    {
         let hash = share.label().hash;
-        if share.give().last().is_some() {
+        let (receipt, last) = share.give().parts();
+        if last.is_some() {
             self.try_prune(hash);
         }
+        receipt
     }
 
     /// Tries the lock of a hash's bucket, once, and prunes the bucket. It stands apart, so that the end of a share that isn't the

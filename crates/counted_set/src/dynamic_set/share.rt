@@ -3,11 +3,13 @@
 ghost use Rattle.std.specs.Prelude.{◌≡◌, ◌≤◌, ◌<◌, ◌^◌, ◌↔◌, length, IsTrue, IfOk};
 ghost use Rattle.text_forms.specs.Layout.{holder_bound};
 ghost use Rattle.counted_cell.specs.Cell.{block_size};
-ghost use Rattle.counted_set.specs.Counted.{IfAdded};
-ghost use Rattle.counted_set.specs.Share.{IsTold};
+ghost use Rattle.counted_cell.specs.Counting.{none_left, some_receipt};
+ghost use Rattle.counted_set.specs.Counted.{IfAdded, IsDying, IsReadAs};
+ghost use base.Fml.{fall};
+ghost use types.Logic.{sem};
 
 use super::counts::CountReply;
-use counted_cell::{CellShare, Label, Owner, ShareReply};
+use counted_cell::{CellShare, Label, Owner, Reading, Receipt, ShareReply};
 use std::alloc::{AllocError, Global};
 use std::marker::Model;
 use std::sync::Wait;
@@ -25,7 +27,6 @@ pub struct Entry {
 }
 
 impl Model for Entry {
-    ghost use Rattle.std.specs.Prelude.{◌≡◌};
     ghost use Rattle.counted_set.specs.Chain.{Linked};
     ghost use Rattle.counted_set.specs.Share.{linked_of};
 
@@ -46,8 +47,8 @@ impl Entry {
         holders: u64,
     ) -> Result<(Entry, Share), AllocError>
         requires { (1 ≤ holders) × (holders < holder_bound) }
-        ensures entry { IfOk result (λ made. made.0 ≡ record { ticket = ticket; text = text.now; hash = hash; bits = buckets; limit = holders }) }
-        ensures share { IfOk result (λ made. made.1 ≡ record { ticket = ticket; text = text.now; hash = hash; bits = buckets; limit = holders }) }
+        ensures entry { IfOk result (λ made. made.0 ≡ record { ticket = ticket; text = text.now; hash = hash; bits = buckets; limit = holders; name = made.0.name }) }
+        ensures share { IfOk result (λ made. made.1 ≡ made.0) }
     {
         let label = Label {
             hash,
@@ -96,28 +97,43 @@ impl Entry {
     /// One share more, unless the entry is dying or has as many as it may have: what its cell answers.
     ///
     /// `Added` gives a share of this entry. `Dying` comes only where the count was read as 0, so that no share is left and none will
-    /// ever be, and `Full` only where it was read as the entry's limit; both change nothing. The clause speaks of the share alone,
-    /// as these two replies have nothing that shows what was read. The cell's own answer has, and is told as it is.
+    /// ever be, and `Full` only where it was read as the entry's limit; both change nothing.
     pub fn add<R: Wait>(&self, rt: &R) -> CountReply<Share>
-        ensures { IfAdded result (λ share. share ≡ self.now) }
+        ensures* dying { sem 𝓛 (fall (IsDying result) (λ _. none_left self.now.name)) }
+        ensures added { IfAdded result (λ share. share ≡ self.now) }
     {
-        told(self.owner.add(rt))
+        let (reply, _) = self.asked(rt);
+        reply
+    }
+
+    /// The same, with what was read.
+    pub(super) fn asked<R: Wait>(&self, rt: &R) -> (CountReply<Share>, Reading)
+        ensures read { (result.1.name ≡ self.now.name) × IsReadAs result.1.count self.now.limit result.0 }
+        ensures added { IfAdded result.0 (λ share. share ≡ self.now) }
+    {
+        match self.owner.add(rt) {
+            ShareReply::Added(share, reading) => (CountReply::Added(Share { share }), reading),
+            ShareReply::Dying(none) => (CountReply::Dying, none.reading()),
+            ShareReply::Full(full) => (CountReply::Full, full.reading()),
+        }
     }
 
     /// Whether no share is left. Then none will ever be.
-    pub fn dying(&self) -> bool {
-        self.owner.dying().is_ok()
+    pub fn dying(&self) -> bool
+        ensures* gone { sem 𝓛 (fall (IsTrue result) (λ _. none_left self.now.name)) }
+    {
+        let (dying, _) = self.looked();
+        dying
     }
-}
 
-// What the entry's cell answered.
-fn told(reply: ShareReply) -> CountReply<Share>
-    ensures { IsTold reply result }
-{
-    match reply {
-        ShareReply::Added(share) => CountReply::Added(Share { share }),
-        ShareReply::Dying(_) => CountReply::Dying,
-        ShareReply::Full(_) => CountReply::Full,
+    /// The same, with what was read.
+    fn looked(&self) -> (bool, Reading)
+        ensures { (result.1.name ≡ self.now.name) × (IsTrue result.0 ↔ (result.1.count ≡ 0)) }
+    {
+        match self.owner.dying() {
+            Ok(none) => (true, none.reading()),
+            Err(some) => (false, some.reading()),
+        }
     }
 }
 
@@ -132,12 +148,14 @@ impl Model for Share {
 
     ghost Value = { Linked };
 
-    ghost view = { λ s. linked_of s.share };
+    ghost view = { λ s. linked_of s.share.cell };
 }
 
 impl Drop for Share {
-    fn drop(self) {
-        drop(self.into_counted().give());
+    fn drop(self)
+        ensures* given { sem 𝓛 (some_receipt self.name) }
+    {
+        let _ = self.give();
     }
 }
 
@@ -158,9 +176,17 @@ impl Share {
         self.share.text()
     }
 
+    /// Takes the share off the entry's count.
+    fn give(self) -> Receipt
+        ensures { result.name ≡ self.name }
+    {
+        let (receipt, _) = self.into_counted().give().parts();
+        receipt
+    }
+
     /// The share of the entry's cell, which has no drop: it is given back.
     pub(super) fn into_counted(self) -> CellShare
-        ensures { linked_of result ≡ self }
+        ensures { linked_of result.cell ≡ self }
     {
         let Self { share } = self;
         share

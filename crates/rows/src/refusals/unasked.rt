@@ -9,7 +9,7 @@ use std::sync::Wait;
 use string_cache::dynamic_set::Set;
 use string_cache::static_sets::StaticAtomSet;
 use string_cache::table::Table;
-use string_cache::word::Limits;
+use string_cache::word::{Buckets, Limits};
 use string_cache::{Atom, DefaultAtom, EmptyStaticAtomSet, Fault};
 use string_cache_core::samples::One;
 use text_streams::samples::{End, begin, finish};
@@ -146,6 +146,39 @@ fn set_ends_with_an_entry(rt: HostRuntime) {
     drop(set);
     finish(&rt, End::Given);
     assert!(rt; linked == 1);
+}
+
+/// The atoms of six texts.
+fn six_atoms<'s, R: Wait>(
+    rt: &R,
+    set: &'s Set<EmptyStaticAtomSet>,
+) -> Result<Vec<DefaultAtom<'s>>, Fault> {
+    let mut atoms = Vec::new(set.allocator());
+    for text in "interned tokenised sentence repeated forgotten magnitude".split(' ') {
+        atoms.push(DefaultAtom::from_str_in(rt, set, text)?)?;
+    }
+    Ok(atoms)
+}
+
+/// A set of one bucket whose six entries, which lie in two nodes, died under its lock.
+fn with_six_dying<R: Wait + Abort>(rt: &R, alloc: Global) -> Set<EmptyStaticAtomSet> {
+    let buckets = Buckets::new(0).expect(rt, "bits");
+    let set = Set::with_buckets(alloc, Limits::greatest(), buckets).expect(rt, "a set");
+    let atoms = six_atoms(rt, &set).expect(rt, "atoms");
+    let held = set.buckets().get(0).expect(rt, "a bucket").lock(rt);
+    drop(atoms);
+    drop(held);
+    set
+}
+
+#[test]
+fn set_ends_with_two_nodes(rt: HostRuntime) {
+    let set = with_six_dying(&rt, rt.alloc());
+    let linked = set.linked(&rt);
+    begin(&rt);
+    drop(set);
+    finish(&rt, End::Given);
+    assert!(rt; linked == 6);
 }
 
 /// Whether the atom's text is found, and an inline and a static text are, and no other.

@@ -1,12 +1,14 @@
 //! A table for one kind of names.
 
-ghost use Rattle.std.specs.Prelude.{◌≡◌, ◌≢◌, ◌-◌, ℕ, [], ◌∷◌, ◌++◌, ◌⊎◌, ◌↔◌, IfErr, IfOk, IfSome, IsSome, IsTrue, List, MatchOption, OnErr};
+ghost use Rattle.std.specs.Prelude.{◌≡◌, ◌≢◌, ◌-◌, ◌<◌, ◌≤◌, ℕ, [], ◌∷◌, ◌++◌, ◌⊎◌, ◌↔◌, length, IfErr, IfOk, IfSome, IsSome, IsTrue, List, MatchOption, OnErr};
 ghost use Rattle.std.specs.Str.{IsUtf8};
 ghost use Rattle.text_forms.specs.Faults.{IsInternFault};
 ghost use Rattle.text_forms.specs.declared.faults.Fault.TheVariants.{FullCount, Memory};
 ghost use Rattle.text_forms.specs.Layout.{holder_bound, serial_bound, usual_buckets};
 ghost use Rattle.text_forms.specs.Map.{empty_map};
-ghost use Rattle.string_cache_core.specs.Table.{AreHeld, ClonesIfHeld, GivesIfHeld, HasOneTextEach, HasWord, Interns, IsHeld, KeepsWord};
+ghost use Rattle.text_forms.specs.Word.{inline_word};
+ghost use Rattle.string_cache_core.specs.Order.{ComesLast, GoesFrom};
+ghost use Rattle.string_cache_core.specs.Table.{AreBothHeld, AreHeld, ClonesIfHeld, GivesIfHeld, GivesOnce, HasOneTextEach, HasWord, Interns, IsHeld, IsTextOf, IsWordOf, KeepsWord};
 
 use super::{Name, Table, WordText};
 use std::alloc::Global;
@@ -23,7 +25,7 @@ pub struct Names<K, S: StaticTables = EmptyStaticAtomSet> {
 }
 
 impl<K, S: StaticTables> Names<K, S> {
-    ghost use Rattle.string_cache_core.specs.Kept.{map_of};
+    ghost use Rattle.string_cache_core.specs.Kept.{map_of, tickets_of};
     ghost use Rattle.string_cache_core.specs.Name.{word_in, word_in_some};
     ghost use Rattle.string_cache_core.specs.WordText.{text_in};
 
@@ -57,12 +59,23 @@ impl<K, S: StaticTables> Names<K, S> {
     ///
     /// `FullCount`, `TicketsSpent` and `Memory` come as there. A refusal changes nothing.
     pub fn intern(&mut self, text: &str) -> Result<Name<K>, Fault>
+        ensures limits { self.new.table.limits ≡ self.old.table.limits }
         ensures interns { Interns S.tables self.old.table.limits (map_of self.old.table) text.now (word_in result) (map_of self.new.table) }
         ensures word { IfOk result (λ name. HasWord S.tables (map_of self.new.table) text.now name.word) }
+        ensures short { IfOk result (λ name. length text.now ≤ 7 → name.word ≡ inline_word text.now) }
+        ensures lends { IfOk result (λ name. 7 < length text.now → IsTextOf S.tables (map_of self.new.table) name.word text.now) }
         ensures held { IfOk result (λ name. IsHeld S.tables (map_of self.new.table) name.word) }
         ensures listed { (words : List ℕ) → AreHeld S.tables (map_of self.old.table) words → IfOk result (λ name. AreHeld S.tables (map_of self.new.table) (name.word ∷ words)) }
         ensures keeps { (other : ℕ) → KeepsWord S.tables (map_of self.old.table) (map_of self.new.table) other }
         ensures apart { HasOneTextEach S.tables (map_of self.new.table) }
+        ensures once { GivesOnce (map_of self.old.table) (map_of self.new.table) }
+        ensures order { IfOk result (λ name. ComesLast self.old.table name.word self.new.table) }
+        // The same once more, as a caller's proof finds it by itself.
+        ensures own { IfOk result (λ name. IsWordOf S.tables (map_of self.new.table) text.now name.word) }
+        ensures same { IfOk result (λ name. (other : ℕ) (also : List ℕ) → IsWordOf S.tables (map_of self.old.table) also other → (name.word ≡ other) ↔ (text.now ≡ also)) }
+        ensures owned { (other : ℕ) (also : List ℕ) → IsWordOf S.tables (map_of self.old.table) also other → IsWordOf S.tables (map_of self.new.table) also other }
+        ensures still { (other : ℕ) → IsHeld S.tables (map_of self.old.table) other → IsHeld S.tables (map_of self.new.table) other }
+        ensures both { IfOk result (λ name. (other : ℕ) → IsHeld S.tables (map_of self.old.table) other → AreBothHeld S.tables (map_of self.new.table) name.word other) }
         ensures fault { IfErr result IsInternFault }
         ensures err { OnErr result (self.new.table ≡ self.old.table) }
     {
@@ -75,7 +88,8 @@ impl<K, S: StaticTables> Names<K, S> {
 
     /// The name of a text that has one, as `Table::get` finds its word. No holder is added.
     pub fn get(&self, text: &str) -> Option<Name<K>>
-        ensures { MatchOption result ((word : ℕ) → ¬ (HasWord S.tables (map_of self.now.table) text.now word)) (λ name. HasWord S.tables (map_of self.now.table) text.now name.word) }
+        ensures word { MatchOption result ((word : ℕ) → ¬ (HasWord S.tables (map_of self.now.table) text.now word)) (λ name. HasWord S.tables (map_of self.now.table) text.now name.word) }
+        ensures held { IfSome result (λ name. IsHeld S.tables (map_of self.now.table) name.word) }
     {
         let word = self.table.get(text)?;
         Some(Name {
@@ -111,10 +125,14 @@ impl<K, S: StaticTables> Names<K, S> {
     ///
     /// `FullCount` as from `Table::clone_held`. A refusal changes nothing.
     pub fn clone_held(&mut self, name: Name<K>) -> Result<Option<Name<K>>, Fault>
+        ensures limits { self.new.table.limits ≡ self.old.table.limits }
+        ensures held { IfOk result (λ clone. IsSome clone ↔ IsHeld S.tables (map_of self.old.table) name.word) }
         ensures clones { ClonesIfHeld S.tables self.old.table.limits (map_of self.old.table) name.word (word_in_some result) (map_of self.new.table) }
+        ensures word { IfOk result (λ clone. IfSome clone (λ clone. clone.word ≡ name.word)) }
         ensures listed { (words : List ℕ) → AreHeld S.tables (map_of self.old.table) words → IfOk result (λ clone. IfSome clone (λ clone. AreHeld S.tables (map_of self.new.table) (clone.word ∷ words))) }
         ensures keeps { (other : ℕ) → KeepsWord S.tables (map_of self.old.table) (map_of self.new.table) other }
         ensures apart { HasOneTextEach S.tables (map_of self.new.table) }
+        ensures order { tickets_of self.new.table.pairs ≡ tickets_of self.old.table.pairs }
         ensures fault { IfErr result (λ fault. fault ≡ FullCount) }
         ensures err { OnErr result (self.new.table ≡ self.old.table) }
     {
@@ -127,11 +145,13 @@ impl<K, S: StaticTables> Names<K, S> {
 
     /// One holder less of a name that is held: `true`. For any other `false`, and nothing changes.
     pub fn release(&mut self, name: Name<K>) -> bool
+        ensures limits { self.new.table.limits ≡ self.old.table.limits }
         ensures held { IsTrue result ↔ IsHeld S.tables (map_of self.old.table) name.word }
         ensures gives { GivesIfHeld S.tables self.old.table.limits (map_of self.old.table) name.word result (map_of self.new.table) }
         ensures listed { (before after : List ℕ) → AreHeld S.tables (map_of self.old.table) (before ++ name.word ∷ after) → AreHeld S.tables (map_of self.new.table) (before ++ after) }
         ensures keeps { (other : ℕ) → (other ≢ name.word) ⊎ IsHeld S.tables (map_of self.new.table) other → KeepsWord S.tables (map_of self.old.table) (map_of self.new.table) other }
         ensures apart { HasOneTextEach S.tables (map_of self.new.table) }
+        ensures order { GoesFrom self.old.table name.word self.new.table }
     {
         self.table.release(name.word)
     }

@@ -29,8 +29,8 @@ reclaim_spec 𝓤 𝓛 𝓜 𝓡 wired X L =
     qed 𝓛 (((‵ (flft κs.0 qs.0) ⊛ ‵ ftrue) ⊛ ‵ (fsep (Dr.own_val d (right_fields.word ∷ [])) (fsep (Hr.own_val h (ref_fields.word_of h.ptr ∷ [])) ftrue))) ∷ raw (fact 𝓤 _) ∷ raw (fact 𝓤 Asked) ∷ []) ∵
     keep ! (2 ∷ 0 ∷ []) $ heard ! Asked (λ asked. split ! $ split ! $ move ! (2 ∷ []) $ fsplit3 ! $ fsplit ! $ drop ! $ move ! (1 ∷ []) $ fsplit ! $ drop ! $
     -- [what the reference owns; what the right owns; nothing; the token; nothing]
-    rewrite ! 0 (λ (s : Ptr × (CellName × Right)). ‵ (ref_owns R s.0 h.value s.1.0 s.1.1)) (λ i. (asked.2 i, (asked.1 i, asked.0 i))) refl $
-    use1 𝓛 (given (InBlock p) (‵ (right_to R b o h.value t sole_right))) (ref_fields.owned_in 𝓛 R h.value t p sole_right) $ learn ! (λ inb. let at : p ≡ q = at_block p inb in
+    rewrite ! 0 (λ (s : Ptr × (CellName × Right)). ‵ (ref_owns R s.0 h.value s.1.0 h.number s.1.1)) (λ i. (asked.2 i, (asked.1 i, asked.0 i))) refl $
+    use1 𝓛 (given (InBlock p) (‵ (right_to R b o h.value t h.number sole_right))) (ref_fields.owned_in 𝓛 R h.value t p h.number sole_right) $ learn ! (λ inb. let at : p ≡ q = at_block p inb in
     move ! (1 ∷ []) $ rewrite ! 0 (λ (π : Ptr). ‵ (block_right_owns R π x t)) at refl $ fsplit ! $ move ! (2 ∷ 0 ∷ 1 ∷ 4 ∷ 5 ∷ []) $
     -- [the end; the lender's right; the way back; the token; nothing; nothing]
     enter ! 𝓣.C 𝓣.Λ fn (right_fields.word ∷ ref_fields.word_of h.ptr ∷ []) Post $ alloc_all ! (λ l. pass_all ! refl ((tt, (tt, tt)), (ref_fields.typed h.ptr (subst InBlock (sym asked.2) inb), tt)) $

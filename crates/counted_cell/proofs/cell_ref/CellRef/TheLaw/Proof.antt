@@ -12,4 +12,4 @@ use Rattle.counted_cell.proofs.CellRefLent.{ref_laws, Lends-ref}
 pub shares : (T : RattleType) (L : Laws T) → statement T L
 shares T L = of_Lends (C.struct T) (C.the_codes T.Denot T.coded) (C.the_heap T) (C.the_lent T)
     (λ d p. ref_laws T L.shr_laws d.value d.name d.ptr d.right) (copy_shared RawPtr-field RawPtr-copy, tt)
-    (λ M 𝓤 𝓛 d p. Lends-ref T L.shr_laws d.value d.name 𝓛 (C.the_row T).lives d.ptr d.right)
+    (λ M 𝓤 𝓛 d p. Lends-ref T L.shr_laws d.value d.name 𝓛 (C.the_row T).lives d.ptr d.number d.right)

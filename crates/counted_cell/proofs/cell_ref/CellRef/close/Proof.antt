@@ -21,8 +21,8 @@ close_spec 𝓤 𝓛 𝓜 𝓡 wired X L =
     let y : (walk_of 𝓛 En hs c).Ghost = ((κs, qs, bounds, a, (word_of p ∷ [], tt)), gh) in let Post : Val → SProp 𝓤 = (walk_of 𝓛 En hs c).post y in let after' : ℕ → Fml = Closed 𝓛 b (o + 0) t in
     qed 𝓛 (((‵ (flft κs.0 qs.0) ⊛ ‵ ftrue) ⊛ ‵ (owns (types_at En.signature.params κs) a y.0.4)) ∷ raw (fact 𝓤 _) ∷ raw (fact 𝓤 (d.right ≡ owner_right)) ∷ []) ∵
     keep ! (2 ∷ 0 ∷ []) $ heard ! (d.right ≡ owner_right) (λ asked. split ! $ split ! $ move ! (2 ∷ []) $ fsplit ! $ fsplit ! $ keep ! (1 ∷ 3 ∷ 4 ∷ []) $
-    use1 𝓛 (given (InBlock p) (‵ (right_to R b o x t d.right))) (owned_in 𝓛 R x t p d.right) $ learn ! (λ inb. let at : p ≡ block_ptr b o = at_block p inb in
-    rewrite ! 0 (λ (k : Right). ‵ (right_to R b o x t k)) asked refl $ fsplit3 ! $ keep ! (1 ∷ 0 ∷ 3 ∷ 4 ∷ []) $
+    use1 𝓛 (given (InBlock p) (‵ (right_to R b o x t d.number d.right))) (owned_in 𝓛 R x t p d.number d.right) $ learn ! (λ inb. let at : p ≡ block_ptr b o = at_block p inb in
+    rewrite ! 0 (λ (k : Right). ‵ (right_to R b o x t d.number k)) asked refl $ fsplit3 ! $ keep ! (1 ∷ 0 ∷ 3 ∷ 4 ∷ []) $
     enter ! 𝓣.C 𝓣.Λ fn (word_of p ∷ []) Post $ alloc_all ! (λ l. pass_all ! refl (typed p inb, tt) $ let Ev = env fn.locals l in
     sets ! (is ! (of_opd ! (get_in ! (fld ! refl (stop !)) (sub ! 0 refl (whole !)))) (ap ptr_val at)) refl (tt, tt) $ first ! $ blocks ! $ sets ! (addr ! (through ! refl (fld ! refl (stop !)))) refl (tt, tt) $
     use2 𝓛 (raw (𝓣.C _ (vptr b (o + 0) ∷ seq_cst ∷ []) (λ r. mean 𝓛 (found after' r))))
@@ -34,9 +34,9 @@ close_spec 𝓤 𝓛 𝓜 𝓡 wired X L =
     sets ! (agg ! (and_then ! (get ! refl) (and_then ! (get ! refl) (and_then ! (get ! refl) (no_more !))))) refl (tt, (record { fits = fits }, ((tt, tt), ((tt, tt), tt)))) $ fsplit ! $ move ! (1 ∷ []) $
     -- [what the end gained; the reading; the token; nothing]
     fpick ! (λ w. let k : Right = rank sole_right w in let Told : Type 0 = (n ≡ 0 → k ≡ sole_right) × (n ≢ 0 → k ≡ no_right) in
-    use1 𝓛 (given Told (‵ (right_to R b o x t k))) (gains 𝓛 R b o x t n w) $ learn ! (λ so. move ! (2 ∷ 3 ∷ []) $ join ! $ nothing ! $ nothing ! $ fjoin ! $ move ! (2 ∷ 3 ∷ []) $
+    use1 𝓛 (given Told (‵ (right_to R b o x t 0 k))) (gains 𝓛 R b o x t n w) $ learn ! (λ so. move ! (2 ∷ 3 ∷ []) $ join ! $ nothing ! $ nothing ! $ fjoin ! $ move ! (2 ∷ 3 ∷ []) $
     -- [the right; the reading; nothing; the tokens]
-    let q : Ptr = block_ptr b o in let h : Row.Denot = record { ptr = q; value = x; name = t; right = k } in let s : Seen.Denot = record { marker = record {}; name = t; count = n } in let u : Val = vstruct (vcons (vint w64 n) (vcons reading_word (vcons (word_of q) vnil))) in let Same : Type 0 = (t ≡ t) × (n ≡ n) × (x ≡ x) × (t ≡ t) × (q ≡ p) in
+    let q : Ptr = block_ptr b o in let h : Row.Denot = record { ptr = q; value = x; name = t; number = 0; right = k } in let s : Seen.Denot = record { marker = record {}; name = t; count = n } in let u : Val = vstruct (vcons (vint w64 n) (vcons reading_word (vcons (word_of q) vnil))) in let Same : Type 0 = (t ≡ t) × (n ≡ n) × (x ≡ x) × (t ≡ t) × (q ≡ p) in
     use0 𝓛 (‵ ((Data R).own_val (q, tt) (word_of q ∷ []))) (made R 𝓛 q) $ fjoin ! $ move ! (1 ∷ []) $ use0 𝓛 (‵ (Marks.own_val (tt, tt) (reading_word ∷ []))) (marked 𝓛) $ fjoin ! $
     nothing ! $ move ! (2 ∷ 0 ∷ []) $ fjoin ! $ move ! (1 ∷ 0 ∷ []) $ fjoin ! $ flt_i ! n (2 ^ 64) fits $ feq_i ! (List Val) (vint w64 n ∷ []) (vint w64 n ∷ []) refl $ fjoin ! $
     fjoin ! $ feq_i ! (List Val) (u ∷ []) (u ∷ []) refl $ fjoin ! $

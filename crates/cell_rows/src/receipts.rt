@@ -1,0 +1,13 @@
+//! What a caller knows of the receipts of two shares.
+ghost use Rattle.std.specs.Prelude.{◌≡◌};
+
+use counted_cell::{CellShare, Receipt};
+
+/// Gives both shares back. The receipt of the first.
+pub fn first_receipt(first: CellShare, second: CellShare) -> Receipt
+    ensures { (result.name ≡ first.cell.name) × (result.number ≡ first.number) }
+{
+    let (receipt, _) = first.give().parts();
+    drop(second.give());
+    receipt
+}

@@ -1,0 +1,48 @@
+//! Calls over 1,024 different dynamic words, each of which comes twice: `tools/refused.py` sees that no block is left of what they took.
+
+use crate::memory::{Bytes, Lost};
+use commands::words::words_command;
+use std::alloc::{AllocError, Global};
+use std::test::Fail;
+use text_streams::samples::{End, begin, finish};
+use word_counts::count::count_command;
+
+/// The words, one after another, and once more.
+fn text_of_words(alloc: Global) -> Result<String, AllocError> {
+    let mut text = String::new(alloc);
+    for n in 0..2_048u32 {
+        write!(text, "word{:04} ", n % 1_024)?;
+    }
+    Ok(text)
+}
+
+#[test]
+fn words_are_told(rt: HostRuntime) -> Result<(), Fail> {
+    let text = text_of_words(rt.alloc())?;
+    begin(&rt);
+    let answer = words_command(
+        &rt,
+        rt.alloc(),
+        &mut Bytes::whole(text.as_bytes()),
+        &mut Lost,
+    );
+    finish(&rt, End::of(&answer));
+    answer?;
+    Ok(())
+}
+
+#[test]
+fn words_are_counted(rt: HostRuntime) -> Result<(), Fail> {
+    let text = text_of_words(rt.alloc())?;
+    begin(&rt);
+    let answer = count_command(
+        &rt,
+        rt.alloc(),
+        2,
+        &mut Bytes::whole(text.as_bytes()),
+        &mut Lost,
+    );
+    finish(&rt, End::of(&answer));
+    answer?;
+    Ok(())
+}

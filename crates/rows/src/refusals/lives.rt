@@ -1,0 +1,120 @@
+//! The life of a text from its first atom to its last, in a set of one bucket whose texts have two holders at most.
+
+use std::alloc::Global;
+use std::io::Print;
+use std::process::Abort;
+use std::sync::Wait;
+use string_cache::dynamic_set::Set;
+use string_cache::word::{Buckets, Limits};
+use string_cache::{DefaultAtom, EmptyStaticAtomSet, Fault};
+use text_streams::samples::at_last;
+
+type OneBucket = Set<EmptyStaticAtomSet>;
+
+/// Whether each call that adds a holder of the atom's text is refused it.
+fn is_full<R: Wait>(rt: &R, set: &OneBucket, atom: &DefaultAtom<'_>) -> bool {
+    matches!(atom.clone_atom(rt), Err(Fault::FullCount))
+        && matches!(
+            DefaultAtom::from_str_in(rt, set, atom.as_str()),
+            Err(Fault::FullCount)
+        )
+        && matches!(
+            DefaultAtom::get_in(rt, set, atom.as_str()),
+            Err(Fault::FullCount)
+        )
+}
+
+/// Whether one entry is left where another text came and went, and after a sweep.
+fn stays_alone<R: Wait>(rt: &R, set: &OneBucket) -> Result<bool, Fault> {
+    drop(DefaultAtom::from_str_in(rt, set, "tokenised")?);
+    let is_alone = set.linked(rt) == 1;
+    set.sweep(rt);
+    Ok(is_alone && set.linked(rt) == 1)
+}
+
+/// The bytes of the bucket with its lock, of a node, and of a cell before its text, whose bytes are rounded up to eights.
+const EMPTY: u128 = 32;
+
+const NODE: u128 = 48;
+
+const CELL: u128 = 40;
+
+/// Whether the set shows the text's entry alone, with two holders, and the bytes that it has.
+fn is_shown<R: Wait>(rt: &R, set: &OneBucket, text: &str) -> bool {
+    let mut shown = 0u32;
+    let mut is_right = true;
+    set.for_each(rt, |other, holders| {
+        shown = shown.saturating_add(1);
+        is_right = is_right && other == text && holders == 2;
+    });
+    let bytes = text.len().div_ceil(8) as u128 * 8;
+    is_right && shown == 1 && set.memory(rt) == EMPTY + NODE + CELL + bytes
+}
+
+/// Whether both atoms are of one word.
+fn are_one(first: &DefaultAtom<'_>, second: &DefaultAtom<'_>) -> bool {
+    first.unsafe_data() == second.unsafe_data() && first.as_str() == second.as_str()
+}
+
+/// Whether the atom has a clone, beside which its text is full, stays and is shown.
+fn is_cloned<R: Wait>(rt: &R, set: &OneBucket, atom: &DefaultAtom<'_>) -> Result<bool, Fault> {
+    let clone = atom.clone_atom(rt)?;
+    Ok(
+        are_one(atom, &clone)
+            && is_full(rt, set, atom)
+            && stays_alone(rt, set)?
+            && is_shown(rt, set, atom.as_str()),
+    )
+}
+
+/// Whether the atom's text is found, and is full then.
+fn is_found<R: Wait>(rt: &R, set: &OneBucket, atom: &DefaultAtom<'_>) -> Result<bool, Fault> {
+    match DefaultAtom::get_in(rt, set, atom.as_str())? {
+        Some(found) => Ok(are_one(atom, &found) && is_full(rt, set, &found)),
+        None => Ok(false),
+    }
+}
+
+/// Whether the text has an atom that is cloned and found.
+fn is_interned<R: Wait>(rt: &R, set: &OneBucket, text: &str) -> Result<bool, Fault> {
+    let atom = DefaultAtom::from_str_in(rt, set, text)?;
+    Ok(atom.as_str() == text && is_cloned(rt, set, &atom)? && is_found(rt, set, &atom)?)
+}
+
+/// Whether all of that is so, and nothing is left in the end.
+fn lives<R: Wait>(rt: &R, alloc: Global, limits: Limits, text: &str) -> Result<bool, Fault> {
+    let buckets = Buckets::new(0).ok_or(Fault::NotText)?;
+    let set = OneBucket::with_buckets(alloc, limits, buckets)?;
+    let is_right = is_interned(rt, &set, text)?;
+    Ok(is_right && set.linked(rt) == 0 && set.memory(rt) == EMPTY)
+}
+
+/// Checks the life of a text, with each request for memory refused once.
+fn check_life<R: Wait + Print + Abort>(rt: &R, alloc: Global, text: &str) {
+    let limits = Limits::new(2, 9).expect(rt, "limits");
+    let is_right = at_last(rt, || lives(rt, alloc, limits, text)).expect(rt, "an answer");
+    assert!(rt; is_right);
+}
+
+/// A text of 2,100,000 bytes beyond ASCII.
+#[test]
+fn large_text_lives(rt: HostRuntime) {
+    let text = "字".repeat(rt.alloc(), 700_000).expect(&rt, "a text");
+    check_life(&rt, rt.alloc(), &text);
+}
+
+/// A text of nine bytes.
+#[test]
+fn text_beyond_ascii_lives(rt: HostRuntime) {
+    check_life(&rt, rt.alloc(), "naïveté");
+}
+
+#[test]
+fn text_with_nul_lives(rt: HostRuntime) {
+    check_life(&rt, rt.alloc(), "nul \0 nul");
+}
+
+#[test]
+fn text_with_a_line_feed_lives(rt: HostRuntime) {
+    check_life(&rt, rt.alloc(), "line\nfeed");
+}

@@ -1,0 +1,16 @@
+//! Takes the items of a chain one after another.
+
+ghost use Rattle.std.specs.Prelude.{◌≡◌, ◌∷◌, IfNone, IfSome};
+
+use node_chain::NodeChain;
+
+/// The next item, taken out, where one is left.
+pub fn take_next(chain: &mut NodeChain<u64>) -> Option<u64>
+    ensures taken { IfSome result (λ item. chain.old.left ≡ item ∷ chain.new.left) }
+    ensures none { IfNone result (chain.new ≡ chain.old) }
+{
+    if chain.remaining() == 0 {
+        return None;
+    }
+    Some(chain.take_out())
+}
