@@ -13,13 +13,19 @@ function's body and that function's own files below proofs/, and nothing else. E
 that what one body writes can't be what another looks for.
 """
 
+import functools
 import os
 import re
 import shutil
+import sys
 from dataclasses import dataclass, field
+from importlib.machinery import SourceFileLoader
+from importlib.util import module_from_spec, spec_from_loader
+from pathlib import Path
 
 from edits import FUNCTION, BadEdit, replaced
-from quick import TOP, crates_listed, said_by, stands_on
+from quick import TOP, said_by
+from unproved import kit
 
 TOLD = re.compile(r"^fn (\S+): (.*)$", re.MULTILINE)
 PROVED = ("proved", "assumed")
@@ -123,40 +129,55 @@ def texts_with(bodies, folder):
     return texts
 
 
+@functools.cache
+def rtlib():
+    """The part of `rt` that knows how a crate is checked."""
+    sys.dont_write_bytecode = True
+    loader = SourceFileLoader("rtlib", str(kit() / "bin" / "rtlib.py"))
+    module = module_from_spec(spec_from_loader("rtlib", loader))
+    loader.exec_module(module)
+    return module
+
+
+def checker_of(name):
+    """The words of a check of this crate, over the libraries below it as they were built last. `rt ci` leaves them as its own proofs used
+    them, without a stamp, so that `rt check` would prove each once more. Where any of them isn't so, `rt` builds what it lacks."""
+    crate = next(it for it in rtlib().crates_below(str(TOP)) if it.name == name)
+    built = [(Path(it.rlib), Path(it.rlib).parent / "stamp") for it in crate.below()]
+    if any(not library.is_dir() or stamp.exists() for library, stamp in built):
+        said_by("rt", "check", "--only", "no function", folder=TOP / "crates" / name)
+    return [str(kit() / "bin" / "rattle"), "check", *crate.words(["--jobs", "1"], keeps=False), "--incremental", "out/incremental"]
+
+
 def copy_of(name, room):
-    """The folder of a crate in a copy of it and of the crates that it stands on, made in the room, an empty folder, with the libraries that
-    were built, and with what earlier checks of the crate kept. A copy for each crate, since `rt` locks the crates that it reads."""
-    listed = crates_listed()
-    crates = stands_on(listed, name)
-    lines = (TOP / "crates.txt").read_text(encoding="utf-8").splitlines()
-    (room / "crates.txt").write_text("".join(f"{line}\n" for line in lines if line.split(":")[0].split(" ")[0] in crates), encoding="utf-8")
-    shutil.copy(TOP / "HANDLES", room)
-    for crate in crates:
-        own, copy = TOP / "crates" / crate, room / "crates" / crate
-        for part in PARTS:
-            if (own / part).is_dir():
-                shutil.copytree(own / part, copy / part)
-        for part in ("rlib", "incremental") if crate == name else ("rlib",):
-            if (own / "out" / part).is_dir():
-                shutil.copytree(own / "out" / part, copy / "out" / part, copy_function=linked)
-    return room / "crates" / name
+    """The folder of a crate in a copy of it, made in the room, an empty folder, with what earlier checks of the crate kept. A copy for each
+    crate, since texts are changed there."""
+    own, copy = TOP / "crates" / name, room / name
+    for part in PARTS:
+        if (own / part).is_dir():
+            shutil.copytree(own / part, copy / part)
+    kept = Path("out") / "incremental"
+    if (own / kept).is_dir():
+        shutil.copytree(own / kept, copy / kept, copy_function=linked)
+    return copy
 
 
 def linked(source, target):
-    """Gives what was built or proved a second name: `rt` replaces such a file, and writes into none. All else is copied."""
+    """Gives what was proved a second name: a check replaces such a file, and writes into none. All else is copied."""
     try:
-        if "/rlib/" in source or source.endswith(".oantt"):
+        if source.endswith(".oantt"):
             return os.link(source, target)
     except OSError:
         pass
     return shutil.copy2(source, target)
 
 
-def check(bodies, folder):
-    """What a check of the functions of these bodies says, in the folder of their crate, whose texts are its own again afterwards."""
-    functions = [word for body in bodies for word in ("--only", body.function)]
+def check(bodies, folder, only=True):
+    """What a check of the functions of these bodies, or else of the whole crate with them, says, in the folder of a copy of their crate,
+    whose texts are its own again afterwards."""
+    functions = [word for body in bodies for word in ("--only", body.function)] if only else []
     with replaced(texts_with(bodies, folder)):
-        return said_by("rt", "check", "--jobs", "1", *functions, folder=folder)[1]
+        return said_by(*checker_of(folder.name), *functions, folder=folder)[1]
 
 
 def goals_of(name, text, said):
@@ -174,22 +195,26 @@ def goals_of(name, text, said):
     return goals + [error[:60] for error in errors]
 
 
+def told_of(function, said):
+    """What a check tells of the function that is meant, and of the closures in it, each by its name; empty where no one function is meant."""
+    lines = TOLD.findall(said)
+    names = [name for name, _ in lines if f"::{name}".endswith(f"::{function}")]
+    return {name: text for name, text in lines if len(names) == 1 and f"{name}::".startswith(f"{names[0]}::")}
+
+
 def judge(function, said):
     """The goals of its own at which a check refused a function, and what else is said of it."""
-    lines = [(name, text) for name, text in TOLD.findall(said) if f"::{name}".endswith(f"::{function}")]
-    if len(lines) != 1:
-        return [], f"the check has {len(lines)} lines for {function}; it ends: {said.strip()[-300:]}"
-    (name, text), = lines
-    return goals_of(name, text, said), text
+    told = told_of(function, said)
+    if not told:
+        count = sum(f"::{name}".endswith(f"::{function}") for name, _ in TOLD.findall(said))
+        return [], f"the check has {count} lines for {function}; it ends: {said.strip()[-300:]}"
+    return [goal for name, text in told.items() for goal in goals_of(name, text, said)], min(told.items())[1]
 
 
 def strangers(bodies, said):
     """The functions that a check refused at goals of their own though none of these bodies changes them."""
-    found = []
-    for name, text in TOLD.findall(said):
-        if goals_of(name, text, said) and not any(f"::{name}".endswith(f"::{body.function}") for body in bodies):
-            found.append(name)
-    return found
+    own = {name for body in bodies for name in told_of(body.function, said)}
+    return [name for name, text in TOLD.findall(said) if name not in own and goals_of(name, text, said)]
 
 
 def judged(bodies, folder):

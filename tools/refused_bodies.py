@@ -88,7 +88,7 @@ def keep(path):
 def judged(bodies, folder, is_proved):
     """Tries bodies of the crate in this folder of a copy. Each with whether it is refused as it must be, and what to say."""
     if not is_proved:
-        said = said_by("rt", "check", "--jobs", "1", folder=folder)[1]
+        said = batches.check([], folder)
         if "logic=proved" not in said:
             return [(body, False, f"NOT TRIED: the crate as it stands isn't proved: {said.strip()[-SAID:]}") for body in bodies]
     results = []

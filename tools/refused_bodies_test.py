@@ -106,6 +106,9 @@ fn few::low::fourth: proved
 fn few::low::fifth: not proved; it calls `few::low::first`, which is not proved
 fn few::low::sixth: no proof: expected answers; `search` did not prove `overflow_add`; it calls `few::low::first`, which is not proved
 fn few::low::seventh: no proof: expected a measure in ./proofs/low/seventh/Invariants.antt
+fn few::low::ninth: no proof: it calls `few::low::ninth::scope`, which is not proved
+fn few::low::ninth::scope: no proof: expected answers; `search` did not prove `returns-clause-same`
+fn few::low::ninth_of: proved
 crate few: modules loaded=28 checked=21
 """
 
@@ -149,11 +152,15 @@ class Lines(unittest.TestCase):
     def test_what_it_calls_does_not(self):
         self.assertEqual(self.goals("Few::second"), [])
 
+    def test_a_closure_in_it_does(self):
+        self.assertEqual(self.goals("ninth"), ["returns-clause-same"])
+        self.assertEqual(self.goals("ninth_of"), [])
+
     def test_a_name_that_is_gone_does_not(self):
         self.assertEqual(self.goals("third"), [])
 
     def test_a_function_that_no_body_changes_has_to_be_proved(self):
-        bodies = [SimpleNamespace(function=name) for name in ("first", "fifth", "sixth", "low::seventh")]
+        bodies = [SimpleNamespace(function=name) for name in ("first", "fifth", "sixth", "low::seventh", "ninth")]
         self.assertEqual(batches.strangers(bodies, SAID), [])
         self.assertEqual(batches.strangers(bodies[1:], SAID), ["few::low::first"])
 

@@ -29,7 +29,7 @@ from pathlib import Path
 
 import batches
 from caught import CANT_BUILD, passes, tests_of
-from edits import BadEdit, applied, changes_in, replaced
+from edits import BadEdit, applied, changes_in
 from quick import copy_with_work, crates_listed, has_tests, said_by, stands_on
 from refused import refuser
 from shared_builds import SharedBuild, can_share
@@ -109,8 +109,7 @@ def refusals(said):
 
 def is_proved(body, placed, folder, review):
     """Whether a check of the whole crate with this body alone proves it. Where not, says what refused it."""
-    with replaced(batches.texts_with([placed], folder)):
-        said = said_by("rt", "check", "--jobs", "1", folder=folder)[1]
+    said = batches.check([placed], folder, only=False)
     if "logic=proved" in said:
         return True
     found = "; ".join(f"{name} at {', '.join(goals)}" for name, goals in refusals(said).items())

@@ -60,6 +60,23 @@ fn dying_entry_is_visited(rt: HostRuntime) {
     check_linked(&rt, &set, 1);
 }
 
+/// And so are two of one bucket.
+#[test]
+fn dying_entries_of_a_bucket_are_visited(rt: HostRuntime) {
+    let set = default_set(&rt, rt.alloc());
+    let atoms = (
+        atom_of(&rt, &set, "forgotten"),
+        atom_of(&rt, &set, "magnitude"),
+    );
+    let held = lock_of(&rt, &set, 0x72f);
+    drop(atoms);
+    drop(held);
+    for _ in 0..2 {
+        assert!(rt; visits(&rt, &set, "magnitude 0;forgotten 0;"));
+    }
+    check_linked(&rt, &set, 2);
+}
+
 fn set_of(rt: &impl Abort, alloc: Global, bits: u8) -> DefaultSet {
     let buckets = Buckets::new(bits).expect(rt, "bits");
     Set::with_buckets(alloc, Limits::greatest(), buckets).expect(rt, "a set")
@@ -142,6 +159,19 @@ fn memory_of_a_long_text(rt: HostRuntime) {
     assert!(rt; takes(&rt, &set, BUCKET + NODE + CELL + 104));
     drop(atom);
     assert!(rt; takes(&rt, &set, BUCKET));
+}
+
+/// A node stays for the one entry that is left in it.
+#[test]
+fn memory_of_nodes_with_one_entry(rt: HostRuntime) {
+    let set = set_of(&rt, rt.alloc(), 0);
+    let _first = atom_of(&rt, &set, "interned");
+    let three = atoms_of(&rt, &set, "sentence repeated addition").expect(&rt, "atoms");
+    let _fifth = atom_of(&rt, &set, "relation");
+    let others = atoms_of(&rt, &set, "sequence compiler tokenise").expect(&rt, "atoms");
+    drop(three);
+    drop(others);
+    assert!(rt; takes(&rt, &set, BUCKET + 2 * NODE + 2 * (CELL + 8)));
 }
 
 /// What is still linked counts, though nobody holds it.
