@@ -58,7 +58,7 @@ add() {
 export RT_JOBS=${RT_JOBS:-$(tools/lanes.py)}
 run ci rt ci &
 ci=$!
-run caught tools/caught.py --beside "$ci" > "$said/bodies" &
+run caught tools/caught.py --tested --beside "$ci" > "$said/bodies" &
 bodies=$!
 wait "$ci"
 run prover tools/refused_bodies.py --proved --jobs "${RT_JOBS:-2}" > "$said/edits" &

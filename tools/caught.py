@@ -11,11 +11,12 @@ or doesn't compile beside its own, has a build to itself.
   refused, and has to be found right in the same build without the body.
 - 'error: TEXT': the compiler has to say this, where a type alone forbids the body.
 
-Each named test has to pass, or to be found right, over the crate as it is: built once more, with no body beside its own.
+Each named test has to pass, or to be found right, over the crate as it is: built once more, with no body beside its own. With --tested it
+isn't built for that: `rt ci` and tools/refused.py, which run all these tests, say so.
 
 With --beside PID no build is begun, while that process runs, unless a processor is idle.
 
-usage: tools/caught.py [--jobs N] [--beside PID] [WORD..]     with words: only the edits whose paths contain one of them
+usage: tools/caught.py [--jobs N] [--tested] [--beside PID] [WORD..]     with words: only the edits whose paths contain one of them
 """
 
 import argparse
@@ -156,7 +157,7 @@ class Trials:
         self.results.append(passed)
 
 
-def try_crate(crate, edits, trials, root):
+def try_tests(crate, edits, trials, root):
     """Tries the tests of the crate that these edits name over the crate as it is. Where it can be built, the edits are to be tried too."""
     names = {}
     for edit in edits:
@@ -170,6 +171,11 @@ def try_crate(crate, edits, trials, root):
             for label in [crate] * len(names) + edits:
                 trials.tell(label, False, f"the tests of {crate} can't be built or run: {why}")
             return
+    try_edits(crate, edits, trials, root)
+
+
+def try_edits(crate, edits, trials, root):
+    """Has the edits for the tests of the crate tried, those that can share a build in one."""
     together = [edit for edit in edits if can_share(edit, root)]
     if together:
         trials.add(try_together, crate, together)
@@ -282,7 +288,7 @@ def read_edits(top, words):
     return edits, bad
 
 
-def add_tasks(edits, trials):
+def add_tasks(edits, trials, is_tested):
     """Adds what is to be done at first, the crates with the most edits before the others. How many results there will be."""
     crates, kinds = {}, set()
     for edit in edits:
@@ -290,23 +296,24 @@ def add_tasks(edits, trials):
             crates.setdefault(edit.of, []).append(edit)
             kinds.add((edit.of, edit.want))
     for crate, own in sorted(crates.items(), key=lambda item: -len(item[1])):
-        trials.add(try_crate, crate, own)
+        trials.add(try_edits if is_tested else try_tests, crate, own)
     for edit in edits:
         if edit.want == "error":
             trials.add(try_error, edit)
-    return len(edits) + len(kinds)
+    return len(edits) + (0 if is_tested else len(kinds))
 
 
 def main():
     parser = argparse.ArgumentParser(description=__doc__, formatter_class=argparse.RawDescriptionHelpFormatter)
     parser.add_argument("--jobs", type=int, default=processors())
+    parser.add_argument("--tested", action="store_true")
     parser.add_argument("--beside", type=int, metavar="PID")
     parser.add_argument("words", nargs="*")
     given = parser.parse_args()
     top = Path(__file__).resolve().parent.parent
     edits, bad = read_edits(top, given.words)
     trials, turns = Trials(), Turns(given.beside)
-    expected = bad + add_tasks(edits, trials)
+    expected = bad + add_tasks(edits, trials, given.tested)
     workers = [threading.Thread(target=works_in, args=(trials, turns, top)) for _ in range(max(1, given.jobs))]
     for worker in workers:
         worker.start()
