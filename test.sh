@@ -1,8 +1,8 @@
 #!/usr/bin/env bash
 # The gate: every proof from nothing, the edits of must-fail that the prover has to refuse, every test, each program as two compilers
 # build it (rt ci), then the other wrong bodies that the prover has to refuse, many in a check, each request for memory or a thread refused
-# under the tests that rt ci built, the schedules of small scenes, the static types that a script writes, the scripts that count over many
-# machines and that review wrong bodies, what is said of wrong bodies, the library for C with its clients and their wrong bodies, and each
+# under the tests that rt ci built, the schedules of small scenes, the static types that a script writes, the scripts by which users begin, that
+# count over many machines and that review wrong bodies, what is said of wrong bodies, the library for C with its clients and their wrong bodies, and each
 # wrong body that a test has to catch, which begin where rt ci leaves a processor idle. The last lines tell what each part took, and sum up.
 #
 # `./test.sh quick [CRATE ..]` isn't the gate: it proves what changed over kept work, and runs the tests that see it (tools/quick.py).
@@ -69,6 +69,7 @@ run refused tools/refused.py
 run static tools/static_type.py --check
 run pages tools/pages.py
 run many tools/count_many_test.py
+run users tools/users_test.py
 run review tools/review_test.py
 run verdicts tools/caught_test.py
 run batches tools/refused_bodies_test.py
@@ -88,6 +89,7 @@ add refused
 add static
 add pages
 add many
+add users
 add review
 add verdicts
 add batches

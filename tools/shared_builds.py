@@ -20,7 +20,7 @@ import contextlib
 import subprocess
 
 from edits import FUNCTION, edited, replaced
-from unproved import compiler, kit, link, object_of
+from unproved import TESTS, compiler, kit, link, object_of
 
 SWITCH = 'unsafe extern "C" {\n    safe fn wrong_body() -> u32;\n}\n'
 ANSWER = "unsigned wrong_body(void) {{ return {number}; }}\n"
@@ -115,7 +115,7 @@ class SharedBuild:
                 folder.mkdir()
                 undo.callback(folder.rmdir)
             undo.enter_context(replaced(shared_texts(edits, root)))
-            self.tests = object_of(root / "crates" / crate, room, RT_ALLOW_C="1")
+            self.tests = object_of(root / "crates" / crate, room, TESTS, RT_ALLOW_C="1")
 
     def program(self, number):
         """The program with the body of this number, or as the crate is with 0."""

@@ -1,4 +1,4 @@
-"""The tests of a crate without proofs, as rt try builds them: run there, or taken out as a program.
+"""The tests of a crate without proofs, as rt try builds them: run there, or taken out as a program. A crate's program is taken out so as well.
 
 A wrong body that the prover would refuse, or has no time for, is built in this way all the same.
 """
@@ -12,6 +12,7 @@ import subprocess
 import time
 from pathlib import Path
 
+TESTS = "--test"  # what makes rt try take a crate's tests, and not its program
 OUTCOME = re.compile(r"test (\S+) \.\.\. (\w+)")
 # Rt try hands the program to its clang once with this word, for the run that finds bad addresses.
 SANITIZED = "-fsanitize=address"
@@ -106,12 +107,12 @@ def kit_with(clang, folder, own):
     wrapper.chmod(0o755)
 
 
-def object_of(crate, room, **environment):
-    """The object of the tests of the crate in this folder, made in the room, an empty folder."""
-    own, made = kit(), room / "tests.o"
+def object_of(crate, room, *kind, **environment):
+    """The object of the tests of the crate in this folder, or of its program where no kind is given, made in the room, an empty folder."""
+    own, made = kit(), room / "made.o"
     kit_with(WRAPPER.format(sanitized=SANITIZED, clang=compiler(own)[0], made=made), room / "kit", own)
     # The interpreter, which comes before the compiler, gets one step.
-    words = [room / "kit" / "bin" / "rt", "try", "--test", "--steps", "1", "--seconds", "1"]
+    words = [room / "kit" / "bin" / "rt", "try", *kind, "--steps", "1", "--seconds", "1"]
     said = "".join(try_tests(crate, *words, **environment))
     shutil.rmtree(room / "kit")
     if not made.is_file():
@@ -132,7 +133,7 @@ def link(objects, program):
 
 def build(crate, room):
     """The program of the tests of the crate in this folder, made in the room, an empty folder."""
-    made, program = object_of(crate, room), room / "tests"
+    made, program = object_of(crate, room, TESTS), room / "tests"
     link([made], program)
     made.unlink()
     return program
