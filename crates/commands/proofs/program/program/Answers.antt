@@ -37,19 +37,19 @@ returns-in-Err g c = record {
   replay_status = search rules;
   generate = search rules;
   generate_beginning = λ key bound asked status.
-    (let e = c.in-Some.ensures.generate key bound asked in
-    elim c.match-command.branch [
-      | in-Words w ↦ let is = w.in-Words.is in cc (e, is)
-      | in-Count w ↦ let is = w.in-Count.is in cc (e, is)
-      | in-Replay w ↦ let is = w.in-Replay.is in cc (e, is)
-      | in-Generate w ↦
-          let is = w.in-Generate.is in
-          let same_key : key ≡ w.in-Generate.key = cc (e, is) in
-          let same_bound : bound ≡ w.in-Generate.bound = cc (e, is) in
-          let outcome : w.generate_command-outcome.result ≡ Err c.in-Err.fault = sym w.outcome-is ∙ c.in-Err.is in
-          rw (same_key, same_bound, w.output-is) (rw outcome at w.generate_command-outcome.ensures.beginning)
-      | in-Check w ↦ let is = w.in-Check.is in cc (e, is)
-    ]);
+      (let e = c.in-Some.ensures.generate key bound asked in
+      elim c.match-command.branch [
+        | in-Words w ↦ let is = w.in-Words.is in cc (e, is)
+        | in-Count w ↦ let is = w.in-Count.is in cc (e, is)
+        | in-Replay w ↦ let is = w.in-Replay.is in cc (e, is)
+        | in-Generate w ↦
+            let is = w.in-Generate.is in
+            let same_key : key ≡ w.in-Generate.key = cc (e, is) in
+            let same_bound : bound ≡ w.in-Generate.bound = cc (e, is) in
+            let outcome : w.generate_command-outcome.result ≡ Err c.in-Err.fault = sym w.outcome-is ∙ c.in-Err.is in
+            rw (same_key, same_bound, w.output-is) (rw outcome at w.generate_command-outcome.ensures.beginning)
+        | in-Check w ↦ let is = w.in-Check.is in cc (e, is)
+      ]);
   generate_status = search rules;
   check = search rules;
   check_beginning = search rules;
