@@ -139,33 +139,48 @@ def rtlib():
     return module
 
 
-def checker_of(name):
-    """The words of a check of this crate, over the libraries below it as they were built last. `rt ci` leaves them as its own proofs used
-    them, without a stamp, so that `rt check` would prove each once more. Where any of them isn't so, `rt` builds what it lacks."""
-    crate = next(it for it in rtlib().crates_below(str(TOP)) if it.name == name)
-    built = [(Path(it.rlib), Path(it.rlib).parent / "stamp") for it in crate.below()]
+@functools.cache
+def crates():
+    """The crates of the repository, as `rt` knows them, by their names."""
+    return {it.name: it for it in rtlib().crates_below(str(TOP))}
+
+
+def build_below(name):
+    """Has the libraries below this crate stand as they were built last. `rt ci` leaves them as its own proofs used them, without a stamp, so
+    that `rt check` would prove each once more: where all are so, nothing is to be done."""
+    built = [(Path(it.rlib), Path(it.rlib).parent / "stamp") for it in crates()[name].below()]
     if any(not library.is_dir() or stamp.exists() for library, stamp in built):
         said_by("rt", "check", "--only", "no function", folder=TOP / "crates" / name)
-    return [str(kit() / "bin" / "rattle"), "check", *crate.words(["--jobs", "1"], keeps=False), "--incremental", "out/incremental"]
 
 
-def copy_of(name, room):
-    """The folder of a crate in a copy of it, made in the room, an empty folder, with what earlier checks of the crate kept. A copy for each
-    crate, since texts are changed there."""
-    own, copy = TOP / "crates" / name, room / name
-    for part in PARTS:
-        if (own / part).is_dir():
-            shutil.copytree(own / part, copy / part)
-    kept = Path("out") / "incremental"
-    if (own / kept).is_dir():
-        shutil.copytree(own / kept, copy / kept, copy_function=linked)
-    return copy
+def copies_of(names, room):
+    """The folders of these crates in a copy, by their names, with what earlier checks of them kept, and with the libraries below them, which
+    may be built anew meanwhile where they are. The copy is made in the room, an empty folder."""
+    for name in names:
+        build_below(name)
+    kept = [(name, "incremental") for name in names] + [(it.name, "rlib") for it in {it for name in names for it in crates()[name].below()}]
+    for name, part in kept:
+        own, copy = (top / "crates" / name / "out" / part for top in (TOP, room))
+        if own.is_dir():
+            shutil.copytree(own, copy, copy_function=linked)
+    for name, part in ((name, part) for name in names for part in PARTS):
+        own, copy = (top / "crates" / name / part for top in (TOP, room))
+        if own.is_dir():
+            shutil.copytree(own, copy)
+    return {name: room / "crates" / name for name in names}
+
+
+def checker_of(folder):
+    """The words of a check of the crate in this folder of a copy, over the libraries there."""
+    words = crates()[folder.name].words(["--jobs", "1"], keeps=False)
+    own = [word.replace(f"{TOP}/crates/", f"{folder.parent}/") for word in words]
+    return [str(kit() / "bin" / "rattle"), "check", *own, "--incremental", "out/incremental"]
 
 
 def linked(source, target):
-    """Gives what was proved a second name: a check replaces such a file, and writes into none. All else is copied."""
+    """Gives what was built or proved a second name: `rt` replaces such a file, and writes into none. All else is copied."""
     try:
-        if source.endswith(".oantt"):
+        if "/rlib/" in source or source.endswith(".oantt"):
             return os.link(source, target)
     except OSError:
         pass
@@ -177,7 +192,7 @@ def check(bodies, folder, only=True):
     whose texts are its own again afterwards."""
     functions = [word for body in bodies for word in ("--only", body.function)] if only else []
     with replaced(texts_with(bodies, folder)):
-        return said_by(*checker_of(folder.name), *functions, folder=folder)[1]
+        return said_by(*checker_of(folder), *functions, folder=folder)[1]
 
 
 def goals_of(name, text, said):

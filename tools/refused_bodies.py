@@ -69,7 +69,7 @@ def sum_of(crate):
     for name in sorted(crates):
         files += sorted(path for part in batches.PARTS for path in (TOP / "crates" / name / part).rglob("*") if path.is_file())
     for path in files:
-        found.update(f"{path.name} {path.parent.name}\n".encode() + hashlib.sha256(path.read_bytes()).digest())
+        found.update(f"{path.relative_to(TOP)}\n".encode() + hashlib.sha256(path.read_bytes()).digest())
     return found.hexdigest()
 
 
@@ -97,8 +97,8 @@ def judged(bodies, folder, is_proved):
     return results
 
 
-def try_crate(folder, is_proved, is_anew):
-    """Tries the bodies of the crate in this folder, in a copy. Whether each passed, or could be read."""
+def try_crate(folder, copy, is_proved, is_anew):
+    """Tries the bodies of the crate in this folder, in that of a copy. Whether each passed, or could be read."""
     bodies, wrong = bodies_of(folder)
     lines, crate_sum = [f"refused {text}" for text in wrong], sum_of(folder.name)
     left = [body for body in bodies if is_anew or not kept(crate_sum, body).is_file()]
@@ -106,8 +106,7 @@ def try_crate(folder, is_proved, is_anew):
     if len(left) < len(bodies):
         lines.append(f"refused {folder.name}: {len(bodies) - len(left)} of {len(bodies)} were refused by earlier runs over the same files")
     if left:
-        with tempfile.TemporaryDirectory(prefix="refused-") as room:
-            found = judged(left, batches.copy_of(folder.name, Path(room)), is_proved)
+        found = judged(left, copy, is_proved)
         is_same = sum_of(folder.name) == crate_sum  # nothing was changed meanwhile
         for body, well, text in found:
             lines.append(f"refused {body}: {'' if well else 'WRONG: '}{text}")
@@ -130,8 +129,10 @@ def main():
         sys.exit(f"refused_bodies: no wrong bodies stand in {', '.join(sorted(set(given.crates) - set(folders)))}")
     chosen = [folders[name] for name in folders if not given.crates or name in given.crates]
     chosen.sort(key=lambda folder: -len(list((folder / "refused").iterdir())))
-    with ThreadPoolExecutor(max(1, given.jobs)) as lanes:
-        results = [it for found in lanes.map(lambda folder: try_crate(folder, given.proved, given.anew), chosen) for it in found]
+    with tempfile.TemporaryDirectory(prefix="refused-") as room, ThreadPoolExecutor(max(1, given.jobs)) as lanes:
+        copies = batches.copies_of([folder.name for folder in chosen], Path(room))
+        tried = lanes.map(lambda folder: try_crate(folder, copies[folder.name], given.proved, given.anew), chosen)
+        results = [it for found in tried for it in found]
     print(f"{results.count(True)} passed, {results.count(False)} failed")
     return 0 if all(results) else 1
 

@@ -185,6 +185,8 @@ class Crate(unittest.TestCase):
             (self.folder / file).write_text(text, encoding="utf-8")
         (self.top / "crates.txt").write_text("few: core\n", encoding="utf-8")
         (self.top / "HANDLES").write_text("Handles allowed: Threads, Wait.\n", encoding="utf-8")
+        batches.crates.cache_clear()
+        self.addCleanup(batches.crates.cache_clear)
         for module in (quick, batches, refused_bodies):
             held = mock.patch.object(module, "TOP", self.top)
             held.start()
@@ -234,7 +236,7 @@ class Crate(unittest.TestCase):
         }
         bodies = [self.placed(name, function, *pairs) for name, (function, pairs, _, _) in rows.items()]
         with tempfile.TemporaryDirectory(prefix="refused-test-") as room:
-            folder = batches.copy_of("few", Path(room))
+            folder = batches.copies_of(["few"], Path(room))["few"]
             found = {str(body): (well, text) for body, well, text in refused_bodies.judged(bodies, folder, False)}
         for name, (_, _, well, text) in rows.items():
             self.assertEqual(found[name][0], well, (name, found[name]))
@@ -244,7 +246,7 @@ class Crate(unittest.TestCase):
         file = self.folder / "src" / "lib.rt"
         file.write_text(CRATE.replace("wide + 1", "wide + 3"), encoding="utf-8")
         with tempfile.TemporaryDirectory(prefix="refused-test-") as room:
-            folder = batches.copy_of("few", Path(room))
+            folder = batches.copies_of(["few"], Path(room))["few"]
             (result,) = refused_bodies.judged([self.placed("wrong", "twice", ("(number) * 2", "(number) * 3"))], folder, False)
         self.assertEqual(result[1:2] + (result[2][:10],), (False, "NOT TRIED:"))
 

@@ -124,7 +124,7 @@ def proved(crate, pairs, review):
     """The bodies of a crate that the prover passes."""
     left, by = [], {placed: body for body, placed in pairs}
     with tempfile.TemporaryDirectory(prefix="review-") as room:
-        folder = batches.copy_of(crate, Path(room))
+        folder = batches.copies_of([crate], Path(room))[crate]
         for placed, goals, _ in batches.tried(list(by), folder):
             if goals:
                 review.held(by[placed], f"refused at {', '.join(goals)}")
