@@ -211,10 +211,14 @@ def goals_of(name, text, said):
 
 
 def told_of(function, said):
-    """What a check tells of the function that is meant, and of the closures in it, each by its name; empty where no one function is meant."""
-    lines = TOLD.findall(said)
-    names = [name for name, _ in lines if f"::{name}".endswith(f"::{function}")]
-    return {name: text for name, text in lines if len(names) == 1 and f"{name}::".startswith(f"{names[0]}::")}
+    """What a check tells of the function that is meant, and behind it of the closures in it, each by its name; empty where no one function is
+    meant."""
+    told = TOLD.findall(said)
+    own = [(name, text) for name, text in told if f"::{name}".endswith(f"::{function}")]
+    if len(own) != 1:
+        return {}
+    module, _, last = own[0][0].rpartition("::")
+    return dict(own + [(name, text) for name, text in told if name.startswith(f"{module}::fn::{last}::")])
 
 
 def judge(function, said):
@@ -223,7 +227,7 @@ def judge(function, said):
     if not told:
         count = sum(f"::{name}".endswith(f"::{function}") for name, _ in TOLD.findall(said))
         return [], f"the check has {count} lines for {function}; it ends: {said.strip()[-300:]}"
-    return [goal for name, text in told.items() for goal in goals_of(name, text, said)], min(told.items())[1]
+    return [goal for name, text in told.items() for goal in goals_of(name, text, said)], next(iter(told.values()))
 
 
 def strangers(bodies, said):

@@ -106,8 +106,9 @@ fn few::low::fourth: proved
 fn few::low::fifth: not proved; it calls `few::low::first`, which is not proved
 fn few::low::sixth: no proof: expected answers; `search` did not prove `overflow_add`; it calls `few::low::first`, which is not proved
 fn few::low::seventh: no proof: expected a measure in ./proofs/low/seventh/Invariants.antt
-fn few::low::ninth: no proof: it calls `few::low::ninth::scope`, which is not proved
-fn few::low::ninth::scope: no proof: expected answers; `search` did not prove `returns-clause-same`
+fn few::low::fn::ninth::scope: no proof: expected answers; `search` did not prove `returns-clause-same`
+fn few::low::fn::ninth::scope+FnOnce::call_once: no proof: it calls `few::low::fn::ninth::scope`, which is not proved
+fn few::low::ninth: no proof: it calls `few::low::fn::ninth::scope+FnOnce::call_once`, which is not proved
 fn few::low::ninth_of: proved
 crate few: modules loaded=28 checked=21
 """
