@@ -3,7 +3,7 @@
 tests of this repository alone, as wrong bodies, isn't copied.
 
 - set:    sets and atoms, which threads share, and `hello`, which interns a word and prints its atom
-- table:  tables for one thread, and `name_scopes`, which counts the names of a program in C, block by block
+- table:  tables for one thread, and `example_scopes`, which counts the names of a program in C, block by block
 
 usage: tools/begin.py set|table FOLDER     FOLDER is new, or empty
 """
@@ -16,7 +16,7 @@ from pathlib import Path
 from quick import TOP, crates_listed, stands_on
 
 # The example of each kind, and the handles that it may use.
-KINDS = {"set": ("hello", "Threads, Wait."), "table": ("name_scopes", "none.")}
+KINDS = {"set": ("hello", "Threads, Wait."), "table": ("example_scopes", "none.")}
 PARTS = ("src", "specs", "proofs", "data", "README.md", "CALLING.md", "args", "status", "stdin", "stdout")
 
 

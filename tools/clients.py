@@ -173,9 +173,9 @@ def by_pkg_config(place):
 def scopes(place):
     """Of the names of a program, block by block, the program in C says what the one in Rattle does."""
     program = built(place, "scopes", cc(), [C / "names" / "scopes.c", *NAMES, C / "names" / "word_map.c"], *AS_C, *sanitized(cc(), place))
-    folder = TOP / "crates" / "name_scopes"
+    folder = TOP / "crates" / "example_scopes"
     if said_by(program, folder / "stdin") != (folder / "stdout").read_text(encoding="utf-8"):
-        raise Failed("scopes.c prints something else than crates/name_scopes")
+        raise Failed("scopes.c prints something else than crates/example_scopes")
     return 1
 
 

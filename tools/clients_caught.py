@@ -36,7 +36,7 @@ class Skipped(Exception):
 def copied(folder):
     """A copy of what the tests of clients need, in a new folder."""
     out = shutil.ignore_patterns("out", "target", "__pycache__", "Cargo.lock")
-    for name in ("clients", "tools", "crates/name_scopes"):
+    for name in ("clients", "tools", "crates/example_scopes"):
         shutil.copytree(TOP / name, folder / name, ignore=out)
     return folder
 

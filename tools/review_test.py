@@ -35,7 +35,7 @@ new:         let Pack { others: _, first } = self;
 """
 WANTED = {
     "look_gives_nothing (": "refused at ",
-    "end_forgets_what_it_takes_out (": " of cell_rows fails",
+    "end_forgets_what_it_takes_out (": " of test_cells fails",
     "  parts_in_another_order (": "node_chain",
     "review: 3 bodies, 1 that nothing holds": "",
 }

@@ -32,9 +32,9 @@ MODULES = [
     (Listed("Dishes", "Dish", "uses", "dishes"), None, "dishes.tables"),
     (Listed("Elements", "Element", "interning_speed", "elements"), None, ELEMENTS),
     (Listed("Names", "Name", "rows", "names/static_names"), "names", "names.tables"),
-    (Packed("Dishes", "Dish", "packed_rows", "dishes"), None, "dishes.tables"),
-    (Packed("Elements", "Element", "packed_rows", "elements"), None, "elements.tables"),
-    (Packed("PageNames", "PageName", "page_names", "names"), "names", "names.tables"),
+    (Packed("Dishes", "Dish", "test_packed", "dishes"), None, "dishes.tables"),
+    (Packed("Elements", "Element", "test_packed", "elements"), None, "elements.tables"),
+    (Packed("PageNames", "PageName", "example_page_names", "names"), "names", "names.tables"),
 ]
 
 # Lists, and a part of what is said of each.

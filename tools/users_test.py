@@ -45,7 +45,7 @@ class Begin(unittest.TestCase):
         self.runs("set", "hello")
 
     def test_a_repository_over_tables_runs(self):
-        self.runs("table", "name_scopes")
+        self.runs("table", "example_scopes")
 
     def test_what_is_there_stays(self):
         own = self.room / "mine"

@@ -1,0 +1,9 @@
+use Rattle.std.proofs.Common.{take}
+use Rattle.string_cache_core.specs.Kept.{map_of}
+use Rattle.string_cache_core.specs.Tables.{empty_tables}
+use Rattle.example_tables.specs.Known.{AreKnown}
+use Rattle.example_tables.proofs.upkeep.table_of.Given as goal
+
+-- the names so far have words
+abbrev pub invariant-loop-name : goal.invariant-loop-name
+invariant-loop-name l = AreKnown empty_tables (map_of l.table) (take l.name-index l.names)

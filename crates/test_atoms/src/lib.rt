@@ -1,0 +1,18 @@
+//! Rows with worked values of atoms: their words, texts, orders, cases and JSON texts, and how many may hold one. They stand apart from
+//! `string_cache`, since a crate with tests is proved twice, and from `test_sets`, since two crates are proved beside each other.
+#![tactic(auto)]
+
+#[cfg(test)]
+mod atoms;
+#[cfg(test)]
+mod found;
+#[cfg(test)]
+mod holders;
+#[cfg(test)]
+mod lent;
+#[cfg(test)]
+mod printed;
+#[cfg(test)]
+mod samples;
+#[cfg(test)]
+mod texts;

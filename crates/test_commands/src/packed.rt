@@ -1,0 +1,66 @@
+//! Words and counts over sets of a packed static type, whose long names are static in them.
+
+use commands::words::words;
+use example_page_names::names::PageNames;
+use std::alloc::Global;
+use std::sync::Wait;
+use std::thread::Threads;
+use string_cache::StaticTables;
+use string_cache::dynamic_set::Set;
+use text_streams::streams::Io;
+use word_counts::count::{Open, count};
+use word_counts::samples::are;
+
+const TEXT: &str = "fieldset p crème-brûlée fieldset p crème-brûlée fieldset";
+
+const LINES: &str = "Not seen the word \"fieldset\" before
+Not seen the word \"p\" before
+Not seen the word \"crème-brûlée\" before
+Seen the word \"fieldset\" 1 times
+Seen the word \"p\" 1 times
+Seen the word \"crème-brûlée\" 1 times
+Seen the word \"fieldset\" 2 times
+";
+
+const COUNTS: [(&str, u64); 3] = [("crème-brûlée", 2), ("fieldset", 3), ("p", 2)];
+
+// These say nothing of what they do, so that each test is proved in a moment. They take any static type, since the borrow checker doesn't
+// cover a function in which a set of a packed type stands by name.
+
+/// Whether the lines of the words are written.
+fn are_told<S: StaticTables, R: Wait>(rt: &R, alloc: Global) -> bool {
+    let Ok(set) = Set::<S>::new(alloc) else {
+        return false;
+    };
+    let mut writer = Io::new(Vec::new(alloc));
+    let answer = words(rt, &set, &mut Io::new(TEXT.as_bytes()), &mut writer);
+    answer == Ok(()) && writer.into_inner().as_slice() == LINES.as_bytes()
+}
+
+/// Whether a worker, or two, count the words.
+fn are_counted<S: StaticTables + Send + Sync, R: Threads + Wait + Sync>(
+    rt: &R,
+    alloc: Global,
+    both: bool,
+) -> bool {
+    let Ok(set) = Set::<S>::new(alloc) else {
+        return false;
+    };
+    let workers = if both { 2 } else { 1 };
+    match count(rt, &set, TEXT, workers, &Open) {
+        Ok(counts) => are(&counts, &COUNTS),
+        Err(_) => false,
+    }
+}
+
+#[test]
+fn words_over_packed_names(rt: HostRuntime) {
+    assert!(rt; are_told::<PageNames, HostRuntime>(&rt, rt.alloc()));
+}
+
+#[test]
+fn counts_over_packed_names(rt: HostRuntime) {
+    for both in [false, true] {
+        assert!(rt; are_counted::<PageNames, HostRuntime>(&rt, rt.alloc(), both));
+    }
+}

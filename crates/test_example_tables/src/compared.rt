@@ -1,0 +1,108 @@
+//! Names that are compared.
+
+use crate::kept::Plain;
+use std::alloc::Global;
+use std::process::Abort;
+use string_cache_core::word::{Form, form_of};
+use example_tables::{are_one_name, is_keyword, same_word, two_come_and_go};
+
+/// Two names, and whether they are one.
+const PAIRS: [(&str, &str, bool); 7] = [
+    ("while", "while", true),
+    ("while", "where", false),
+    ("continue", "continue", true),
+    ("continue", "contrive", false),
+    ("interned", "internal", false),
+    ("m\u{f6}glich", "m\u{f6}glich", true),
+    ("a", "", false),
+];
+
+fn empty<R: Abort>(rt: &R, alloc: Global) -> Plain {
+    Plain::new(alloc).expect(rt, "a table")
+}
+
+#[test]
+fn names_have_one_word_each(rt: HostRuntime) {
+    for (left, right, wanted) in &PAIRS {
+        let found = same_word(rt.alloc(), left, right);
+        assert!(rt; found == Ok(*wanted), "of {left:?}");
+    }
+}
+
+/// Whether that is what is told of a name and a keyword, and the table holds nothing after it.
+fn told_of_keyword(table: &mut Plain, name: &str, keyword: &str, wanted: bool) -> bool {
+    is_keyword(table, name, keyword) == Ok(wanted) && table.entries() == 0
+}
+
+#[test]
+fn keywords_are_told_and_given_back(rt: HostRuntime) {
+    let mut table = empty(&rt, rt.alloc());
+    for (name, word, wanted) in &PAIRS {
+        assert!(rt;
+            told_of_keyword(&mut table, name, word, *wanted),
+            "of {name:?}"
+        );
+    }
+}
+
+/// The same of two names that go in either order.
+fn told_of_two(table: &mut Plain, first: &str, second: &str, wanted: bool) -> bool {
+    two_come_and_go(table, first, second, true) == Ok(wanted)
+        && table.entries() == 0
+        && two_come_and_go(table, first, second, false) == Ok(wanted)
+        && table.entries() == 0
+}
+
+#[test]
+fn two_names_go_in_either_order(rt: HostRuntime) {
+    let mut table = empty(&rt, rt.alloc());
+    for (first, second, wanted) in &PAIRS {
+        assert!(rt;
+            told_of_two(&mut table, first, second, *wanted),
+            "of {first:?}"
+        );
+    }
+}
+
+/// The same of a name twice, and another.
+fn told_of_three(table: &mut Plain, name: &str, other: &str, wanted: bool) -> bool {
+    are_one_name(table, name, name, other) == Ok(wanted) && table.entries() == 0
+}
+
+#[test]
+fn three_names_are_compared(rt: HostRuntime) {
+    let mut table = empty(&rt, rt.alloc());
+    for (name, other, wanted) in &PAIRS {
+        assert!(rt;
+            told_of_three(&mut table, name, other, *wanted),
+            "of {name:?}"
+        );
+    }
+}
+
+/// Whether the word of a text is a ticket. `None` where it is neither that nor inline.
+fn is_dynamic(table: &mut Plain, text: &str) -> Option<bool> {
+    match form_of(table.intern(text).ok()?)? {
+        Form::Dynamic { .. } => Some(true),
+        Form::Inline(_) => Some(false),
+        Form::Static(_) => None,
+    }
+}
+
+fn is_long(word: &str) -> bool {
+    ["sentence", "tokenised", "interned", "repeated"].contains(&word)
+}
+
+/// Of the words of the original's example, exactly four are dynamic.
+#[test]
+fn forms_of_the_example(rt: HostRuntime) {
+    let text =
+        "here is a sentence of text that will be tokenised and\ninterned and some repeated tokens is of text and";
+    let mut table = empty(&rt, rt.alloc());
+    for word in text.split_whitespace() {
+        assert!(rt;
+            is_dynamic(&mut table, word) == Some(is_long(word)),
+            "of {word:?}"
+        );
+    }
+}
