@@ -2,15 +2,15 @@
 # The gate: every proof from nothing, the edits of must-fail that the prover has to refuse, every test, each program as two compilers
 # build it (rt ci), then the other wrong bodies that the prover has to refuse, many in a check, each request for memory or a thread refused
 # under the tests that rt ci built, the schedules of small scenes, the static types that a script writes, the scripts by which users begin, that
-# count over many machines and that review wrong bodies, what is said of wrong bodies, the library for C with its clients and their wrong bodies, and each
+# count over many machines and that review wrong bodies, the pictures, what is said of wrong bodies, the library for C with its clients and their wrong bodies, and each
 # wrong body that a test has to catch, which begin where rt ci leaves a processor idle. The last lines tell what each part took, and sum up.
 #
-# `./test.sh quick [CRATE ..]` isn't the gate: it proves what changed over kept work, and runs the tests that see it (tools/quick.py).
+# `./test.sh quick [CRATE ..]` isn't the gate: it proves what changed over kept work, and runs the tests that see it (gate/quick.py).
 set -uo pipefail
 cd "$(dirname "$0")" || exit 1
 if [[ ${1:-} == quick ]]; then
     shift
-    exec tools/quick.py "$@"
+    exec gate/quick.py "$@"
 fi
 
 said=$(mktemp -d)
@@ -55,26 +55,27 @@ add() {
     fi
 }
 
-export RT_JOBS=${RT_JOBS:-$(tools/lanes.py)}
+export RT_JOBS=${RT_JOBS:-$(gate/lanes.py)}
 run ci rt ci &
 ci=$!
-run caught tools/caught.py --tested --beside "$ci" > "$said/bodies" &
+run caught gate/caught.py --tested --beside "$ci" > "$said/bodies" &
 bodies=$!
 wait "$ci"
-run prover tools/refused_bodies.py --proved --jobs "${RT_JOBS:-2}" > "$said/edits" &
+run prover gate/refused_bodies.py --proved --jobs "${RT_JOBS:-2}" > "$said/edits" &
 edits=$!
-run schedules tools/schedules/schedules.py --gate --jobs 2 > "$said/scenes" &
+run schedules gate/schedules/schedules.py --gate --jobs 2 > "$said/scenes" &
 scenes=$!
-run refused tools/refused.py
-run static tools/static_type.py --check
-run pages tools/pages.py
-run many tools/count_many_test.py
-run users tools/users_test.py
-run review tools/review_test.py
-run verdicts tools/caught_test.py
-run batches tools/refused_bodies_test.py
-run clients tools/clients.py
-run wrong_clients tools/clients_caught.py --archive crates/string_cache_c/out/libstring_cache_c.a
+run refused gate/refused.py
+run static gate/static_type_test.py
+run pages gate/pages.py
+run many gate/count_many_test.py
+run users gate/users_test.py
+run small gate/small_test.py
+run review gate/review_test.py
+run verdicts gate/caught_test.py
+run batches gate/refused_bodies_test.py
+run clients gate/clients.py
+run wrong_clients gate/clients_caught.py --archive crates/string_cache_c/out/libstring_cache_c.a
 wait "$bodies"
 cat "$said/bodies"
 wait "$scenes"
@@ -90,6 +91,7 @@ add static
 add pages
 add many
 add users
+add small
 add review
 add verdicts
 add batches

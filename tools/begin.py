@@ -2,7 +2,7 @@
 """Begins a repository that stands on this library: the crates that it needs, an example that runs, crates.txt and HANDLES. What serves the
 tests of this repository alone, as wrong bodies, isn't copied.
 
-- set:    sets and atoms, which threads share, and `hello`, which interns a word and prints its atom
+- set:    sets and atoms, which threads share, and `example_hello`, which interns a word and prints its atom
 - table:  tables for one thread, and `example_scopes`, which counts the names of a program in C, block by block
 
 usage: tools/begin.py set|table FOLDER     FOLDER is new, or empty
@@ -13,10 +13,10 @@ import shutil
 import sys
 from pathlib import Path
 
-from quick import TOP, crates_listed, stands_on
+from repository import TOP, crates_listed, stands_on
 
 # The example of each kind, and the handles that it may use.
-KINDS = {"set": ("hello", "Threads, Wait."), "table": ("example_scopes", "none.")}
+KINDS = {"set": ("example_hello", "Threads, Wait."), "table": ("example_scopes", "none.")}
 PARTS = ("src", "specs", "proofs", "data", "README.md", "CALLING.md", "args", "status", "stdin", "stdout")
 
 

@@ -16,10 +16,6 @@ The program `atoms` makes the tables, so it has to be built: `cd crates/atoms &&
 input has what it printed, in place of names, and the module has the type alone: no alias, no constants and no test.
 
 The module is in the layout of `rt fmt`, and needs no trust: the checker refuses a type whose tables aren't usable.
-
-    tools/static_type.py --check
-
-writes the types of this repository once more, tries lists that have to be refused, and says whether all is well.
 """
 
 import argparse
@@ -169,10 +165,6 @@ def write_answers(file, text):
 
 
 def main():
-    if sys.argv[1:] == ["--check"]:
-        from static_type_test import check
-
-        return check()
     parser = argparse.ArgumentParser(description=__doc__, formatter_class=argparse.RawDescriptionHelpFormatter)
     parser.add_argument("type", metavar="TYPE", help="what the type is called, as Names")
     parser.add_argument("crate", metavar="CRATE", help="the folder of the crate that gets the module")

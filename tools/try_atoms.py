@@ -10,7 +10,7 @@ import sys
 import tempfile
 from pathlib import Path
 
-from unproved import NotBuilt, link, object_of
+from programs import NotBuilt, link, object_of
 
 CRATE = Path(__file__).resolve().parent.parent / "crates" / "atoms"
 

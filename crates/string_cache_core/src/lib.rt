@@ -5,6 +5,4 @@
 pub mod table;
 
 pub use atomic_steps::steps;
-#[doc(hidden)]
-pub use text_forms::samples;
 pub use text_forms::{Fault, packed_sets, phf, static_sets, word};

@@ -12,8 +12,6 @@ mod displace;
 pub mod generate;
 mod items;
 pub mod numbers;
-#[doc(hidden)]
-pub mod samples;
 mod search;
 pub mod tables;
 

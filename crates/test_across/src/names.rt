@@ -4,7 +4,7 @@ mod static_names;
 
 use static_names::{Name, Names};
 use string_cache::StaticAtomSet;
-use table_generator::samples::NAMES;
+use test_samples::NAMES;
 
 /// Under the tables that were generated of the long names, each is found without a set.
 #[test]

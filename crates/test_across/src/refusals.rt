@@ -1,4 +1,4 @@
-//! Calls that are refused memory. `tools/refused.py` runs each of these tests once for each request for memory that comes between the
+//! Calls that are refused memory. `gate/refused.py` runs each of these tests once for each request for memory that comes between the
 //! two lines printed round its call, and has that request refused. With all at hand they pass as any test does.
 
 mod generated;

@@ -11,7 +11,7 @@ use string_cache::dynamic_set::Set;
 use string_cache::static_sets::StaticAtomSet;
 use string_cache::trivial_impls::PrecomputedHash;
 use string_cache::{Atom, EmptyStaticAtomSet, Fault};
-use string_cache_core::samples::One;
+use test_samples::One;
 
 /// The static type of a row.
 #[derive(Clone, Copy)]

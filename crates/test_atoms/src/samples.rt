@@ -6,7 +6,7 @@ use std::sync::Wait;
 use string_cache::Atom;
 use string_cache::dynamic_set::Set;
 use string_cache::static_sets::StaticAtomSet;
-pub use string_cache_core::samples::One;
+pub use test_samples::One;
 
 /// A set of the usual limits.
 pub fn empty_set<Static: StaticAtomSet>(rt: &impl Abort, alloc: Global) -> Set<Static> {

@@ -12,9 +12,9 @@ use std::sync::Wait;
 use std::thread::Threads;
 use string_cache::EmptyStaticAtomSet;
 use string_cache::dynamic_set::Set;
+use test_samples::EXAMPLE;
 use text_streams::faults::AppFault;
 use word_counts::count::count_command;
-use word_counts::samples::EXAMPLE;
 
 /// A call that reads all and writes.
 #[derive(Clone, Copy, Debug)]

@@ -9,7 +9,7 @@ use std::alloc::{AllocError, Global};
 use std::sync::Wait;
 use std::thread::Threads;
 use string_cache::phf::hash;
-use table_generator::samples::NAMES;
+use test_samples::NAMES;
 use text_streams::streams::Io;
 
 /// Tables of one text under a key: its hash is the library's own.

@@ -7,9 +7,9 @@ use std::sync::Wait;
 use std::thread::Threads;
 use string_cache::StaticTables;
 use string_cache::dynamic_set::Set;
+use test_refusals::are;
 use text_streams::streams::Io;
 use word_counts::count::{Open, count};
-use word_counts::samples::are;
 
 const TEXT: &str = "fieldset p crème-brûlée fieldset p crème-brûlée fieldset";
 

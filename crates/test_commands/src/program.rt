@@ -13,8 +13,8 @@ use std::sync::Wait;
 use std::thread::Threads;
 use string_cache::Fault;
 use table_generator::tables::GenFault;
+use test_samples::EXAMPLE;
 use text_streams::faults::AppFault;
-use word_counts::samples::EXAMPLE;
 
 const USAGE: &[u8] = b"usage: atoms words | count N | replay | generate KEY BOUND | check\n";
 

@@ -11,9 +11,9 @@ use std::{io, str};
 use string_cache::dynamic_set::Set;
 use string_cache::word::Limits;
 use string_cache::{Atom, EmptyStaticAtomSet, Fault};
+use test_samples::EXAMPLE;
 use text_streams::faults::AppFault;
 use text_streams::streams::{Io, Sink};
-use word_counts::samples::EXAMPLE;
 
 pub const EXAMPLE_LINES: &[u8] = b"Not seen the word \"here\" before
 Not seen the word \"is\" before

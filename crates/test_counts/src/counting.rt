@@ -10,9 +10,10 @@ use std::{str, thread};
 use string_cache::dynamic_set::Set;
 use string_cache::word::Limits;
 use string_cache::{Atom, EmptyStaticAtomSet, Fault};
+use test_refusals::are;
+use test_samples::{EXAMPLE, EXAMPLE_COUNTS};
 use text_streams::faults::AppFault;
 use word_counts::count::{Gate, Open, count, sections};
-use word_counts::samples::{EXAMPLE, EXAMPLE_COUNTS, are};
 
 #[test]
 fn counts_of_the_example(rt: HostRuntime) {

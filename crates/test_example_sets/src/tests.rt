@@ -1,6 +1,12 @@
 //! What the small programs answer, with worked values.
 
 use counted_cell::{Label, Owner};
+use example_sets::{
+    Compared, DISHES_TABLES, Dishes, Priced, TAGS, Tag, Tags, agree, agree_in_scope, compare_names,
+    compute_something, finds_all, header_name, is_field, large_set, length_by_share, load,
+    price_of, price_of_text, priced_json, prints_well, save, set_price, tables_of_names, take_next,
+    through_json,
+};
 use node_chain::NodeChain;
 use std::alloc::Global;
 use std::cmp::Ordering;
@@ -10,12 +16,6 @@ use std::sync::Wait;
 use std::test::Fail;
 use string_cache::dynamic_set::Set;
 use string_cache::{Atom, DefaultAtom, EmptyStaticAtomSet, Fault};
-use example_sets::{
-    Compared, DISHES_TABLES, Dishes, Priced, TAGS, Tag, Tags, agree, agree_in_scope, compare_names,
-    compute_something, finds_all, header_name, is_field, large_set, length_by_share, load,
-    price_of, price_of_text, priced_json, prints_well, save, set_price, tables_of_names, take_next,
-    through_json,
-};
 
 /// What names cost.
 type Prices<'s> = HashMap<DefaultAtom<'s>, u32>;

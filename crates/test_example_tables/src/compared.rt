@@ -1,10 +1,10 @@
 //! Names that are compared.
 
 use crate::kept::Plain;
+use example_tables::{are_one_name, is_keyword, same_word, two_come_and_go};
 use std::alloc::Global;
 use std::process::Abort;
 use string_cache_core::word::{Form, form_of};
-use example_tables::{are_one_name, is_keyword, same_word, two_come_and_go};
 
 /// Two names, and whether they are one.
 const PAIRS: [(&str, &str, bool); 7] = [

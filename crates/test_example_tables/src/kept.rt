@@ -1,13 +1,13 @@
 //! What tables keep.
 
-use std::alloc::Global;
-use std::process::Abort;
-use string_cache_core::static_sets::EmptyStaticAtomSet;
-use string_cache_core::table::{Call, Table};
 use example_tables::{
     all_done, all_held, any_shared, bytes_for_each, first_text, last_text, make_room, small_table,
     start_over, table_of, table_with_holders, takes_at_most, usual_length,
 };
+use std::alloc::Global;
+use std::process::Abort;
+use string_cache_core::static_sets::EmptyStaticAtomSet;
+use string_cache_core::table::{Call, Table};
 
 /// A table without static texts.
 pub type Plain = Table<EmptyStaticAtomSet>;

@@ -1,10 +1,10 @@
 //! Names of two kinds, and a table that two threads read.
 
 use crate::kept::filled;
+use example_tables::{Function, Program, lengths_of_both};
 use std::alloc::Global;
 use std::process::Abort;
 use string_cache_core::table::Name;
-use example_tables::{Function, Program, lengths_of_both};
 
 /// The first ticket of "interned" in a table of 4096 buckets.
 const FIRST: u64 = 0x1_0840;

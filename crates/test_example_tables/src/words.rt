@@ -1,16 +1,16 @@
 //! Words that are shared, handed on and read.
 
 use crate::kept::{Plain, filled};
-use std::alloc::Global;
-use std::collections::HashMap;
-use std::process::Abort;
-use string_cache_core::Fault;
-use string_cache_core::samples::One;
-use string_cache_core::table::Table;
 use example_tables::{
     comes_and_goes, first_byte, hand_on, is_known, is_shared, lent_text, price_of, reads_back,
     share,
 };
+use std::alloc::Global;
+use std::collections::HashMap;
+use std::process::Abort;
+use string_cache_core::Fault;
+use string_cache_core::table::Table;
+use test_samples::One;
 
 fn with_static_text<R: Abort>(rt: &R, alloc: Global) -> Table<One> {
     Table::new(alloc).expect(rt, "a table")

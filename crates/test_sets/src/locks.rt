@@ -12,7 +12,7 @@ use string_cache::dynamic_set::{Bucket, Set};
 use string_cache::static_sets::EmptyStaticAtomSet;
 use string_cache::word::ticket_word;
 use string_cache::{Atom, DefaultAtom, Fault};
-use string_cache_core::samples::One;
+use test_samples::One;
 
 /// Whether each lock is free but this one's, or each, where there is no such bucket.
 fn are_free(set: &DefaultSet, held: usize) -> bool {

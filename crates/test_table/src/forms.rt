@@ -3,7 +3,6 @@
 use std::alloc::{AllocError, Global};
 use string_cache_core::Fault;
 use string_cache_core::phf::{Hashes, hash, place, sip24};
-use string_cache_core::samples::{One, Short, Twice};
 use string_cache_core::static_sets::{
     EmptyStaticAtomSet, PhfStrSet, StaticAtomSet, TextForm, check_parts, form_of_text, static_text,
 };
@@ -11,6 +10,7 @@ use string_cache_core::word::{
     Buckets, Form, HOLDER_BOUND, InlineText, Limits, MOST_BUCKETS, SERIAL_BOUND, form_of,
     pack_inline_word, static_word, ticket_word, unpack_inline,
 };
+use test_samples::{One, Short, Twice};
 
 /// Whether the text has this inline word.
 fn is_packed(text: &str, word: u64) -> bool {

@@ -1,4 +1,4 @@
-//! How many bytes a table takes. `tools/refused.py` holds the same numbers to those that an allocator is asked for.
+//! How many bytes a table takes. `gate/refused.py` holds the same numbers to those that an allocator is asked for.
 
 use std::alloc::Global;
 use std::process::Abort;

@@ -8,9 +8,9 @@ use std::alloc::Global;
 use std::process::Abort;
 use string_cache_core::Fault;
 use string_cache_core::phf::hash;
-use string_cache_core::samples::One;
 use string_cache_core::table::Table;
 use string_cache_core::word::{Buckets, Limits};
+use test_samples::One;
 
 /// Short texts, and their words: each is held, and has no text in the table.
 static SHORT: [Row; 19] = [

@@ -8,9 +8,9 @@ use std::alloc::{AllocError, Global};
 use std::collections::HashMap;
 use std::process::Abort;
 use string_cache_core::Fault;
-use string_cache_core::samples::One;
 use string_cache_core::table::{Name, Names, Table};
 use string_cache_core::word::{Buckets, Limits};
+use test_samples::One;
 
 /// Words of texts of up to 7 bytes, as the layout has them. No holders of them are counted.
 static INLINE: [Row; 16] = [

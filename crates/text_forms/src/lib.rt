@@ -4,8 +4,6 @@
 mod faults;
 pub mod packed_sets;
 pub mod phf;
-#[doc(hidden)]
-pub mod samples;
 pub mod static_sets;
 pub mod word;
 

@@ -3,6 +3,4 @@
 #![tactic(auto)]
 
 pub mod faults;
-#[doc(hidden)]
-pub mod samples;
 pub mod streams;

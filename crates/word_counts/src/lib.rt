@@ -3,5 +3,3 @@
 
 pub mod buckets;
 pub mod count;
-#[doc(hidden)]
-pub mod samples;

@@ -3,7 +3,7 @@
 use table_generator::check::check_tables;
 use table_generator::generate::generate;
 use table_generator::tables::GenFault;
-use text_streams::samples::at_last;
+use test_refusals::at_last;
 
 /// More than five texts: where a search of so few finds no tables, it has to show that there are none.
 const TEXTS: [&str; 7] = [

@@ -7,7 +7,7 @@ use std::sync::Wait;
 use string_cache::dynamic_set::Set;
 use string_cache::word::{Buckets, Limits};
 use string_cache::{DefaultAtom, EmptyStaticAtomSet, Fault};
-use text_streams::samples::at_last;
+use test_refusals::at_last;
 
 type OneBucket = Set<EmptyStaticAtomSet>;
 

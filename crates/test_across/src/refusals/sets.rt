@@ -10,7 +10,7 @@ use std::sync::Wait;
 use string_cache::dynamic_set::Set;
 use string_cache::word::{Buckets, Limits};
 use string_cache::{DefaultAtom, EmptyStaticAtomSet, Fault};
-use text_streams::samples::{End, at_last, begin, finish};
+use test_refusals::{End, at_last, begin, finish};
 
 /// The first ticket of "interned": its bucket is 0x210, the low bits of its SipHash by OpenSSL.
 const FIRST: u64 = 0x1_0840;

@@ -8,7 +8,7 @@ use string_cache::steps::{Step, StepReply, World};
 use string_cache::table::{Call, Table, TableReply};
 use string_cache::word::Limits;
 use string_cache::{EmptyStaticAtomSet, Fault};
-use text_streams::samples::{End, at_last, begin, finish};
+use test_refusals::{End, at_last, begin, finish};
 
 /// The first ticket of "interned", and the next one.
 const FIRST: u64 = 0x1_0840;

@@ -1,4 +1,4 @@
-//! Calls whose bytes a set tells: `tools/refused.py` compares what each of these tests prints with what the call asked for.
+//! Calls whose bytes a set tells: `gate/refused.py` compares what each of these tests prints with what the call asked for.
 
 use crate::begun::new_set;
 use std::alloc::Global;
@@ -8,7 +8,7 @@ use std::sync::Wait;
 use string_cache::dynamic_set::Set;
 use string_cache::word::{Buckets, Limits};
 use string_cache::{DefaultAtom, EmptyStaticAtomSet};
-use text_streams::samples::{End, begin, finish};
+use test_refusals::{End, begin, finish};
 
 /// A set without static texts.
 type DefaultSet = Set<EmptyStaticAtomSet>;

@@ -1,4 +1,4 @@
-//! Calls that ask for no memory: `tools/refused.py` refuses every request between the two lines, and wants that there is none.
+//! Calls that ask for no memory: `gate/refused.py` refuses every request between the two lines, and wants that there is none.
 
 use crate::begun::{new_set, new_table};
 use serde_json::Value;
@@ -11,8 +11,8 @@ use string_cache::static_sets::StaticAtomSet;
 use string_cache::table::Table;
 use string_cache::word::{Buckets, Limits};
 use string_cache::{Atom, DefaultAtom, EmptyStaticAtomSet, Fault};
-use string_cache_core::samples::One;
-use text_streams::samples::{End, begin, finish};
+use test_refusals::{End, begin, finish};
+use test_samples::One;
 
 #[test]
 fn short_text_is_interned(rt: HostRuntime) {

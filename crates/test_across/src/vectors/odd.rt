@@ -8,7 +8,7 @@ use string_cache::steps::World;
 use string_cache::table::Table;
 use string_cache::word::{Form, InlineText, Limits, form_of, ticket_word};
 use string_cache::{Atom, DefaultAtom, EmptyStaticAtomSet, Fault};
-use string_cache_core::samples::{One, Short, Twice};
+use test_samples::{One, Short, Twice};
 
 /// Tags that no form has, a length above 7, bytes behind the text, bytes that aren't UTF-8, low bits beside a static tag, and a
 /// ticket without a serial.

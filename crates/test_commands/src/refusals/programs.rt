@@ -17,10 +17,10 @@ use std::test::Fail;
 use std::thread::Threads;
 use string_cache::dynamic_set::Set;
 use string_cache::{Atom, EmptyStaticAtomSet};
+use test_refusals::{End, are, at_last, begin, finish};
+use test_samples::{EXAMPLE, EXAMPLE_COUNTS};
 use text_streams::faults::AppFault;
-use text_streams::samples::{End, at_last, begin, finish};
 use word_counts::count::{Open, count};
-use word_counts::samples::{EXAMPLE, EXAMPLE_COUNTS, are};
 
 #[test]
 fn words_in_a_set(rt: HostRuntime) {

@@ -1,4 +1,4 @@
-//! Workers whose threads can't be started: `tools/refused.py` refuses each start of the call in turn. Of a short text `count` starts one
+//! Workers whose threads can't be started: `gate/refused.py` refuses each start of the call in turn. Of a short text `count` starts one
 //! thread for each piece, from the last piece down, and no other; of one of many words, from four pieces on, another for half of the lists,
 //! which it can do without. With every start granted these pass as any test does.
 
@@ -9,10 +9,10 @@ use std::sync::atomic::{AtomicU64, Ordering};
 use string_cache::dynamic_set::Set;
 use string_cache::word::Limits;
 use string_cache::{Atom, EmptyStaticAtomSet, Fault};
+use test_refusals::{End, begin, finish};
+use test_samples::EXAMPLE;
 use text_streams::faults::AppFault;
-use text_streams::samples::{End, begin, finish};
 use word_counts::count::{Gate, count};
-use word_counts::samples::EXAMPLE;
 
 /// Counts how often the first worker and the second enter.
 #[derive(Drop)]

@@ -1,0 +1,84 @@
+//! How tests watch a call that may be refused memory, or a thread. `gate/refused.py` refuses the requests that come between the two
+//! lines printed round the call.
+
+use std::io::Print;
+use string_cache::Fault;
+use table_generator::tables::GenFault;
+use text_streams::faults::AppFault;
+
+/// A fault that may come from a refused request.
+pub trait Refusal: Drop {
+    fn is_of_refusal(&self) -> bool;
+}
+
+impl Refusal for Fault {
+    fn is_of_refusal(&self) -> bool {
+        *self == Fault::Memory
+    }
+}
+
+impl Refusal for GenFault {
+    fn is_of_refusal(&self) -> bool {
+        *self == GenFault::Memory
+    }
+}
+
+/// A thread that can't be started may want memory as well.
+impl Refusal for AppFault {
+    fn is_of_refusal(&self) -> bool {
+        match self {
+            AppFault::Intern(fault) => fault.is_of_refusal(),
+            AppFault::Gen(fault) => fault.is_of_refusal(),
+            AppFault::Worker => true,
+            _ => false,
+        }
+    }
+}
+
+/// How a call ends.
+#[derive(Clone, Copy)]
+pub enum End {
+    /// With its answer.
+    Given,
+    /// A request was refused, and it keeps no memory.
+    Refused,
+    /// A request was refused, and it keeps what it did till then.
+    RefusedMidway,
+}
+
+impl End {
+    /// The end of a call that keeps nothing where a request is refused.
+    pub fn of<T, E: Refusal>(answer: &Result<T, E>) -> End {
+        match answer {
+            Err(fault) if fault.is_of_refusal() => End::Refused,
+            _ => End::Given,
+        }
+    }
+}
+
+/// Prints the line before the call.
+pub fn begin<R: Print>(rt: &R) {
+    let _ = println!(rt; "== call");
+}
+
+/// Prints the line behind the call.
+pub fn finish<R: Print>(rt: &R, how: End) {
+    let _ = match how {
+        End::Given => println!(rt; "== given"),
+        End::Refused => println!(rt; "== refused"),
+        End::RefusedMidway => println!(rt; "== refused midway"),
+    };
+}
+
+/// What a call gives or, where a request is refused, what it gives once it is made again.
+pub fn at_last<T, E: Refusal, R: Print, F: Fn() -> Result<T, E>>(rt: &R, call: F) -> Result<T, E>
+    requires { F.IsAlwaysCallable call }
+{
+    begin(rt);
+    let answer = call();
+    finish(rt, End::of(&answer));
+    match answer {
+        Err(fault) if fault.is_of_refusal() => call(),
+        made => made,
+    }
+}

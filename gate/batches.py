@@ -1,0 +1,230 @@
+"""Wrong bodies of several functions in one check, and what the check says of each.
+
+No function's theorem rests on another's body, and the checker goes on behind a function that it can't prove. So a check may have a wrong
+body in each of many functions, and each is judged by what is said of its own function alone:
+
+- It is refused where `search` left a goal of that function, where an error stands in that function's own folder of proofs, or where a loop
+  that the body adds is asked for a measure.
+- Where its proofs name what the edit took away, as a variable or a goal, nothing is shown of the contract: it isn't refused.
+- A check without a line for the function says nothing of it.
+
+A body is given by its function, named by the end of its name as `rt check` prints it, and by what is replaced by what. It may change that
+function's body and that function's own files below proofs/, and nothing else. Each text is put at its place in the crate's own text, so
+that what one body writes can't be what another looks for.
+"""
+
+import re
+import shutil
+from dataclasses import dataclass, field
+from pathlib import Path
+
+import find_tools  # has Python find the modules of tools/
+from copies import crates, linked
+from edits import FUNCTION, BadEdit, replaced
+from programs import kit
+from repository import TOP, said_by
+
+TOLD = re.compile(r"^fn (\S+): (.*)$", re.MULTILINE)
+PROVED = ("proved", "assumed")
+PARTS = ("src", "specs", "proofs")  # what a check reads of a crate
+LEFT = re.compile(r"`search` did not prove ((?:`[^`]*`(?:, (?:and )?| and )?)+)")
+MEASURE = re.compile(r"expected a measure in ")
+GOAL = re.compile(r"`([^`]*)`")
+GONE = re.compile(r"has no field|is not in scope|has no `|was not admitted|is no name")
+GENERICS = re.compile(r"<[^<>]*>")
+
+
+@dataclass(eq=False)
+class Body:
+    """A wrong body: what it is called, its crate, its function, and what is replaced, as (file, first, end, new text) in the crate's own
+    texts."""
+
+    label: str
+    crate: str
+    function: str
+    places: list = field(default_factory=list)
+
+    def __str__(self):
+        return self.label
+
+
+def function_at(text, place):
+    """The name of the function in whose body this place lies, the type of its impl or None, and where the body begins and ends."""
+    lines, starts = text.split("\n"), [0]
+    for line in lines:
+        starts.append(starts[-1] + len(line) + 1)
+    number = next(it for it in range(len(lines)) if starts[it + 1] > place)
+    head = next((it for it in range(number, -1, -1) if FUNCTION.match(lines[it])), None)
+    if head is None:
+        raise BadEdit("it changes what is no function's body")
+    indent, name = FUNCTION.match(lines[head]).groups()
+    inner = f"{indent} "
+    opens = next((it for it in range(head, len(lines)) if lines[it].endswith("{") and (it == head or not lines[it].startswith(inner))), None)
+    if opens is None or any(it.endswith(";") and not it.startswith(inner) for it in lines[head:opens]):
+        raise BadEdit(f"{name} has no body")
+    closes = lines.index(f"{indent}}}", opens)
+    around = next((it for it in reversed(lines[:head]) if indent and it.startswith("impl")), "")
+    return name, type_of(around), starts[opens + 1], starts[closes]
+
+
+def type_of(head):
+    """The type of an impl that begins so, or None where it is a parameter."""
+    head = head.replace("->", "")
+    while GENERICS.search(head):
+        head = GENERICS.sub("", head)
+    words = re.findall(r"\w+", head.partition(" where ")[0].rpartition(" for ")[2])
+    return words[-1] if words and len(words[-1]) > 1 else None
+
+
+def is_of(function, name, around):
+    """Whether a function of this name, in an impl of that type or in none, can be the one that is meant."""
+    *types, last = function.split("::")
+    return last == name and (not types or around is None or around in types[-1])
+
+
+def placed(label, folder, function, changes):
+    """The wrong body of a function of the crate in this folder that the changes make."""
+    body = Body(label, folder.name, function)
+    for file, old, new in changes:
+        path = folder / file
+        text = path.read_text(encoding="utf-8") if path.is_file() else ""
+        if text.count(old) != 1:
+            raise BadEdit(f"an 'old:' text stands {text.count(old)} times in {file}, and not once")
+        at = text.index(old)
+        if file.startswith("src/"):
+            name, around, opens, closes = function_at(text, at)
+            if not is_of(function, name, around) or not opens <= at < at + len(old) <= closes:
+                raise BadEdit(f"{file} is changed outside the body of {function}: {old.strip()}")
+        elif not file.startswith("proofs/") or f"/{function.replace('::', '/')}/" not in file:
+            raise BadEdit(f"{file} is no proof file of {function}")
+        body.places.append((file, at, at + len(old), new))
+    if not any(file.startswith("src/") for file, *_ in body.places):
+        raise BadEdit("it changes no body")
+    return body
+
+
+def batches(bodies):
+    """The bodies of a crate in as few lists as there may be with no function twice."""
+    left = list(bodies)
+    while left:
+        batch = list({body.function: body for body in reversed(left)}.values())
+        yield batch
+        left = [body for body in left if body not in batch]
+
+
+def texts_with(bodies, folder):
+    """The texts that have all these bodies, by their files in the folder of their crate."""
+    texts = {}
+    for file in {file for body in bodies for file, *_ in body.places}:
+        path = folder / file
+        text, end = path.read_text(encoding="utf-8"), None
+        for first, last, new in sorted((place[1:] for body in bodies for place in body.places if place[0] == file), reverse=True):
+            if end is not None and last > end:
+                raise BadEdit(f"two bodies change one place of {file}")
+            text, end = text[:first] + new + text[last:], first
+        texts[path] = text
+    return texts
+
+
+def build_below(name):
+    """Has the libraries below this crate stand as they were built last. `rt ci` leaves them as its own proofs used them, without a stamp, so
+    that `rt check` would prove each once more: where all are so, nothing is to be done."""
+    built = [(Path(it.rlib), Path(it.rlib).parent / "stamp") for it in crates()[name].below()]
+    if any(not library.is_dir() or stamp.exists() for library, stamp in built):
+        said_by("rt", "check", "--only", "no function", folder=TOP / "crates" / name)
+
+
+def copies_of(names, room):
+    """The folders of these crates in a copy, by their names, with what earlier checks of them kept, and with the libraries below them, which
+    may be built anew meanwhile where they are. The copy is made in the room, an empty folder."""
+    for name in names:
+        build_below(name)
+    kept = [(name, "incremental") for name in names] + [(it.name, "rlib") for it in {it for name in names for it in crates()[name].below()}]
+    for name, part in kept:
+        own, copy = (top / "crates" / name / "out" / part for top in (TOP, room))
+        if own.is_dir():
+            shutil.copytree(own, copy, copy_function=linked)
+    for name, part in ((name, part) for name in names for part in PARTS):
+        own, copy = (top / "crates" / name / part for top in (TOP, room))
+        if own.is_dir():
+            shutil.copytree(own, copy)
+    return {name: room / "crates" / name for name in names}
+
+
+def checker_of(folder):
+    """The words of a check of the crate in this folder of a copy, over the libraries there."""
+    words = crates()[folder.name].words(["--jobs", "1"], keeps=False)
+    own = [word.replace(f"{TOP}/crates/", f"{folder.parent}/") for word in words]
+    return [str(kit() / "bin" / "rattle"), "check", *own, "--incremental", "out/incremental"]
+
+
+def check(bodies, folder, only=True):
+    """What a check of the functions of these bodies, or else of the whole crate with them, says, in the folder of a copy of their crate,
+    whose texts are its own again afterwards."""
+    functions = [word for body in bodies for word in ("--only", body.function)] if only else []
+    with replaced(texts_with(bodies, folder)):
+        return said_by(*checker_of(folder), *functions, folder=folder)[1]
+
+
+def goals_of(name, text, said):
+    """The goals of its own at which a check refused the function of this name, of which it tells the text."""
+    if text in PROVED:
+        return []
+    left = LEFT.search(text)
+    own = f"proofs/{'/'.join(name.split('::')[1:])}/"
+    lines = [line.removeprefix("./") for line in said.splitlines()]
+    errors = [line.partition(": error")[2].lstrip(": ") for line in lines if line.startswith(own) and ": error" in line]
+    if any(GONE.search(error) for error in errors):
+        return []
+    goals = GOAL.findall(left[1]) if left else []
+    goals += ["a loop's measure"] * bool(MEASURE.search(text))
+    return goals + [error[:60] for error in errors]
+
+
+def told_of(function, said):
+    """What a check tells of the function that is meant, and behind it of the closures in it, each by its name; empty where no one function is
+    meant."""
+    told = TOLD.findall(said)
+    own = [(name, text) for name, text in told if f"::{name}".endswith(f"::{function}")]
+    if len(own) != 1:
+        return {}
+    module, _, last = own[0][0].rpartition("::")
+    return dict(own + [(name, text) for name, text in told if name.startswith(f"{module}::fn::{last}::")])
+
+
+def judge(function, said):
+    """The goals of its own at which a check refused a function, and what else is said of it."""
+    told = told_of(function, said)
+    if not told:
+        count = sum(f"::{name}".endswith(f"::{function}") for name, _ in TOLD.findall(said))
+        return [], f"the check has {count} lines for {function}; it ends: {said.strip()[-300:]}"
+    return [goal for name, text in told.items() for goal in goals_of(name, text, said)], next(iter(told.values()))
+
+
+def strangers(bodies, said):
+    """The functions that a check refused at goals of their own though none of these bodies changes them."""
+    own = {name for body in bodies for name in told_of(body.function, said)}
+    return [name for name, text in TOLD.findall(said) if name not in own and goals_of(name, text, said)]
+
+
+def judged(bodies, folder):
+    """Checks these bodies at once. Each with the goals of its own at which its function was refused, and with what else is said of it."""
+    said = check(bodies, folder)
+    others = strangers(bodies, said)
+    if others:
+        return [(body, [], f"{', '.join(others)} isn't proved, though nothing of it was changed") for body in bodies]
+    return [(body, *judge(body.function, said)) for body in bodies]
+
+
+def tried(bodies, folder):
+    """Checks the bodies of a crate in as few checks as there may be, and those that these don't refuse once more, each alone. Gives each
+    body, as soon as it is judged, with its goals and with what else is said."""
+    hidden = []
+    for batch in batches(bodies):
+        for body, goals, text in judged(batch, folder):
+            if goals:
+                yield body, goals, text
+            else:
+                hidden.append(body)
+    for body in hidden:
+        yield from judged([body], folder)

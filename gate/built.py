@@ -1,0 +1,31 @@
+"""Tests that were built into a program: their names, and whether one passes."""
+
+import subprocess
+
+import find_tools  # has Python find the modules of tools/
+from edits import ends_in
+from programs import NotBuilt
+
+CANT_RUN = (OSError, subprocess.CalledProcessError)
+CANT_BUILD = (NotBuilt, *CANT_RUN)
+
+
+def named(paths, name):
+    """The one path among these that the name ends, or None."""
+    found = [path for path in paths if ends_in(path, name)]
+    return found[0] if len(found) == 1 else None
+
+
+def tests_of(program):
+    """The names of a program's tests."""
+    listed = subprocess.run([program, "--list"], stdout=subprocess.PIPE, check=True).stdout.decode().splitlines()
+    return [name for name, _, kind in (line.rpartition(": ") for line in listed) if kind == "test"]
+
+
+def passes(program, test, seconds):
+    """Whether the test passes, and within this time."""
+    how = {name: subprocess.DEVNULL for name in ("stdin", "stdout", "stderr")}
+    try:
+        return subprocess.run([program, test], cwd=program.parent, env={}, timeout=seconds, **how).returncode == 0
+    except subprocess.TimeoutExpired:
+        return False

@@ -1,0 +1,307 @@
+#!/usr/bin/env python3
+"""Tries the wrong bodies that no contract sees (crates/NAME/caught/*.edit; gate/edits.py has what such a file says).
+
+They are applied to copies of the repository, and the tests are built there without proofs: all bodies for the tests of one crate side by
+side in one build, from which each body gets a program of its own (gate/shared_builds.py). One that changes more than bodies of functions,
+or doesn't compile beside its own, has a build to itself.
+
+- 'test: FUNCTION' has to fail. What threads do wrong may not show at once, so a test that passes is run again until a minute has gone. It
+  has to pass as often in the same build without the body.
+- 'refused: FUNCTION', a test of a module `refusals`, has to be found WRONG as gate/refused.py judges it, has to pass where nothing is
+  refused, and has to be found right in the same build without the body.
+- 'error: TEXT': the compiler has to say this, where a type alone forbids the body.
+
+Each named test has to pass, or to be found right, over the crate as it is: built once more, with no body beside its own. With --tested it
+isn't built for that: `rt ci` and gate/refused.py, which run all these tests, say so.
+
+With --beside PID no build is begun, while that process runs, unless a processor is idle.
+
+usage: gate/caught.py [--jobs N] [--tested] [--beside PID] [WORD..]     with words: only the edits whose paths contain one of them
+"""
+
+import argparse
+import functools
+import itertools
+import os
+import queue
+import shutil
+import sys
+import tempfile
+import threading
+import time
+from pathlib import Path
+
+import find_tools  # has Python find the modules of gate/
+from built import CANT_BUILD, CANT_RUN, named, passes, tests_of
+from edits import BadEdit, applied, edited, read_edit
+from machine import processors
+from programs import NotBuilt, build, outcomes
+from refuser import refuser
+from shared_builds import SharedBuild, can_share
+
+SECONDS = 60  # for one run with a wrong body, which may hang, and for all runs of a test that passes
+OWN_SECONDS = 300  # for one run without it, which only other work makes slow
+SAID = 600  # how much is told of what was said
+
+
+def runs_to_fail(program, test):
+    """In which run the test fails, or None where it passes until the time has gone."""
+    end = time.monotonic() + SECONDS
+    for run in itertools.count(1):
+        if not passes(program, test, SECONDS):
+            return run
+        if time.monotonic() >= end:
+            return None
+
+
+def judge_test(name, wrong, own):
+    """Whether the test fails in the program with the wrong body, and not without it in the own one, and what to say."""
+    test = named(tests_of(wrong), name)
+    if not test:
+        return False, "BAD EDIT: there is no such test"
+    runs = runs_to_fail(wrong, test)
+    if not runs:
+        return False, f"NOT CAUGHT: {name} passes"
+    if not all(passes(own, test, OWN_SECONDS) for _ in range(runs)):
+        return False, f"NOT CAUGHT: {name} fails without the body as well"
+    return True, f"{name} fails, as it must"
+
+
+def judge_refused(name, wrong, own):
+    """Whether the test is wrong, as requests are refused, in the program with the wrong body, and right in the own one without it, and
+    what to say."""
+    tried, without = refuser(wrong, wrong.parent), refuser(own, own.parent)
+    test = named(tried.tests(), name)
+    if not test:
+        return False, "BAD EDIT: there is no such test"
+    if not tried.passes(test):
+        return False, f"BAD EDIT: {name} fails where nothing is refused: let 'test:' name it"
+    well, text = tried.judge(test)
+    if well:
+        return False, f"NOT CAUGHT: {name}: {text}"
+    if not without.judge(test)[0]:
+        return False, f"NOT CAUGHT: {name} is wrong without the body as well"
+    return True, f"{name} is wrong, as it must be: {text}"
+
+
+def judge(edit, wrong, own):
+    """Whether the edit's test sees the body in the program with it, and nothing in the one without, and what to say."""
+    try:
+        return (judge_test if edit.want == "test" else judge_refused)(edit.name, wrong, own)
+    except CANT_RUN as why:
+        return False, f"BAD EDIT: it can't be run: {why}"
+
+
+def judge_error(edit, root):
+    """Whether the edit's error comes, and what to say."""
+    with applied(edit, root):
+        found, said = outcomes(root / "crates" / edit.of, SECONDS)
+    if found or edit.name not in said:
+        return False, f"COMPILED, or failed otherwise; it said: {said.strip()[:SAID]}"
+    return True, f"doesn't compile, as it must not: {edit.name}"
+
+
+def judge_tests(names, program):
+    """Whether each of these names means one test that passes over the crate as it is, and what to say."""
+    tests = tests_of(program)
+    bad = sorted(name for name in names if not named(tests, name) or not passes(program, named(tests, name), OWN_SECONDS))
+    if bad:
+        return False, f"these names aren't of one test that passes over the crate as it is: {', '.join(bad)}"
+    return True, f"{len(names)} tests that catch wrong bodies pass over the crate as it is"
+
+
+def judge_refusals(names, program):
+    """Whether each of these names means one test that is right, as requests are refused, over the crate as it is, and what to say."""
+    tried = refuser(program, program.parent)
+    tests = tried.tests()
+    bad = sorted(name for name in names if not named(tests, name) or not tried.judge(named(tests, name))[0])
+    if bad:
+        return False, f"these names aren't of one test that is right over the crate as it is: {', '.join(bad)}"
+    return True, f"{len(names)} tests that catch wrong bodies as requests are refused are right over the crate as it is"
+
+
+class Trials:
+    """What is still to be done, and what came of the rest. A task is given the trials and a copy of the repository."""
+
+    def __init__(self):
+        self.tasks = queue.Queue()
+        self.results = []
+
+    def add(self, task, *words):
+        self.tasks.put(functools.partial(task, *words))
+
+    def tell(self, label, passed, text):
+        print(f"caught {label}: {'' if passed else 'WRONG: '}{text}", flush=True)
+        self.results.append(passed)
+
+
+def try_tests(crate, edits, trials, root):
+    """Tries the tests of the crate that these edits name over the crate as it is. Where it can be built, the edits are to be tried too."""
+    names = {}
+    for edit in edits:
+        names.setdefault(edit.want, set()).add(edit.name)
+    with tempfile.TemporaryDirectory(prefix="own-") as room:
+        try:
+            own = build(root / "crates" / crate, Path(room))
+            for want, wanted in names.items():
+                trials.tell(crate, *(judge_tests if want == "test" else judge_refusals)(wanted, own))
+        except CANT_BUILD as why:
+            for label in [crate] * len(names) + edits:
+                trials.tell(label, False, f"the tests of {crate} can't be built or run: {why}")
+            return
+    try_edits(crate, edits, trials, root)
+
+
+def try_edits(crate, edits, trials, root):
+    """Has the edits for the tests of the crate tried, those that can share a build in one."""
+    together = [edit for edit in edits if can_share(edit, root)]
+    if together:
+        trials.add(try_together, crate, together)
+    for edit in edits:
+        if edit not in together:
+            trials.add(try_alone, edit)
+
+
+def try_together(crate, edits, trials, root):
+    """Tries edits in one build. Where that doesn't compile, each half of them is to have one, and the last one its own."""
+    with tempfile.TemporaryDirectory(prefix="shared-") as room:
+        try:
+            shared = SharedBuild(crate, edits, root, Path(room))
+        except NotBuilt:
+            half = len(edits) // 2
+            if half:
+                trials.add(try_together, crate, edits[:half])
+                trials.add(try_together, crate, edits[half:])
+            else:
+                trials.add(try_alone, *edits)
+            return
+        own = shared.program(0)
+        for number, edit in enumerate(edits, 1):
+            wrong = shared.program(number)
+            trials.tell(edit, *judge(edit, wrong, own))
+            wrong.unlink()
+
+
+def try_alone(edit, trials, root):
+    """Tries an edit by a build of its own, beside one without it."""
+    with tempfile.TemporaryDirectory(prefix="own-") as own_room, tempfile.TemporaryDirectory(prefix="wrong-") as room:
+        try:
+            own = build(root / "crates" / edit.of, Path(own_room))
+            with applied(edit, root):
+                wrong = build(root / "crates" / edit.of, Path(room))
+            trials.tell(edit, *judge(edit, wrong, own))
+        except CANT_BUILD as why:
+            trials.tell(edit, False, f"BAD EDIT: it can't be built: {why}")
+
+
+def try_error(edit, trials, root):
+    """Tries an edit that can't be built."""
+    trials.tell(edit, *judge_error(edit, root))
+
+
+def processor_times():
+    """What the processors that this process may run on did so far, by kinds, in one unit: the fourth kind is idling, and the fifth waiting
+    for a disk."""
+    own = {f"cpu{number}" for number in os.sched_getaffinity(0)}
+    lines = [line.split() for line in Path("/proc/stat").read_text(encoding="ascii").splitlines()]
+    return [sum(times) for times in zip(*([int(word) for word in words[1:]] for words in lines if words[0] in own))]
+
+
+def idle_processors(seconds=2):
+    """How many processors had nothing to do, on the average of this many seconds."""
+    before = processor_times()
+    time.sleep(seconds)
+    spent = [after - earlier for earlier, after in zip(before, processor_times())]
+    return processors() * sum(spent[3:5]) / max(sum(spent), 1)
+
+
+def runs(process):
+    return process is not None and Path(f"/proc/{process}").exists()
+
+
+class Turns:
+    """Lets workers begin their tasks: one at a time, and while another process runs only where a processor is idle."""
+
+    def __init__(self, process):
+        self.process = process
+        self.lock = threading.Lock()
+
+    def wait(self):
+        with self.lock:
+            while runs(self.process) and idle_processors() < 0.9:
+                time.sleep(3)
+            if runs(self.process):
+                time.sleep(3)  # until the task that begins shows
+
+
+def works_in(trials, turns, top):
+    """Takes tasks until none is left, in a copy of the repository of this worker's own."""
+    with tempfile.TemporaryDirectory(prefix="caught-") as room:
+        root = Path(room) / "copy"
+        shutil.copytree(top, root, ignore=shutil.ignore_patterns("out", ".git", "__pycache__"))
+        while True:
+            turns.wait()
+            try:
+                task = trials.tasks.get_nowait()
+            except queue.Empty:
+                return
+            task(trials, root)
+
+
+def read_edits(top, words):
+    """The edits whose paths contain one of the words, all where there are none, and how many can't be read or applied."""
+    edits, bad = [], 0
+    for path in sorted(top.glob("crates/*/caught/*.edit")):
+        if words and not any(word in str(path) for word in words):
+            continue
+        try:
+            edit = read_edit(path)
+            if edit.want == "scene":
+                raise BadEdit("a scene is for the folder 'scheduled'")
+            edited(edit, top)
+            edits.append(edit)
+        except BadEdit as why:
+            print(f"caught {path.parent.parent.name}/{path.name}: BAD EDIT: {why}")
+            bad += 1
+    return edits, bad
+
+
+def add_tasks(edits, trials, is_tested):
+    """Adds what is to be done at first, the crates with the most edits before the others. How many results there will be."""
+    crates, kinds = {}, set()
+    for edit in edits:
+        if edit.want != "error":
+            crates.setdefault(edit.of, []).append(edit)
+            kinds.add((edit.of, edit.want))
+    for crate, own in sorted(crates.items(), key=lambda item: -len(item[1])):
+        trials.add(try_edits if is_tested else try_tests, crate, own)
+    for edit in edits:
+        if edit.want == "error":
+            trials.add(try_error, edit)
+    return len(edits) + (0 if is_tested else len(kinds))
+
+
+def main():
+    parser = argparse.ArgumentParser(description=__doc__, formatter_class=argparse.RawDescriptionHelpFormatter)
+    parser.add_argument("--jobs", type=int, default=processors())
+    parser.add_argument("--tested", action="store_true")
+    parser.add_argument("--beside", type=int, metavar="PID")
+    parser.add_argument("words", nargs="*")
+    given = parser.parse_args()
+    top = Path(__file__).resolve().parent.parent
+    edits, bad = read_edits(top, given.words)
+    trials, turns = Trials(), Turns(given.beside)
+    expected = bad + add_tasks(edits, trials, given.tested)
+    workers = [threading.Thread(target=works_in, args=(trials, turns, top)) for _ in range(max(1, given.jobs))]
+    for worker in workers:
+        worker.start()
+    for worker in workers:
+        worker.join()
+    # a worker that ended by an error of its own leaves tasks without a result
+    passed = trials.results.count(True)
+    print(f"{passed} passed, {expected - passed} failed")
+    return 0 if passed == expected else 1
+
+
+if __name__ == "__main__":
+    sys.exit(main())

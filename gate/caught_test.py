@@ -1,0 +1,285 @@
+#!/usr/bin/env python3
+"""Tries what gate/caught.py says of wrong bodies: of programs that are written here, which pass or fail as it is asked, and of edits of
+a small crate, which are built side by side, and of which some show in no test.
+
+usage: gate/caught_test.py
+"""
+
+import itertools
+import sys
+import tempfile
+import textwrap
+import unittest
+from pathlib import Path
+from types import SimpleNamespace
+
+import caught
+import find_tools  # has Python find the modules of gate/
+import shared_builds
+from edits import read_edit
+from programs import NotBuilt
+
+# A program whose tests::one and tests::other end with the digits in the files of their names, a digit a run. Two more tests have one
+# name, and are never run.
+PROGRAM = """#!/bin/sh
+[ "$1" = --list ] && printf '%s: test\\n' tests::one tests::other tests::twice tests::more::twice && exit 0
+read -r digits < "{rows}/$1"
+[ "${{#digits}}" -gt 1 ] && echo "${{digits#?}}" > "{rows}/$1"
+exit "${{digits%"${{digits#?}}"}}"
+"""
+
+CRATE = """\
+//! What is edited.
+
+const MOST: u32 = 3;
+
+pub fn first(given: u32) -> u32
+{
+    if given > MOST {
+        return MOST;
+    }
+    given
+}
+
+pub fn second() -> u32 {
+    2
+}
+
+pub const fn third() -> u32 {
+    3
+}
+
+pub fn none() {}
+
+#[cfg(test)]
+mod tests {
+    use super::*;
+
+    #[test]
+    fn firsts(rt: HostRuntime) {
+        assert_eq!(rt; first(1), 1);
+        assert_eq!(rt; first(9), 3);
+    }
+
+    #[test]
+    fn seconds(rt: HostRuntime) {
+        assert_eq!(rt; second(), 2);
+    }
+}
+"""
+
+
+def edit_in(room, name, *lines):
+    """An edit of the crate `few` in the room, of which these are the lines."""
+    path = room / "crates" / "few" / "caught" / f"{name}.edit"
+    path.write_text("".join(f"{line}\n" for line in lines), encoding="utf-8")
+    return read_edit(path)
+
+
+def crate_in(room):
+    """Makes a repository of one crate in the room."""
+    (room / "crates.txt").write_text("few: core\n", encoding="utf-8")
+    for folder in ("src", "caught"):
+        (room / "crates" / "few" / folder).mkdir(parents=True)
+    (room / "crates" / "few" / "src" / "lib.rt").write_text(CRATE, encoding="utf-8")
+
+
+class InRoom(unittest.TestCase):
+    def setUp(self):
+        room = tempfile.TemporaryDirectory(prefix="caught-test-")
+        self.addCleanup(room.cleanup)
+        self.room = Path(room.name)
+
+
+class WithPrograms(InRoom):
+    def setUp(self):
+        super().setUp()
+        self.count = itertools.count()
+        self.addCleanup(setattr, caught, "SECONDS", caught.SECONDS)
+        caught.SECONDS = 1
+
+    def program(self, one="0", other="0"):
+        """A program whose two tests end as these digits say, run after run, and as the last one from then on."""
+        rows = self.room / str(next(self.count))
+        rows.mkdir()
+        for name, digits in (("tests::one", one), ("tests::other", other)):
+            (rows / name).write_text(f"{digits}\n", encoding="ascii")
+        program = rows / "program"
+        program.write_text(PROGRAM.format(rows=rows), encoding="ascii")
+        program.chmod(0o755)
+        return program
+
+
+class Verdicts(WithPrograms):
+    """What is said of a program with a wrong body, beside one without it."""
+
+    def said(self, wrong, own, name="one"):
+        passed, text = caught.judge_test(name, wrong, own)
+        self.assertEqual(passed, text == f"{name} fails, as it must")
+        return text
+
+    def test_a_body_that_its_test_sees_is_caught(self):
+        self.assertEqual(self.said(self.program("1"), self.program()), "one fails, as it must")
+
+    def test_a_body_that_changes_no_meaning_is_not(self):
+        self.assertEqual(self.said(self.program(), self.program()), "NOT CAUGHT: one passes")
+
+    def test_another_test_that_fails_is_none_that_catches(self):
+        self.assertEqual(self.said(self.program(other="1"), self.program()), "NOT CAUGHT: one passes")
+
+    def test_a_test_that_fails_without_the_body_is_none_that_catches(self):
+        self.assertEqual(self.said(self.program("1"), self.program("1")), "NOT CAUGHT: one fails without the body as well")
+
+    def test_a_body_that_shows_in_the_third_run_is_caught(self):
+        self.assertEqual(self.said(self.program("001"), self.program()), "one fails, as it must")
+
+    def test_it_is_not_where_two_of_three_runs_pass_without_it(self):
+        self.assertEqual(self.said(self.program("001"), self.program("001")), "NOT CAUGHT: one fails without the body as well")
+
+    def test_a_name_is_of_one_test(self):
+        for name in ("two", "tests", "ne", "twice"):
+            self.assertEqual(self.said(self.program("1"), self.program(), name), "BAD EDIT: there is no such test")
+
+    def test_a_test_has_to_pass_over_the_crate_as_it_is(self):
+        self.assertTrue(caught.judge_tests({"one", "other"}, self.program())[0])
+        self.assertFalse(caught.judge_tests({"one", "other"}, self.program(other="1"))[0])
+        self.assertFalse(caught.judge_tests({"one", "two"}, self.program())[0])
+
+
+class Sharing(InRoom):
+    """What the text of a file is with bodies side by side."""
+
+    def setUp(self):
+        super().setUp()
+        crate_in(self.room)
+
+    def edit(self, *changes):
+        lines = [line for old, new in changes for line in (f"old: {old}", f"new: {new}")]
+        return edit_in(self.room, "some", "test: firsts", "file: src/lib.rt", *lines)
+
+    def test_bodies_stand_beside_their_own(self):
+        edits = [
+            self.edit(("if given > MOST {", "if given > 9 {")),
+            self.edit(("pub fn second() -> u32 {", "pub fn second() -> u32 { return 5;"), ("        return MOST;", "        return 4;")),
+        ]
+        (text,) = shared_builds.shared_texts(edits, self.room).values()
+        wanted = """
+            pub fn first(given: u32) -> u32
+            {
+            match wrong_body() {
+            1 => {
+
+                if given > 9 {
+                    return MOST;
+                }
+                given
+            }
+            2 => {
+
+                if given > MOST {
+                    return 4;
+                }
+                given
+            }
+            _ => {
+                if given > MOST {
+                    return MOST;
+                }
+                given
+            }
+            }
+            }
+
+            pub fn second() -> u32 {
+            match wrong_body() {
+            2 => {
+             return 5;
+                2
+            }
+            _ => {
+                2
+            }
+            }
+            }
+        """
+        begun, end = CRATE.split("pub fn first")[0], CRATE[CRATE.index("\npub const fn third") :]
+        self.assertEqual(text, begun + textwrap.dedent(wanted).lstrip() + end + shared_builds.SWITCH)
+
+    def test_what_is_no_body_of_a_function_cannot_share(self):
+        for old, new in (
+            ("const MOST: u32 = 3;", "const MOST: u32 = 4;"),
+            ("pub fn first(given: u32) -> u32", "pub fn first(given: u32) -> u32 // 1"),
+            ("pub fn second() -> u32 {", "pub(crate) fn second() -> u32 {"),
+            ("    3", "    4"),
+            ("pub fn none() {}", "pub fn none() { first(3); }"),
+            ("#[cfg(test)]", "fn more() {} #[cfg(test)]"),
+        ):
+            self.assertFalse(shared_builds.can_share(self.edit((old, new)), self.room), old)
+
+
+class Halves(WithPrograms):
+    """Which edits are tried, and how, where one of them doesn't compile beside the others."""
+
+    def setUp(self):
+        super().setUp()
+        self.addCleanup(setattr, caught, "SharedBuild", caught.SharedBuild)
+        self.addCleanup(setattr, caught, "try_alone", caught.try_alone)
+        caught.SharedBuild = self.built
+        caught.try_alone = lambda edit, trials, root: trials.tell(edit, False, "tried alone")
+
+    def built(self, crate, edits, root, room):
+        """Stands for a build. One with the edit `bad` isn't built, and in the others each body is seen by its test."""
+        if any(edit.path.stem == "bad" for edit in edits):
+            raise NotBuilt("an error")
+        programs = [self.program("0"), *(self.program("1") for _ in edits)]
+        return SimpleNamespace(program=programs.__getitem__)
+
+    def test_each_edit_is_tried_once_and_the_bad_one_alone(self):
+        crate_in(self.room)
+        names = ("a", "b", "bad", "c", "d")
+        edits = [edit_in(self.room, name, "test: one", "file: src/lib.rt", "old: MOST;", "new: 5;") for name in names]
+        trials, said = caught.Trials(), []
+        trials.tell = lambda edit, passed, text: said.append((edit.path.stem, text))
+        trials.add(caught.try_together, "few", edits)
+        while not trials.tasks.empty():
+            trials.tasks.get()(trials, self.room)
+        self.assertEqual(sorted(said), [(name, "tried alone" if name == "bad" else "one fails, as it must") for name in names])
+
+
+class Build(InRoom):
+    """What is said of edits that are built side by side."""
+
+    def test_each_body_is_judged_by_itself(self):
+        crate_in(self.room)
+        first, second = ("given > MOST", "given > 1_000"), ("    2", "    4")
+        meaningless = ("        return MOST;", "        return MOST + 0;")
+        rows = {  # what each edit names and changes, and what has to be said of it
+            "seen": ("firsts", first, "firsts fails, as it must"),
+            "unseen": ("firsts", meaningless, "NOT CAUGHT: firsts passes"),
+            "seen_too": ("seconds", second, "seconds fails, as it must"),
+            "seen_by_another": ("seconds", first, "NOT CAUGHT: seconds passes"),
+            "seen_by_the_first": ("firsts", second, "NOT CAUGHT: firsts passes"),
+        }
+        said, made = {}, self.room / "made"
+        made.mkdir()
+        self.addCleanup(setattr, caught, "SECONDS", caught.SECONDS)
+        caught.SECONDS = 1
+        edits = []
+        for name, (test, (old, new), _) in rows.items():
+            edits.append(edit_in(self.room, name, f"test: {test}", "file: src/lib.rt", f"old: {old}", f"new: {new}"))
+        shared = shared_builds.SharedBuild("few", edits, self.room, made)
+        for number, edit in enumerate(edits, 1):
+            said[edit.path.stem] = caught.judge(edit, shared.program(number), shared.program(0))[1]
+        self.assertEqual(said, {name: wanted for name, (_, _, wanted) in rows.items()})
+        self.assertEqual((self.room / "crates" / "few" / "src" / "lib.rt").read_text(encoding="utf-8"), CRATE)
+
+
+def main():
+    result = unittest.TextTestRunner(stream=sys.stdout, verbosity=2).run(unittest.defaultTestLoader.loadTestsFromName("__main__"))
+    bad = len(result.failures) + len(result.errors)
+    print(f"{result.testsRun - bad} passed, {bad} failed")
+    return 0 if result.wasSuccessful() else 1
+
+
+if __name__ == "__main__":
+    sys.exit(main())

@@ -1,0 +1,316 @@
+#!/usr/bin/env python3
+"""Tests what C, C++, Rust and Python get of the library: the guarded layer of clients/c, and the wrappers and programs of clients.
+
+tools/c_library.sh builds the library in a folder of its own, in a copy where the libraries below the exports stand as they were built last: the
+exports are proved once more, and what isn't built. Then each test program is built there, with
+all warnings as errors, and run: plainly, under valgrind, and with sanitizers on the side of C. What needs a tool that isn't there is skipped,
+and the output says so. Nothing is read from a network, and nothing is written beside the sources.
+
+usage: gate/clients.py [--library DIR] [--jobs N] [WORD..]     with a folder that tools/c_library.sh filled: nothing is built or proved
+anew; with words: only the rows of these names, or, where there is none, those whose names have one of them
+"""
+
+import argparse
+import os
+import re
+import shlex
+import shutil
+import subprocess
+import sys
+import tempfile
+from concurrent.futures import ThreadPoolExecutor
+from dataclasses import dataclass
+from pathlib import Path
+
+from copies import copy_over_built
+from machine import processors
+
+TOP = Path(__file__).resolve().parent.parent
+EXPORTS = "string_cache_c"  # the crate
+CLIENTS = TOP / "clients"
+C = CLIENTS / "c"
+NAMES = [C / "names" / name for name in ("lexer.c", "source.c")]
+SECONDS = 600  # for one command
+PROOF_SECONDS = 7200  # for the library, where nothing was proved before
+MOST_SOURCE = 6_000_000  # bytes of the text that the lexer reads
+WARNINGS = ["-Wall", "-Wextra", "-Wpedantic", "-Wshadow", "-Werror"]
+AS_C = ["-std=c11", *WARNINGS]
+AS_CPP = ["-std=c++17", *WARNINGS]
+SANITIZED = ["-g", "-O1", "-fsanitize=address,undefined", "-fno-sanitize-recover=all"]
+WRAPPED = {"heap": ("malloc", "realloc"), "memory": ("malloc", "realloc", "free"), "counted": ("malloc", "realloc", "free")}  # by programs of tests
+OUTCOME = re.compile(r"^test (.+) \.\.\. (\w+)$", re.MULTILINE)
+
+
+class Failed(Exception):
+    """A command ended with a status other than 0, or something isn't as it should be."""
+
+
+class Skipped(Exception):
+    """A tool isn't there."""
+
+
+@dataclass
+class Place:
+    """Where the library is, and a folder to build in."""
+
+    library: Path
+    room: Path
+
+
+def said_by(*words, seconds=SECONDS, **how):
+    """What a command wrote, on both streams. Failed where its status isn't 0."""
+    how = {"stdin": subprocess.DEVNULL, "stdout": subprocess.PIPE, "stderr": subprocess.STDOUT, **how}
+    ran = subprocess.run([*map(str, words)], timeout=seconds, check=False, **how)
+    said = ran.stdout.decode(errors="replace")
+    if ran.returncode:
+        raise Failed(f"{Path(words[0]).name} ended with status {ran.returncode}:\n{said[-3000:]}")
+    return said
+
+
+def build_library(library, room):
+    """Fills the folder of the library, and leaves the archive of the exports where `rt lib` does."""
+    copy = copy_over_built(room / "copy", EXPORTS)
+    print(said_by(copy / "tools" / "c_library.sh", library, seconds=PROOF_SECONDS).strip(), flush=True)
+    out = TOP / "crates" / EXPORTS / "out"
+    out.mkdir(exist_ok=True)
+    shutil.copy(copy / "crates" / EXPORTS / "out" / f"lib{EXPORTS}.a", out)
+    shutil.rmtree(copy)
+
+
+def tool(*names):
+    """The first of these commands that is there."""
+    for name in names:
+        if shutil.which(name):
+            return name
+    raise Skipped(f"there is no {' or '.join(names)}")
+
+
+def cc():
+    return os.environ.get("CC") or tool("cc", "gcc", "clang")
+
+
+def cpp():
+    return os.environ.get("CXX") or tool("c++", "g++", "clang++")
+
+
+def sanitized(compiler, place):
+    """The words that have the compiler look for bad addresses and undefined behaviour. Skipped where it can't."""
+    probe = place.room / f"probe-{Path(compiler).name}.c"
+    probe.write_text("int main(void) { return 0; }\n", encoding="ascii")
+    try:
+        said_by(compiler, "-x", "c", probe, *SANITIZED, "-o", probe.with_suffix(""))
+        said_by(probe.with_suffix(""))
+    except Failed as why:
+        raise Skipped(f"{compiler} builds nothing with sanitizers here") from why
+    return SANITIZED
+
+
+def built(place, name, compiler, sources, *words):
+    """A program of these sources and the library."""
+    program = place.room / name
+    include = ["-I", place.library, "-I", C / "names"]
+    said_by(compiler, *words, *include, *sources, place.library / "libstring_cache.a", "-o", program)
+    return program
+
+
+def outcomes(said):
+    """How many of the tests in this output passed. Failed where one did not, or there was none."""
+    found = OUTCOME.findall(said)
+    failed = [name for name, outcome in found if outcome != "ok"]
+    if failed or not found:
+        raise Failed(f"{' '.join(failed) or 'no test'} failed:\n{said[-3000:]}")
+    return len(found)
+
+
+def c_tests(name):
+    """The ways in which a program of tests in C is run, by their names."""
+    sources = [C / "tests" / f"{name}.c"]
+    more = [f"-Wl,--wrap={function}" for function in WRAPPED.get(name, ())]
+
+    def plain(place):
+        return outcomes(said_by(built(place, name, cc(), sources, *AS_C, "-O2", *more)))
+
+    def checked(place):
+        compiler = cc()
+        return outcomes(said_by(built(place, f"{name}-checked", compiler, sources, *AS_C, *sanitized(compiler, place), *more)))
+
+    def memcheck(place):
+        valgrind = tool("valgrind")
+        program = built(place, f"{name}-memcheck", cc(), sources, *AS_C, "-O1", "-g", *more)
+        return outcomes(said_by(valgrind, "-q", "--leak-check=full", "--show-leak-kinds=all", "--error-exitcode=1", program))
+
+    return {f"c {name}": plain, f"c {name} sanitized": checked, f"c {name} memcheck": memcheck}
+
+
+def example(place):
+    """The program of the README."""
+    said = said_by(built(place, "example", cc(), [C / "example.c"], *AS_C))
+    if said != "one word, two texts\n":
+        raise Failed(f"example.c prints {said}")
+    return 1
+
+
+def header_alone(place):
+    """The header is C99, C11 and C++ by itself."""
+    compiler, room = cc(), place.room
+    alone = room / "alone.c"
+    alone.write_text('#include "string_cache.h"\n', encoding="ascii")
+    for standard in ("c99", "c11"):
+        said_by(compiler, f"-std={standard}", *WARNINGS, "-I", place.library, "-fsyntax-only", alone)
+    if shutil.which("c++"):
+        said_by("c++", "-x", "c++", "-std=c++11", *WARNINGS, "-I", place.library, "-fsyntax-only", alone)
+    return 1
+
+
+def exported(place):
+    """The shared library gives exactly what the header declares."""
+    listed = said_by(tool("nm"), "-D", "--defined-only", place.library / "libstring_cache.so")
+    found = {line.split()[-1] for line in listed.splitlines()}
+    declared = set(re.findall(r"^(?:SC_TO_BE_READ )?SC_EXPORT .*?\b(sc_\w+)\(", (C / "string_cache.h").read_text(encoding="utf-8"), re.MULTILINE))
+    if found != declared:
+        raise Failed(f"of the header and the shared library only one has {' '.join(sorted(found ^ declared))}")
+    return 1
+
+
+def by_pkg_config(place):
+    """A program is built by what string_cache.pc says, over the shared library."""
+    environment = {**os.environ, "PKG_CONFIG_PATH": str(place.library), "LD_LIBRARY_PATH": str(place.library)}
+    flags = shlex.split(said_by(tool("pkg-config"), "--cflags", "--libs", "string_cache", env=environment))
+    program = place.room / "by_pkg_config"
+    said_by(cc(), *AS_C, C / "example.c", *flags, "-o", program)
+    if said_by(program, env=environment) != "one word, two texts\n":
+        raise Failed("example.c prints something else over the shared library")
+    return 1
+
+
+def scopes(place):
+    """Of the names of a program, block by block, the program in C says what the one in Rattle does."""
+    program = built(place, "scopes", cc(), [C / "names" / "scopes.c", *NAMES, C / "names" / "word_map.c"], *AS_C, *sanitized(cc(), place))
+    folder = TOP / "crates" / "example_scopes"
+    if said_by(program, folder / "stdin") != (folder / "stdout").read_text(encoding="utf-8"):
+        raise Failed("scopes.c prints something else than crates/example_scopes")
+    return 1
+
+
+def lexer_tests(place):
+    compiler = cc()
+    return outcomes(said_by(built(place, "lexer", compiler, [C / "tests" / "lexer.c", NAMES[0]], *AS_C, *sanitized(compiler, place))))
+
+
+def source_text(room):
+    """A file of some megabytes of C: the machine's headers as they are, or, where it has none, our own sources again and again."""
+    file, size = room / "source.c", 0
+    headers = sorted(Path("/usr/include").rglob("*.h"))
+    own = sorted(CLIENTS.rglob("*.[ch]"))
+    with file.open("wb") as out:
+        for path in [*headers, *own * 200]:
+            if size < MOST_SOURCE and path.is_file():
+                size += out.write(path.read_bytes())
+    return file
+
+
+def count_names(place):
+    """The lexer's names as words, counted, are those of a plain hash table."""
+    maps = [C / "names" / "count_names.c", *NAMES, C / "names" / "word_map.c"]
+    words = built(place, "count_names", cc(), maps, *AS_C, "-O2")
+    plain = built(place, "plain_names", cc(), [C / "tests" / "plain_names.c", *NAMES], *AS_C, "-O2")
+    text = source_text(place.room)
+    found = said_by(words, text)
+    if found != said_by(plain, text):
+        raise Failed("count_names.c and a plain table count other names")
+    print(f"clients: {found.count(chr(10))} names in {text.stat().st_size} bytes of C", flush=True)
+    return 1
+
+
+def cpp_tests(place):
+    return outcomes(said_by(built(place, "cpp-plain", cpp(), [CLIENTS / "cpp" / "test.cpp"], *AS_CPP, "-O2")))
+
+
+def cpp_checked(place):
+    compiler = cpp()
+    words = [*AS_CPP, *sanitized(compiler, place)]
+    return outcomes(said_by(built(place, "cpp-checked", compiler, [CLIENTS / "cpp" / "test.cpp"], *words)))
+
+
+def crate_tests(place, name):
+    """The tests of a crate of clients, in a copy beside its neighbour, since cargo writes beside the sources."""
+    cargo = tool("cargo")
+    for crate in ("rust", "rust_facade"):
+        shutil.copytree(CLIENTS / crate, place.room / crate, ignore=shutil.ignore_patterns("target", "Cargo.lock"))
+    environment = {**os.environ, "STRING_CACHE_DIR": str(place.library), "RUSTFLAGS": "-D warnings"}
+    words = [cargo, "test", "--release", "--offline", "--target-dir", place.room / "target"]
+    return outcomes(said_by(*words, cwd=place.room / name, env=environment))
+
+
+def rust_tests(place):
+    return crate_tests(place, "rust")
+
+
+def facade_tests(place):
+    return crate_tests(place, "rust_facade")
+
+
+def python_tests(place):
+    environment = {**os.environ, "STRING_CACHE_LIBRARY": str(place.library / "libstring_cache.so"), "PYTHONDONTWRITEBYTECODE": "1"}
+    said = said_by(sys.executable, "-W", "error", "-m", "unittest", cwd=CLIENTS / "python", env=environment)
+    ran = re.search(r"^Ran (\d+) tests? .*\n\nOK$", said, re.MULTILINE)
+    if not ran or ran[1] == "0":
+        raise Failed(said[-3000:])
+    return int(ran[1])
+
+
+def rows():
+    """What is tested, by its name. Each gives the number of its tests that passed."""
+    found = {"c example": example, "c header": header_alone, "c exports": exported, "c pkg-config": by_pkg_config}
+    for name in ("calls", "hostile", "memory", "heap", "counted", "model"):
+        found.update(c_tests(name))
+    found.update({"c lexer": lexer_tests, "c scopes": scopes, "c count_names": count_names, "cpp": cpp_tests, "cpp sanitized": cpp_checked})
+    found.update({"rust": rust_tests, "rust facade": facade_tests, "python": python_tests})
+    return found
+
+
+def outcome_of(name, test, place):
+    """How many tests passed and how many failed, once it is said."""
+    own = Place(place.library, place.room / name.replace(" ", "-"))
+    own.room.mkdir()
+    try:
+        passed = test(own)
+    except Skipped as why:
+        print(f"clients {name}: SKIPPED: {why}", flush=True)
+        return 0, 0
+    except (Failed, OSError, subprocess.TimeoutExpired) as why:
+        print(f"clients {name}: WRONG: {why}", flush=True)
+        return 0, 1
+    print(f"clients {name}: {passed} passed", flush=True)
+    return passed, 0
+
+
+def main():
+    parser = argparse.ArgumentParser(description=__doc__, formatter_class=argparse.RawDescriptionHelpFormatter)
+    parser.add_argument("--library", type=Path)
+    parser.add_argument("--jobs", type=int, default=processors())
+    parser.add_argument("words", nargs="*")
+    given = parser.parse_args()
+    results = []
+    with tempfile.TemporaryDirectory(prefix="clients-") as room:
+        library = given.library.resolve() if given.library else Path(room) / "library"
+        place = Place(library, Path(room))
+        try:
+            if not given.library:
+                build_library(library, Path(room))
+            chosen = [row for row in rows().items() if row[0] in given.words]
+            chosen = chosen or [row for row in rows().items() if not given.words or any(word in row[0] for word in given.words)]
+            with ThreadPoolExecutor(max(1, given.jobs)) as workers:
+                results = list(workers.map(lambda row: outcome_of(*row, place), chosen))
+        except (Failed, OSError, subprocess.TimeoutExpired) as why:
+            print(f"clients: {why}")
+    passed, failed = (sum(column) for column in zip(*results)) if results else (0, 1)
+    if not passed and not failed:
+        print("clients: no test was run")
+        failed = 1
+    print(f"{passed} passed, {failed} failed")
+    return 1 if failed else 0
+
+
+if __name__ == "__main__":
+    sys.exit(main())

@@ -1,0 +1,386 @@
+#!/usr/bin/env python3
+"""Tries tools/count_many.py and what it stands on, over the program that `rt ci` or `rt run` built last.
+
+Each row is a text in files: what is printed, the fault and whether there is a status of 0 have to be those of `atoms count` over
+the whole text. Then pieces go missing, are cut short or unreadable, machines fail, and a run is broken off and resumed. Rows that
+need GNU parallel, sshd or dask are skipped where they aren't there, and the output says so.
+
+usage: gate/count_many_test.py [WORD..]     with words: only the rows whose names contain one of them
+"""
+
+import os
+import random
+import re
+import shutil
+import signal
+import subprocess
+import sys
+import tempfile
+import time
+from pathlib import Path
+
+TOOLS = Path(__file__).resolve().parent.parent / "tools"
+ATOMS = TOOLS.parent / "crates" / "atoms" / "out" / "atoms"
+COUNT_MANY, MERGE, MAPPER, DASK = (TOOLS / name for name in ("count_many.py", "merge_counts.py", "count_mapper.sh", "count_dask.py"))
+SECONDS = 120  # for one command
+BLOCK = "20k"  # of a piece
+
+# Names with files, of which the text is what they hold one after another.
+TEXTS = {
+    "one line": [b"here is a sentence of text that will be tokenised and\n"],
+    "no line feed at all": [b"interned and interned"],
+    "no line feed at the end": [b"a b\nc a\n" * 500 + b"the last line"],
+    "a word goes on in the next file": [b"a\ninter", b"ned\nb inter", b"", b"ned"],
+    "a character goes on in the next file": ["caf\u00e9 \u05d0\n".encode()[:5], "caf\u00e9 \u05d0\n".encode()[5:], b"b\n"],
+    "empty files": [b"", b"a\n", b"", b"b a\n", b""],
+    "nothing but empty files": [b"", b""],
+    "white space beyond ASCII": ["a\u00a0b\u2028a\u3000b\u0085c\u1680\n\td\v\f\r\n".encode() * 300],
+    "one line longer than a piece": [b"x\n" + b"interned tokenised " * 2000 + b"\ny\n"],
+    "line feeds alone": [b"\n" * 5000],
+    "other bytes in words": [b"a\0b \x01 7 12 a\0b\n10 9\n" * 300],
+    "not UTF-8 in one piece": [b"a b\n" * 2000, b"c \xff\n", b"d e\n" * 2000],
+    "not UTF-8 at a file's end": [b"a b\n", b"c \xc3"],
+    "many words": [b"".join(b"word%d %d\n" % (n * n % 7919, n % 10) for n in range(20000))],
+}
+
+
+def ran(command, **how):
+    how = {"stdin": subprocess.DEVNULL, "stdout": subprocess.PIPE, "stderr": subprocess.PIPE, "timeout": SECONDS, **how}
+    return subprocess.run([os.fspath(word) for word in command], **how)
+
+
+def whole(text):
+    """What the program says of a whole text."""
+    return ran([ATOMS, "count", "1"], input=text, stdin=None)
+
+
+def counted(files, *options, atoms=ATOMS, block=BLOCK):
+    return ran([COUNT_MANY, "--atoms", atoms, "--block", block, *options, *files])
+
+
+def written(room, texts):
+    files = []
+    for text in texts:
+        files.append(room / f"text.{len(files)}")
+        files[-1].write_bytes(text)
+    return files
+
+
+def program(room, body):
+    """A program in the place of `atoms`, with the true one as $ATOMS."""
+    path = room / "program"
+    path.write_text(f'#!/bin/sh\nATOMS="{ATOMS}"\nROOM="{room}"\n{body}\n', encoding="utf-8")
+    path.chmod(0o755)
+    return path
+
+
+def same(found, wanted):
+    """What is wrong where a run should have ended as another one did; None where nothing is."""
+    if found.stdout != wanted.stdout:
+        return f"printed {found.stdout[-200:]!r} in place of {wanted.stdout[-200:]!r}; it said {found.stderr[-200:]!r}"
+    if (found.returncode == 0) != (wanted.returncode == 0):
+        return f"status {found.returncode} in place of {wanted.returncode}: {found.stderr[-200:]!r}"
+    if wanted.returncode and wanted.stderr not in found.stderr:
+        return f"it said {found.stderr[-200:]!r} in place of {wanted.stderr!r}"
+    return None
+
+
+def failed(found, why):
+    """What is wrong where a run should have failed for that reason, with nothing printed."""
+    if found.returncode == 0 or found.stdout or why.encode() not in found.stderr:
+        return f"status {found.returncode}, {len(found.stdout)} bytes printed, and it said {found.stderr[-300:]!r}, not {why!r}"
+    return None
+
+
+# --- the merge ---------------------------------------------------------------------------------------------------------------------
+
+LONG = 10**18
+
+
+def merges(room):
+    files = written(room, [b"2 a\n1 b\n", b"", b"%d a\n3 a\0\n5 c\n" % LONG])
+    found = ran([MERGE, *files], env={**os.environ, "LC_ALL": "en_US.UTF-8"})
+    wanted = b"%d a\n3 a\0\n1 b\n5 c\n" % (LONG + 2)
+    return None if (found.returncode, found.stdout) == (0, wanted) else f"{found.returncode} {found.stdout!r} {found.stderr!r}"
+
+
+def merge_refuses(*texts, why):
+    return lambda room: None if (found := ran([MERGE, *written(room, texts)])).returncode == 1 and why in found.stderr else str(found)
+
+
+def merge_misses_a_file(room):
+    found = ran([MERGE, *written(room, [b"1 a\n"]), room / "absent"])
+    return None if found.returncode == 1 and not found.stdout and b"absent" in found.stderr else str(found)
+
+
+def merge_ends_well(redirected, *texts):
+    """A row: `--reduce`, or the merge of files of these texts, with a stream that is closed says so in one line."""
+
+    def row(room):
+        words = written(room, texts) or ["--reduce"]
+        found = ran(["sh", "-c", f'"$0" "$@" {redirected}', MERGE, *words], input=b"a\t1\n", stdin=None)
+        is_well = found.returncode == 1 and re.fullmatch(rb"merge_counts: .*\n", found.stderr)
+        return None if is_well else str(found)
+
+    return row
+
+
+def reduce_refuses(lines, why):
+    def row(room):
+        found = ran([MERGE, "--reduce"], input=lines, stdin=None)
+        return None if found.returncode == 1 and why in found.stderr else str(found)
+
+    return row
+
+
+def merges_in_two_ways(room):
+    """Pieces of a text, merged by the script, and as a map-reduce job of three mappers and two reducers would do it."""
+    lines = TEXTS["many words"][0].splitlines(keepends=True)
+    shares = [b"".join(lines[at : at + 7000]) for at in range(0, len(lines), 7000)]
+    files = written(room, [whole(share).stdout for share in shares])
+    if found := same(ran([MERGE, *files]), whole(b"".join(lines))):
+        return found
+    mapped = b"".join(ran([MAPPER, ATOMS], input=share, stdin=None).stdout for share in shares).splitlines(keepends=True)
+    parts = []
+    for reducer in range(2):
+        mine = sorted(line for line in mapped if sum(line.partition(b"\t")[0]) % 2 == reducer)
+        parts.append(ran([MERGE, "--reduce"], input=b"".join(mine), stdin=None).stdout)
+    return same(ran([MERGE, *written(room, parts)]), whole(b"".join(lines)))
+
+
+def mapper_fails_with_the_program(room):
+    found = ran([MAPPER, ATOMS], input=b"a \xff\n", stdin=None)
+    return None if found.returncode == 1 else str(found)
+
+
+# --- pieces under GNU parallel -----------------------------------------------------------------------------------------------------
+
+
+def counts_as_the_whole(texts):
+    def row(room):
+        return same(counted(written(room, texts), block="4k"), whole(b"".join(texts)))
+
+    return row
+
+
+TEXT = TEXTS["many words"][0]
+
+
+def file_is_missing(room):
+    return failed(counted([*written(room, [TEXT]), room / "absent"]), "absent")
+
+
+def file_is_a_folder(room):
+    return failed(counted([*written(room, [TEXT]), room]), str(room))
+
+
+def file_is_unreadable(room):
+    files = written(room, [TEXT])
+    files[0].chmod(0)
+    if os.access(files[0], os.R_OK):
+        return "skipped: this user may read any file"
+    return failed(counted(files), "text.0")
+
+
+def job_fails(room):
+    """A program that fails on one piece fails the whole; with the true one the run is resumed, and nothing else is counted again."""
+    bad = program(room, 'cat > "$ROOM/$$"; grep -q word4900 "$ROOM/$$" && { echo no room >&2; exit 7; }; "$ATOMS" count 1 < "$ROOM/$$"')
+    files, kept = written(room, [TEXT]), room / "kept"
+    if found := failed(counted(files, "--keep", kept, atoms=bad), "no room"):
+        return found
+    before = set(kept.glob("run.*/*.counts"))
+    if found := same(counted(files, "--keep", kept, "--resume"), whole(TEXT)):
+        return found
+    again = [counts for counts in set(kept.glob("run.*/*.counts")) - before if counts.stat().st_size]
+    return None if 0 < len(again) < 8 else f"{len(again)} pieces were counted again"
+
+
+def job_fails_once(room):
+    once = program(room, 'mkdir "$ROOM/tried" 2> "$ROOM/said" && exit 9; exec "$ATOMS" count 1')
+    return same(counted(written(room, [TEXT]), atoms=once), whole(TEXT))
+
+
+def program_is_missing(room):
+    return failed(counted(written(room, [TEXT]), atoms=room / "absent"), "piece 1 wasn't counted")
+
+
+def results_are_spoilt(room):
+    """A piece's counts that are cut short or gone, or whose last word isn't there, are made again; so is what no run has left."""
+    files, kept = written(room, [TEXT]), room / "kept"
+    counted(files, "--keep", kept)
+    (kept / "run.0/2.counts").write_bytes((kept / "run.0/2.counts").read_bytes()[:-5])
+    (kept / "run.0/3.counts").unlink()
+    (kept / "run.0/4.counts.err").write_bytes(b"")
+    (kept / "run.0/5.counts.err").unlink()
+    found = same(counted(files, "--keep", kept, "--resume"), whole(TEXT))
+    again = {counts.name for counts in kept.glob("run.1/*.counts") if counts.stat().st_size}
+    return found or (None if again == {f"{n}.counts" for n in (2, 3, 4, 5)} else f"counted again: {again}")
+
+
+def run_is_broken_off(room):
+    """A run that is killed midway prints nothing, and is resumed."""
+    slow = program(room, 'sleep 0.2; exec "$ATOMS" count 1')
+    files, kept = written(room, [TEXT]), room / "kept"
+    command = [COUNT_MANY, "--atoms", slow, "--block", BLOCK, "--keep", kept, "--jobs", "2", *files]
+    run = subprocess.Popen(command, stdout=subprocess.PIPE, stderr=subprocess.DEVNULL, start_new_session=True)
+    while not list(kept.glob("run.0/4.counts")) and run.poll() is None:
+        time.sleep(0.05)
+    os.killpg(run.pid, signal.SIGKILL)
+    if run.communicate()[0]:
+        return "it printed something"
+    return same(counted(files, "--keep", kept, "--resume"), whole(TEXT))
+
+
+def other_text_is_resumed(room):
+    files, kept = written(room, [TEXT]), room / "kept"
+    counted(files, "--keep", kept)
+    files[0].write_bytes(TEXT + b"more\n")
+    return failed(counted(files, "--keep", kept, "--resume"), "is of other files") or failed(
+        counted(files, "--keep", kept), "has results already"
+    )
+
+
+def text_grows_meanwhile(room):
+    slow = program(room, 'sleep 0.2; echo more >> "$ROOM/text.0"; exec "$ATOMS" count 1')
+    return failed(counted(written(room, [TEXT]), atoms=slow), "")
+
+
+def prints_nothing_but_counts(room):
+    found = counted(written(room, [TEXT]))
+    return None if found.stderr == b"" else f"it said {found.stderr!r}"
+
+
+# --- machines ------------------------------------------------------------------------------------------------------------------------
+
+
+class Machines:
+    """Two machines that are this one, each with an sshd of its own on a port of its own, and a third one that is none."""
+
+    def __init__(self, room):
+        self.room = room
+        for name in ("host", "user"):
+            ran(["ssh-keygen", "-q", "-t", "ed25519", "-N", "", "-f", room / name])
+        shutil.copy(room / "user.pub", room / "allowed")
+        self.started = []
+
+    def ssh(self, port):
+        options = ["UserKnownHostsFile=/dev/null", "StrictHostKeyChecking=no", "LogLevel=ERROR", "ConnectTimeout=5", "IdentitiesOnly=yes"]
+        return " ".join(["ssh", "-p", str(port), "-i", str(self.room / "user"), *(f"-o{option}" for option in options), "localhost"])
+
+    def start(self, port):
+        options = [f"Port={port}", "ListenAddress=127.0.0.1", f"HostKey={self.room}/host", f"AuthorizedKeysFile={self.room}/allowed"]
+        options += ["UsePAM=no", "StrictModes=no", f"PidFile={self.room}/pid", "PermitRootLogin=yes", "MaxStartups=100"]
+        command = [shutil.which("sshd", path=os.environ["PATH"] + ":/usr/sbin"), "-D", "-f", "/dev/null", "-q"]
+        os.makedirs("/run/sshd", exist_ok=True) if os.geteuid() == 0 else None
+        run = subprocess.Popen([*command, *(f"-o{option}" for option in options)], stdin=subprocess.DEVNULL)
+        self.started.append(run)
+        for _ in range(100):
+            if ran(["sh", "-c", f"{self.ssh(port)} true"]).returncode == 0:
+                return f"2/{self.ssh(port)}"
+            time.sleep(0.1)
+        raise OSError("sshd doesn't let this user in")
+
+    def __enter__(self):
+        return self
+
+    def __exit__(self, *_):
+        for run in self.started:
+            run.kill()
+            run.wait()
+
+
+def two_machines(room):
+    port = random.randrange(20000, 60000, 3)
+    with Machines(room) as machines:
+        first, second = machines.start(port), machines.start(port + 1)
+        absent = f"2/{machines.ssh(port + 2)}"
+        files = written(room, [TEXT])
+        both = counted(files, "--sshlogin", first, "--sshlogin", second, "--keep", room / "kept")
+        hosts = {line.split("\t")[1] for line in (room / "kept/run.0/joblog").read_text().splitlines()[1:]}
+        if found := same(both, whole(TEXT)) or (None if len(hosts) == 2 else f"the pieces went to {hosts}"):
+            return found
+        if found := same(counted(files, "--sshlogin", absent, "--sshlogin", second), whole(TEXT)):
+            return f"with a machine that isn't there: {found}"
+        bad = written(room, TEXTS["not UTF-8 in one piece"])
+        if found := same(counted(bad, "--sshlogin", first, "--sshlogin", second), whole(b"".join(TEXTS["not UTF-8 in one piece"]))):
+            return f"with a piece that isn't UTF-8: {found}"
+        return failed(counted(written(room, [TEXT]), "--sshlogin", absent), "wasn't counted")
+
+
+def line_breaks(room):
+    """A machine whose line breaks in the middle of an answer: the piece is tried again, and a line that is cut with a status of 0 is
+    seen as well."""
+    for status, row in ((255, same), (0, None)):
+        ssh = room / f"ssh{status}"
+        often = "true" if status == 0 else f'mkdir "{room}/broken" 2> "{room}/said"'
+        ssh.write_text(f'#!/bin/bash\nexport SHELL=/bin/bash\nshift 2\nif {often}; then sh -c "$*" | head -c 60; exit {status}; fi\nexec sh -c "$*"\n', encoding="utf-8")
+        ssh.chmod(0o755)
+        found = counted(written(room, [TEXT]), "--sshlogin", f"2/{ssh} machine")
+        if wrong := same(found, whole(TEXT)) if row else failed(found, "wasn't counted"):
+            return f"with status {status}: {wrong}"
+    return None
+
+
+def dask(room):
+    for python in ("python3", "/usr/bin/python3"):
+        if shutil.which(python) and ran([python, "-c", "import dask.bytes, distributed"]).returncode == 0:
+            break
+    else:
+        return "skipped: dask isn't here"
+    files = written(room, [TEXT])
+    found = ran([python, DASK, "--atoms", ATOMS, "--block", "20000", *files])
+    if wrong := same(found, whole(TEXT)):
+        return wrong
+    bad = written(room, TEXTS["not UTF-8 in one piece"])
+    return failed(ran([python, DASK, "--atoms", ATOMS, "--block", "20000", *bad]), "atoms: input is not UTF-8")
+
+
+def rows():
+    yield "merge: equal words are added, whatever the language", merges
+    yield "merge: a file that isn't there", merge_misses_a_file
+    yield "merge: a file that is cut off", merge_refuses(b"1 a\n", b"1 b\n2 c", why=b"cut off")
+    yield "merge: a file that isn't in order", merge_refuses(b"1 b\n1 a\n", why=b"order")
+    yield "merge: a file of something else", merge_refuses(b"one a\n", why=b"no line")
+    yield "merge: by the script, and as a map-reduce job", merges_in_two_ways
+    yield "merge: its output is closed", merge_ends_well(">&-", b"1 a\n")
+    yield "reduce: a last line without its end", reduce_refuses(b"a\t1\nb\t12", b"cut off")
+    yield "reduce: lines of something else", reduce_refuses(b"a\tone\n", b"no line")
+    yield "reduce: its output is closed", merge_ends_well(">&-")
+    yield "reduce: its input is closed", merge_ends_well("<&-")
+    yield "mapper: fails where the program does", mapper_fails_with_the_program
+    yield "dask: two processes", dask
+    if not shutil.which("parallel"):
+        yield "pieces: all rows", lambda room: "skipped: GNU parallel isn't here"
+        return
+    for name, texts in TEXTS.items():
+        yield f"text: {name}", counts_as_the_whole(texts)
+    for row in (file_is_missing, file_is_a_folder, file_is_unreadable, job_fails, job_fails_once, program_is_missing):
+        yield f"pieces: {row.__name__.replace('_', ' ')}", row
+    for row in (results_are_spoilt, run_is_broken_off, other_text_is_resumed, text_grows_meanwhile, prints_nothing_but_counts):
+        yield f"pieces: {row.__name__.replace('_', ' ')}", row
+    yield "machines: a line that breaks", line_breaks
+    if shutil.which("sshd", path=os.environ.get("PATH", "") + ":/usr/sbin"):
+        yield "machines: two, and one that isn't there", two_machines
+    else:
+        yield "machines: two, and one that isn't there", lambda room: "skipped: sshd isn't here"
+
+
+def main():
+    results = []
+    for name, row in rows():
+        if sys.argv[1:] and not any(word in name for word in sys.argv[1:]):
+            continue
+        with tempfile.TemporaryDirectory(prefix="many-") as room:
+            try:
+                wrong = row(Path(room))
+            except (OSError, subprocess.SubprocessError) as why:
+                wrong = f"it can't be run: {why}"
+        skipped = wrong is not None and wrong.startswith("skipped: ")
+        print(f"many {name}: {wrong if skipped else f'WRONG: {wrong}' if wrong else 'ok'}", flush=True)
+        results += [] if skipped else [not wrong]
+    print(f"{results.count(True)} passed, {results.count(False)} failed")
+    return 0 if results and all(results) else 1
+
+
+if __name__ == "__main__":
+    sys.exit(main())

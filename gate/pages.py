@@ -1,0 +1,136 @@
+#!/usr/bin/env python3
+"""Sees that what the pages show stands in the crates:
+
+- each item of a Rust block, with its contract or without one, each name that it imports, and each answer of a proof;
+- each line of crates.txt;
+- each call that docs/CALLS.md lists, in that form and with the first sentence said of it, and there each public call of the crates that it
+  is about (gate/calls.py writes these sentences);
+- what each link leads to: a file, and a heading in it.
+
+usage: gate/pages.py [TOP]     of this repository, or of the one in that folder
+"""
+
+import re
+import sys
+from pathlib import Path
+
+from public_calls import ROW, USE, imports, listed_calls, packed, row_of
+
+TOP = Path(sys.argv[1] if sys.argv[1:] else __file__).resolve()
+TOP = TOP if TOP.is_dir() else TOP.parent.parent
+CRATES = TOP / "crates"
+CALLS = TOP / "docs" / "CALLS.md"
+
+CLAUSE = re.compile(r"^ +(?:requires|ensures)\b.*$", re.M)
+
+
+def read(path):
+    return path.read_text(encoding="utf-8")
+
+
+def line_of(text, at):
+    return text.count("\n", 0, at) + 1
+
+
+# ---- blocks
+
+
+def items_of(block):
+    """The items of a block, which are parted by empty lines: what it imports is left out."""
+    return [item for item in re.split(r"\n\n+(?=\S)", USE.sub("", block).strip()) if item.strip()]
+
+
+class Sources:
+    """The files of the crates with one suffix: what they have, with contracts and without, and what they import."""
+
+    def __init__(self, suffix):
+        texts = [read(path) for path in sorted(CRATES.glob(f"*/**/*.{suffix}")) if "out" not in path.parts]
+        self.imports = {path for text in texts for path in imports(text)}
+        texts = [USE.sub("", text) for text in texts]
+        self.texts = [packed(text) for text in texts] + [packed(CLAUSE.sub("", text)) for text in texts]
+
+    def wrong(self, block):
+        """What of a block they don't have, and None for what they have, one after another."""
+        for path in sorted(imports(block)):
+            yield None if path in self.imports else f"no crate imports {path}"
+        for item in items_of(block):
+            has = any(packed(item) in text for text in self.texts)
+            yield None if has else f"it stands in no crate: {item.strip().splitlines()[0]}"
+
+
+def wrong_blocks(pages):
+    for kind, suffix in (("rust", "rt"), ("antt", "antt")):
+        sources = Sources(suffix)
+        for page in pages:
+            text = read(page)
+            for found in re.finditer(rf"^```{kind}\n(.*?)^```", text, re.M | re.S):
+                for why in sources.wrong(found[1]):
+                    yield page, line_of(text, found.start()), why
+
+
+# ---- crates.txt
+
+
+def wrong_lines(pages):
+    lines = read(TOP / "crates.txt").splitlines()
+    names = {re.split("[ :]", line)[0] for line in lines if line and not line.startswith("#")}
+    words = {word for line in lines for word in line.partition(": ")[2].split()}
+    for page in pages:
+        text = read(page)
+        for found in re.finditer(r"(?:^|`)((\w+)(?: [\w=+]+)*: ([\w ]+))(?:`|$)", text, re.M):
+            if found[2] in names and words & set(found[3].split()):
+                yield page, line_of(text, found.start()), None if found[1] in lines else f"crates.txt has another line of {found[2]}"
+
+
+# ---- calls
+
+
+def wrong_calls():
+    calls, text, seen = listed_calls(TOP), read(CALLS), set()
+    for found in ROW.finditer(text):
+        call, row = row_of(found, calls)
+        seen.add(call)
+        why = f"the sources say: {row}" if call else f"the sources have no call {found[1]}::{found[2]} of that form"
+        yield CALLS, line_of(text, found.start()), None if call and call.meaning and row == found[0] else why
+    for call in (it for found in calls.values() for it in found if it.is_shown):
+        yield CALLS, 1, None if call in seen else f"{call.owner}::{call.name} isn't listed"
+
+
+# ---- links
+
+
+def headings(page):
+    """The anchors of a page's headings."""
+    lines = re.sub(r"^```.*?^```", "", read(page), flags=re.M | re.S)
+    titles = re.findall(r"^#+ (.*)$", lines, re.M)
+    return {re.sub(r"[^\w\- ]", "", title.lower()).strip().replace(" ", "-") for title in titles}
+
+
+def wrong_links(pages):
+    for page in pages:
+        text = read(page)
+        for found in re.finditer(r"\]\((?!https?:)([^)\s#]*)(?:#([^)\s]+))?\)", text):
+            to = (page.parent / found[1]) if found[1] else page
+            is_there = to.exists() and (not found[2] or found[2] in headings(to))
+            yield page, line_of(text, found.start()), None if is_there else f"nothing is at {found[0][2:-1]}"
+
+
+def main():
+    pages = [TOP / "README.md", *sorted(TOP.glob("docs/*.md")), *sorted(CRATES.glob("*/README.md")), *sorted(CRATES.glob("*/CALLING.md"))]
+    all_pages = pages + sorted(TOP.glob("clients/**/README.md"))
+    results = []
+    for name, found in [
+        ("blocks", wrong_blocks(pages)), ("lines of crates.txt", wrong_lines(all_pages)), ("calls", wrong_calls()), ("links", wrong_links(all_pages)),
+    ]:
+        found = list(found)
+        for page, line, why in found:
+            if why:
+                print(f"pages {page.relative_to(TOP)}:{line}: WRONG: {why}")
+        print(f"pages {name}: {len(found)} on {len({it[0] for it in found})} pages{'' if found else ': WRONG: none were found'}")
+        results += [not any(it[2] for it in found if it[0] == page) for page in {it[0] for it in found}] or [False]
+    print(f"{results.count(True)} passed, {results.count(False)} failed")
+    return 0 if all(results) else 1
+
+
+if __name__ == "__main__":
+    sys.exit(main())

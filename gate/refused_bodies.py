@@ -1,0 +1,141 @@
+#!/usr/bin/env python3
+"""Tries the wrong bodies of crates/NAME/refused/*.edit, each of which the prover has to refuse at a goal of the function that it names.
+
+Such a file is a must-fail edit under one line more:
+
+    function: Table::add_holder
+
+the end of the function's name as `rt check` prints it. Bodies of different functions of a crate share a check (gate/batches.py says what
+counts as refused there): one that a check doesn't refuse is checked alone, and is WRONG if it isn't refused then. `rt ci` tries each edit
+of must-fail/ in a check of its own, and takes any refusal, wherever it is.
+
+Each crate is proved as it stands first, unless --proved says that `rt ci` has just done so. A crate is also WRONG where a check refuses a
+function that no body changes at a goal of its own.
+
+What passed is kept in ~/.cache/jatzurbin, by a sum of all that was read: a later run tries only what changed. --anew tries all.
+
+usage: gate/refused_bodies.py [--jobs N] [--proved] [--anew] [CRATE ..]     without names: all crates that have such bodies
+"""
+
+import argparse
+import contextlib
+import hashlib
+import os
+import re
+import sys
+import tempfile
+from concurrent.futures import ThreadPoolExecutor
+from pathlib import Path
+
+import batches
+import find_tools  # has Python find the modules of gate/
+from edits import BadEdit, changes_in
+from repository import TOP, crates_listed, said_by, stands_on
+
+KEPT = Path(os.environ.get("XDG_CACHE_HOME") or Path.home() / ".cache") / "jatzurbin" / "refused"
+TOOLS = ("refused_bodies.py", "batches.py", "edits.py")
+SAID = 400  # how much is told of what was said
+
+
+def read(path):
+    """The body in a file."""
+    lines, crate = path.read_text(encoding="utf-8").splitlines(), path.parent.parent
+    function = next((line.partition(": ")[2].strip() for line in lines if line.startswith("function: ")), "")
+    if not function:
+        raise BadEdit("it has no line 'function: NAME'")
+    return batches.placed(f"{crate.name}/{path.name}", crate, function, changes_in(lines))
+
+
+def bodies_of(folder):
+    """The bodies in the folder of a crate, and what is wrong with those that are none."""
+    bodies, wrong = [], []
+    for path in sorted((folder / "refused").iterdir()):
+        try:
+            if path.suffix != ".edit":
+                raise BadEdit("its name doesn't end in .edit")
+            bodies.append(read(path))
+        except (BadEdit, OSError, ValueError) as why:
+            wrong.append(f"{folder.name}/{path.name}: BAD EDIT: {why}")
+    return bodies, wrong
+
+
+def sum_of(crate):
+    """A sum of all that a check of the crate reads, and of these scripts."""
+    crates = stands_on(crates_listed(), crate)
+    found = hashlib.sha256(said_by("rt", "version")[1].encode())
+    for line in (TOP / "crates.txt").read_text(encoding="utf-8").splitlines():
+        found.update(f"{line}\n".encode() if re.split("[ :]", line)[0] in crates else b"")
+    files = [TOP / "HANDLES", *(Path(__file__).resolve().parent / name for name in TOOLS)]
+    for name in sorted(crates):
+        files += sorted(path for part in batches.PARTS for path in (TOP / "crates" / name / part).rglob("*") if path.is_file())
+    for path in files:
+        found.update(f"{path.relative_to(TOP)}\n".encode() + hashlib.sha256(path.read_bytes()).digest())
+    return found.hexdigest()
+
+
+def kept(crate_sum, body):
+    """Where it is kept that the body was refused."""
+    return KEPT / hashlib.sha256(f"{crate_sum} {body} {body.function} {body.places}".encode()).hexdigest()
+
+
+def keep(path):
+    """Keeps that a body was refused, if there is room."""
+    with contextlib.suppress(OSError):
+        KEPT.mkdir(parents=True, exist_ok=True)
+        path.touch()
+
+
+def judged(bodies, folder, is_proved):
+    """Tries bodies of the crate in this folder of a copy. Each with whether it is refused as it must be, and what to say."""
+    if not is_proved:
+        said = batches.check([], folder)
+        if "logic=proved" not in said:
+            return [(body, False, f"NOT TRIED: the crate as it stands isn't proved: {said.strip()[-SAID:]}") for body in bodies]
+    results = []
+    for body, goals, text in batches.tried(bodies, folder):
+        results.append((body, bool(goals), f"refused at {', '.join(goals)}" if goals else f"NOT REFUSED: {text[:SAID]}"))
+    return results
+
+
+def try_crate(folder, copy, is_proved, is_anew):
+    """Tries the bodies of the crate in this folder, in that of a copy. Whether each passed, or could be read."""
+    bodies, wrong = bodies_of(folder)
+    lines, crate_sum = [f"refused {text}" for text in wrong], sum_of(folder.name)
+    left = [body for body in bodies if is_anew or not kept(crate_sum, body).is_file()]
+    results = [False] * len(wrong) + [True] * (len(bodies) - len(left))
+    if len(left) < len(bodies):
+        lines.append(f"refused {folder.name}: {len(bodies) - len(left)} of {len(bodies)} were refused by earlier runs over the same files")
+    if left:
+        found = judged(left, copy, is_proved)
+        is_same = sum_of(folder.name) == crate_sum  # nothing was changed meanwhile
+        for body, well, text in found:
+            lines.append(f"refused {body}: {'' if well else 'WRONG: '}{text}")
+            results.append(well)
+            if well and is_same:
+                keep(kept(crate_sum, body))
+    print("\n".join(lines), flush=True)
+    return results
+
+
+def main():
+    parser = argparse.ArgumentParser(description=__doc__, formatter_class=argparse.RawDescriptionHelpFormatter)
+    parser.add_argument("--jobs", type=int, default=1)
+    parser.add_argument("--proved", action="store_true")
+    parser.add_argument("--anew", action="store_true")
+    parser.add_argument("crates", nargs="*")
+    given = parser.parse_args()
+    folders = {path.parent.name: path.parent for path in sorted(TOP.glob("crates/*/refused"))}
+    if set(given.crates) - set(folders):
+        sys.exit(f"refused_bodies: no wrong bodies stand in {', '.join(sorted(set(given.crates) - set(folders)))}")
+    chosen = [folders[name] for name in folders if not given.crates or name in given.crates]
+    chosen.sort(key=lambda folder: -len(list((folder / "refused").iterdir())))
+    with tempfile.TemporaryDirectory(prefix="refused-") as room, ThreadPoolExecutor(max(1, given.jobs)) as lanes:
+        copies = batches.copies_of([folder.name for folder in chosen], Path(room))
+        tried = lanes.map(lambda folder: try_crate(folder, copies[folder.name], given.proved, given.anew), chosen)
+        results = [it for found in tried for it in found]
+    print(f"{results.count(True)} passed, {results.count(False)} failed")
+    return 0 if all(results) else 1
+
+
+if __name__ == "__main__":
+    sys.exit(main())

@@ -1,0 +1,265 @@
+#!/usr/bin/env python3
+"""Tries what gate/refused_bodies.py says of wrong bodies: where a text stands, what a check's lines mean, and, of a small crate that is
+proved, which bodies count as refused. Those that must not are of the same meaning, break a name that a proof cites, lie outside their
+function, or don't compile.
+
+usage: gate/refused_bodies_test.py
+"""
+
+import sys
+import tempfile
+import unittest
+from pathlib import Path
+from types import SimpleNamespace
+from unittest import mock
+
+import batches
+import copies
+import find_tools  # has Python find the modules of gate/
+import refused_bodies
+import repository
+from edits import BadEdit
+
+CRATE = """\
+//! What is edited.
+#![tactic(auto)]
+ghost use Rattle.std.specs.Prelude.{◌≡◌, ◌+◌, ◌*◌, ◌<◌, ◌≤◌, length};
+
+/// The number after it.
+pub fn next(number: u8) -> u32
+    ensures { result ≡ number + 1 }
+{
+    let wide = u32::from(number);
+    wide + 1
+}
+
+/// Twice the number after it.
+pub fn twice(number: u8) -> u32
+    ensures { result ≡ (number + 1) * 2 }
+{
+    next(number) * 2
+}
+
+/// The number itself.
+pub fn same(number: u8) -> u32
+    ensures { result ≡ number }
+{
+    u32::from(number)
+}
+
+/// How many of the numbers are zero.
+pub fn zeros(numbers: &[u8]) -> usize
+    ensures { result ≤ length numbers.now }
+{
+    let mut found = 0;
+    for number in numbers {
+        if *number == 0 {
+            found += 1;
+        }
+    }
+    found
+}
+"""
+ANSWERS = """\
+use Rattle.std.proofs.Common.{arith}
+use Rattle.few.proofs.same.Goals as goal
+
+pub returns : goal.returns
+returns c = omega arith
+"""
+INVARIANTS = """\
+use Rattle.std.proofs.Common.{◌≤◌}
+use Rattle.few.proofs.zeros.Given as goal
+
+abbrev pub invariant-loop-number : goal.invariant-loop-number
+invariant-loop-number l = l.found ≤ l.number-index
+"""
+METHODS = """\
+impl<'t> Model for Few<'t> {
+    ghost Value = { List };
+}
+
+impl<S: Static<u8>> Iterator for Few<'_, S> {
+    fn next(&mut self) -> Option<u8>
+        ensures { IsSome result }
+    {
+        self.step()
+    }
+}
+
+impl Few<'_> {
+    pub const fn next(&self) -> u8 {
+        7
+    }
+}
+
+pub trait Calls {
+    fn called(&self) -> u8;
+}
+"""
+# What is said of two functions of which one calls the other, and of a third whose proof names what is gone.
+SAID = """\
+./proofs/low/third/Answers.antt:4:15: error: `returns`: `goal.returns`: module `Goals` has no `returns` that can be named from here
+./proofs/low/fifth/Proof.antt:9:1: error: `walk`: expected type `A`
+fn few::low::first: no proof: expected answers in ./proofs/low/first/Answers.antt; `search` did not prove `returns`, `invariant_of-result`
+fn few::low::Few::second: no proof: it calls `few::low::first`, which is not proved
+fn few::low::third: not proved
+fn few::low::fourth: proved
+fn few::low::fifth: not proved; it calls `few::low::first`, which is not proved
+fn few::low::sixth: no proof: expected answers; `search` did not prove `overflow_add`; it calls `few::low::first`, which is not proved
+fn few::low::seventh: no proof: expected a measure in ./proofs/low/seventh/Invariants.antt
+fn few::low::fn::ninth::scope: no proof: expected answers; `search` did not prove `returns-clause-same`
+fn few::low::fn::ninth::scope+FnOnce::call_once: no proof: it calls `few::low::fn::ninth::scope`, which is not proved
+fn few::low::ninth: no proof: it calls `few::low::fn::ninth::scope+FnOnce::call_once`, which is not proved
+fn few::low::ninth_of: proved
+crate few: modules loaded=28 checked=21
+"""
+
+
+def changes_of(*pairs):
+    return [("src/lib.rt", old, new) for old, new in pairs]
+
+
+class Places(unittest.TestCase):
+    """Where a text stands, and in which function."""
+
+    def place(self, text, function):
+        name, around, opens, closes = batches.function_at(METHODS, METHODS.index(text))
+        return batches.is_of(function, name, around), METHODS[opens:closes]
+
+    def test_a_method_is_told_by_its_impl(self):
+        self.assertEqual(self.place("self.step()", "FewIterator::next"), (True, "        self.step()\n"))
+        self.assertEqual(self.place("7", "Few::next"), (True, "        7\n"))
+        self.assertEqual(self.place("7", "Other::next"), (False, "        7\n"))
+        self.assertFalse(self.place("7", "Few::step")[0])
+
+    def test_what_is_no_body_is_none(self):
+        with self.assertRaises(BadEdit):
+            batches.function_at(METHODS, METHODS.index("List"))
+        with self.assertRaises(BadEdit):
+            batches.function_at(METHODS, METHODS.index("called"))
+
+
+class Lines(unittest.TestCase):
+    """What a check's lines mean."""
+
+    def goals(self, function):
+        return batches.judge(function, SAID)[0]
+
+    def test_goals_of_a_function_refuse_it(self):
+        self.assertEqual(self.goals("first"), ["returns", "invariant_of-result"])
+        self.assertEqual(self.goals("low::sixth"), ["overflow_add"])
+        self.assertEqual(self.goals("seventh"), ["a loop's measure"])
+        self.assertEqual(self.goals("fifth"), ["`walk`: expected type `A`"])
+
+    def test_what_it_calls_does_not(self):
+        self.assertEqual(self.goals("Few::second"), [])
+
+    def test_a_closure_in_it_does(self):
+        self.assertEqual(self.goals("ninth"), ["returns-clause-same"])
+        self.assertEqual(self.goals("ninth_of"), [])
+
+    def test_a_name_that_is_gone_does_not(self):
+        self.assertEqual(self.goals("third"), [])
+
+    def test_a_function_that_no_body_changes_has_to_be_proved(self):
+        bodies = [SimpleNamespace(function=name) for name in ("first", "fifth", "sixth", "low::seventh", "ninth")]
+        self.assertEqual(batches.strangers(bodies, SAID), [])
+        self.assertEqual(batches.strangers(bodies[1:], SAID), ["few::low::first"])
+
+    def test_a_function_is_named_by_one_line(self):
+        self.assertEqual(self.goals("fourth"), [])
+        for function in ("eighth", "ourth", "low"):
+            goals, text = batches.judge(function, SAID)
+            self.assertEqual((goals, text[:22]), ([], "the check has 0 lines "))
+
+
+class Crate(unittest.TestCase):
+    """Bodies of a small crate."""
+
+    def setUp(self):
+        room = tempfile.TemporaryDirectory(prefix="refused-test-")
+        self.addCleanup(room.cleanup)
+        self.top = Path(room.name)
+        self.folder = self.top / "crates" / "few"
+        texts = {"src/lib.rt": CRATE, "proofs/same/Answers.antt": ANSWERS, "proofs/zeros/Invariants.antt": INVARIANTS}
+        for file, text in texts.items():
+            (self.folder / file).parent.mkdir(parents=True, exist_ok=True)
+            (self.folder / file).write_text(text, encoding="utf-8")
+        (self.top / "crates.txt").write_text("few: core\n", encoding="utf-8")
+        (self.top / "HANDLES").write_text("Handles allowed: Threads, Wait.\n", encoding="utf-8")
+        copies.crates.cache_clear()
+        self.addCleanup(copies.crates.cache_clear)
+        for module in (repository, copies, batches, refused_bodies):
+            held = mock.patch.object(module, "TOP", self.top)
+            held.start()
+            self.addCleanup(held.stop)
+
+    def placed(self, label, function, *pairs):
+        return batches.placed(label, self.folder, function, changes_of(*pairs))
+
+    def test_a_change_outside_its_function_is_a_bad_edit(self):
+        for function, old, new in (
+            ("twice", "wide + 1", "wide + 2"),
+            ("next", "result ≡ number + 1", "result ≡ number"),
+            ("next", "pub fn next(number: u8) -> u32", "pub fn next(number: u8) -> u32 "),
+            ("next", "    wide + 1\n}", "    wide + 1\n} "),
+            ("next", "number", "other"),
+        ):
+            with self.assertRaises(BadEdit, msg=old):
+                self.placed("some", function, (old, new))
+        for file in ("proofs/same/Answers.antt", "specs/Lib.antt"):
+            with self.assertRaises(BadEdit):
+                batches.placed("some", self.folder, "next", [*changes_of(("wide + 1", "wide + 2")), (file, "arith}", "arith }")])
+
+    def test_texts_stand_at_their_places(self):
+        first = self.placed("first", "next", ("wide + 1", "next(number) * 2"))
+        second = self.placed("second", "twice", ("next(number) * 2", "wide + 1"))
+        (text,) = batches.texts_with([first, second], self.folder).values()
+        self.assertEqual(text, CRATE.replace("    wide + 1", "    SWAP").replace("    next(number) * 2", "    wide + 1").replace("SWAP", "next(number) * 2"))
+
+    def test_a_function_comes_once_in_a_batch(self):
+        bodies = [self.placed(str(it), "next", ("wide + 1", f"wide + {it}")) for it in (2, 3, 4)]
+        bodies.append(self.placed("5", "twice", ("(number) * 2", "(number) * 3")))
+        found = [[str(body) for body in batch] for batch in batches.batches(bodies)]
+        self.assertEqual(sorted(map(sorted, found)), [["2", "5"], ["3"], ["4"]])
+
+    def test_only_bodies_that_their_own_function_refuses_pass(self):
+        counted = [("let mut found = 0;", "let mut seen = 0;"), ("found += 1;", "seen += 1;"), ("    found\n", "    seen\n")]
+        looped = [("for number in numbers", "for entry in numbers"), ("if *number == 0", "if *entry == 0")]
+        rows = {  # the function, what is changed, whether it counts as refused, and what is said
+            "wrong": ("next", [("wide + 1", "wide + 2")], True, "refused at returns"),
+            "wrong_above": ("twice", [("next(number) * 2", "next(number) * 3")], True, "refused at returns"),
+            "same_meaning": ("twice", [("next(number) * 2", "next(number) + next(number)")], False, "NOT REFUSED: proved"),
+            "stale_name": ("zeros", counted, False, "NOT REFUSED: "),
+            "stale_loop": ("zeros", looped, False, "NOT REFUSED: "),
+            "stale_goal": ("same", [("    u32::from(number)", "    if number == 0 { 0 } else { u32::from(number) }")], False, "NOT REFUSED: not proved"),
+            "wrong_answer": ("same", [("    u32::from(number)", "    u32::from(number / 2)")], True, "refused at `returns`: `omega`"),
+            "not_compiled": ("next", [("wide + 1", "wider + 1")], False, "NOT REFUSED: the check has 0 lines for next"),
+        }
+        bodies = [self.placed(name, function, *pairs) for name, (function, pairs, _, _) in rows.items()]
+        with tempfile.TemporaryDirectory(prefix="refused-test-") as room:
+            folder = batches.copies_of(["few"], Path(room))["few"]
+            found = {str(body): (well, text) for body, well, text in refused_bodies.judged(bodies, folder, False)}
+        for name, (_, _, well, text) in rows.items():
+            self.assertEqual(found[name][0], well, (name, found[name]))
+            self.assertIn(text, found[name][1], name)
+
+    def test_nothing_is_refused_of_a_crate_that_is_not_proved(self):
+        file = self.folder / "src" / "lib.rt"
+        file.write_text(CRATE.replace("wide + 1", "wide + 3"), encoding="utf-8")
+        with tempfile.TemporaryDirectory(prefix="refused-test-") as room:
+            folder = batches.copies_of(["few"], Path(room))["few"]
+            (result,) = refused_bodies.judged([self.placed("wrong", "twice", ("(number) * 2", "(number) * 3"))], folder, False)
+        self.assertEqual(result[1:2] + (result[2][:10],), (False, "NOT TRIED:"))
+
+
+def main():
+    result = unittest.TextTestRunner(stream=sys.stdout, verbosity=2).run(unittest.defaultTestLoader.loadTestsFromName("__main__"))
+    bad = len(result.failures) + len(result.errors)
+    print(f"{result.testsRun - bad} passed, {bad} failed")
+    return 0 if result.wasSuccessful() else 1
+
+
+if __name__ == "__main__":
+    sys.exit(main())

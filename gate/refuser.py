@@ -1,0 +1,172 @@
+"""Runs a test with requests for memory, or starts of threads, refused, and judges what came of it (gate/refused.py says how)."""
+
+import os
+import subprocess
+import sys
+from dataclasses import dataclass
+from pathlib import Path
+
+import find_tools  # has Python find the next one
+from programs import compiler, kit
+
+SECONDS = 60  # for one run
+MOST = 100_000  # requests of one call
+EVERY = sys.maxsize
+NAMES = {"memory": "requests for memory", "starts": "starts of threads"}  # what can be refused
+# How many requests a call may do without, by its test's name: in each worker that has words (the text has 20), each of two lists that
+# are collected asks ahead for the room that it may need, and goes on without it. Threads ask in another order in each run, so that a
+# number may meet such a request twice: with more than one worker there may be twice as many. Equal texts are looked for with two requests,
+# and where one of them is refused, without. A thread for half of the lists that are merged can be done without as well.
+SPARED = {
+    "refusals::generated::doubles_are_told": 2,
+    "refusals::programs::counts_by_one": 2,
+    "refusals::programs::counts_by_two": 8,
+    "refusals::programs::counts_by_three": 12,
+    "refusals::programs::counts_by_sixty_four": 80,
+    "refusals::programs::counts_of_many_by_four": 16,
+    "refusals::starts::counts_of_many_by_four": 1,
+}
+
+# The most requests that a call may make, by its test's name: a new text has a cell, and a node where its bucket's first one has no room; in a
+# table that has room it has its bytes.
+FEW = {
+    "refusals::sets::text_is_interned": 2,
+    "refusals::sets::text_finds_room_in_a_node": 1,
+    "refusals::tables::text_finds_room_in_a_table": 1,
+    "refusals::tables::text_finds_room_in_a_cleared_table": 1,
+}
+
+# The fewest requests that a call may make, by its test's name: each dynamic text that a table holds has its bytes.
+MANY = {"refusals::programs::many_words_in_a_table": 100}
+
+
+@dataclass
+class Run:
+    """What became of a test, with some requests refused."""
+
+    status: int
+    ended: str  # the line behind the call
+    requests: int
+    refused: int
+    kept: int  # blocks that the program had more after the call than before it
+    left: int  # blocks that it still had when it ended
+    asked: int  # bytes that the call asked for
+    said: str
+
+    def passed(self):
+        """Whether the test itself saw nothing wrong."""
+        return self.status == 0 and "test result: ok" in self.said
+
+    def wrong(self):
+        """What is wrong with it, or None."""
+        if not self.passed():
+            return f"the test fails: {' '.join(self.said.split())[-400:]}"
+        wanted = ("refused", "refused midway", "given") if self.refused else ("given",)
+        if self.ended not in wanted:
+            return f"the call ended as '{self.ended}'"
+        if self.ended == "refused" and self.kept > 0:
+            return f"{self.kept} blocks are kept after the refusal"
+        if self.left != 0:
+            return f"{self.left} blocks are left when the program has ended"
+        return None
+
+
+@dataclass
+class Refuser:
+    """A program of tests, and the library that refuses to it."""
+
+    library: str
+    program: Path
+
+    def tests(self):
+        """The names of the tests of refusals."""
+        listed = subprocess.run([self.program, "--list"], stdout=subprocess.PIPE, check=True).stdout.decode().splitlines()
+        return [name for name, _, _ in (line.partition(": ") for line in listed) if name.startswith("refusals::")]
+
+    def run(self, test, what, first, last):
+        """One run of a test, with what is asked for, memory or starts, refused from the first to the last of these numbers."""
+        report, told = os.pipe()
+        limits = {"REFUSE_WHAT": what, "REFUSE_FIRST": str(first), "REFUSE_LAST": str(last), "REFUSE_REPORT": str(told)}
+        how = {"stdin": subprocess.DEVNULL, "stdout": subprocess.PIPE, "stderr": subprocess.STDOUT, "pass_fds": [told]}
+        try:
+            ran = subprocess.run([self.program, test], env={"LD_PRELOAD": self.library, **limits}, timeout=SECONDS, **how)
+            status, said = ran.returncode, ran.stdout.decode(errors="replace")
+        except subprocess.TimeoutExpired:
+            status, said = -1, f"it hasn't ended after {SECONDS} seconds"
+        os.close(told)
+        with os.fdopen(report) as it:
+            numbers = [int(word) for word in it.read().split()]
+        lines = [line[3:] for line in said.splitlines() if line.startswith("== ")]
+        ended = lines[1] if len(lines) == 2 and lines[0] == "call" else f"no call, but {lines}"
+        if len(numbers) != 5:
+            numbers, ended = [0, 0, 0, 0, 0], "no report, so that nothing was counted"
+        return Run(status, ended, *numbers, said)
+
+    def passes(self, test):
+        """Whether the test passes where nothing is refused."""
+        return self.run(test, "memory", 0, 0).passed()
+
+    def one_after_another(self, test, what):
+        """Refuses each request in turn. Whether all is well, and what to say."""
+        spare = sum(count for name, count in SPARED.items() if test.startswith(name))
+        for at in range(1, MOST):
+            ran = self.run(test, what, at, at)
+            wrong = ran.wrong()
+            if ran.refused and ran.ended == "given":
+                spare -= 1
+                if spare < 0:
+                    wrong = wrong or "the call doesn't say that it was refused"
+            if wrong:
+                return False, f"with number {at} of the {NAMES[what]} refused: {wrong}"
+            if ran.requests > FEW.get(test, MOST):
+                return False, f"{ran.requests} {NAMES[what]}, where {FEW[test]} are enough"
+            if not ran.refused and ran.requests < MANY.get(test, 0):
+                return False, f"{ran.requests} {NAMES[what]}, where {MANY[test]} are needed"
+            if not ran.refused:
+                return True, f"{ran.requests} {NAMES[what]}, each refused in turn"
+        return False, f"there is no end of {NAMES[what]} after {MOST}"
+
+    def all_at_once(self, test):
+        """Refuses every request for memory. Whether there was none and all is well, and what to say."""
+        ran = self.run(test, "memory", 1, EVERY)
+        wrong = ran.wrong()
+        if ran.requests:
+            wrong = f"{ran.requests} requests for memory, where none was to come"
+        return not wrong, wrong or "no request for memory"
+
+    def bytes_told(self, test):
+        """Refuses nothing. Whether the bytes that the test tells are those that were asked for and all is well, and what to say."""
+        ran = self.run(test, "memory", 0, 0)
+        told = [line for line in ran.said.splitlines() if line.startswith("-- ")]
+        wrong = ran.wrong()
+        if told != [f"-- {ran.asked} bytes"]:
+            wrong = wrong or f"it tells {told}, where {ran.asked} bytes were asked for"
+        return not wrong, wrong or f"{ran.asked} bytes were asked for, as it tells"
+
+    def whole(self, test):
+        """Refuses nothing. Whether all is well and the call keeps no block, and what to say."""
+        ran = self.run(test, "memory", 0, 0)
+        wrong = ran.wrong() or (f"{ran.kept} blocks are kept" if ran.kept else None)
+        return not wrong, wrong or f"{ran.requests} requests for memory, and all of it given back"
+
+    def judge(self, test):
+        """Whether all is well with the test, and what to say."""
+        try:
+            if "::whole::" in test:
+                return self.whole(test)
+            if "::told::" in test:
+                return self.bytes_told(test)
+            if "::unasked::" in test:
+                return self.all_at_once(test)
+            return self.one_after_another(test, "starts" if "::starts::" in test else "memory")
+        except (OSError, ValueError, TypeError) as why:
+            return False, f"it can't be run: {why}"
+
+
+def refuser(program, room):
+    """What refuses to this program of tests. The library is made in the room, a folder."""
+    own = kit()
+    library = f"{room}/refuse.so"
+    words = [*compiler(own), "-shared", "-O1", "-fPIC", "-fno-builtin", "-Wall", "-Werror", "-o", library, Path(__file__).resolve().parent / "refuse.c"]
+    subprocess.run([*words, own / "toolchain" / "lib" / "libc.so.6"], check=True)
+    return Refuser(library, program)

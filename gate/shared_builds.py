@@ -1,0 +1,127 @@
+"""Wrong bodies side by side in one build, of which each program that is linked from it has one.
+
+A build takes a minute, and most tests a blink. So each function that wrong bodies change gets all of them beside its own body, and
+learns from a function in C which of them is meant:
+
+    match wrong_body() {
+        1 => { the body that the first edit makes of it }
+        2 => { the body that the second edit makes of it }
+        _ => { its own body }
+    }
+
+The object that the compiler makes of the tests is linked once for each number, with a `wrong_body` that answers it, which the compiler
+doesn't see. So the program of number N has the Nth body alone, and that of number 0 is the crate as it is. No body can hide another, or
+pass for it.
+
+An edit can share where it changes no more than what stands between the braces of functions: no signature, type or constant.
+"""
+
+import contextlib
+import subprocess
+
+import find_tools  # has Python find the modules of tools/
+from edits import FUNCTION, edited, replaced
+from programs import TESTS, compiler, kit, link, object_of
+
+SWITCH = 'unsafe extern "C" {\n    safe fn wrong_body() -> u32;\n}\n'
+ANSWER = "unsigned wrong_body(void) {{ return {number}; }}\n"
+
+
+class CantShare(Exception):
+    """The edit changes more than bodies of functions."""
+
+
+def braces(lines, first):
+    """The lines that open and close the body of the function that begins in the first line, or None where it has none. The files are
+    formatted by `rt fmt`, so that the brace that closes stands under the function's first word."""
+    indent = FUNCTION.match(lines[first])[1]
+    for at in range(first, len(lines)):
+        line = lines[at]
+        if line.endswith(";"):
+            return None
+        if at == first or not line.startswith(f"{indent} "):
+            if line.endswith("{"):
+                return at, lines.index(f"{indent}}}", at)
+            if line.endswith("}"):
+                return None
+    return None
+
+
+def bodies(lines):
+    """The lines that open and close the bodies of the functions in these lines."""
+    at = 0
+    while at < len(lines):
+        # (a constant function can ask nothing of C)
+        found = braces(lines, at) if FUNCTION.match(lines[at]) and "const fn " not in lines[at] else None
+        if found:
+            yield found
+            at = found[1]
+        at += 1
+
+
+def other_bodies(before, after):
+    """The lines between the braces of each function that is changed, by the lines before the change that open and close its body.
+    An edit changes what stands in lines, and never how many there are."""
+    own, found = list(bodies(before)), {}
+    for at, (old, new) in enumerate(zip(before, after)):
+        if old != new:
+            span = next(((opens, closes) for opens, closes in own if opens <= at < closes), None)
+            if not span or at == span[0] and not new.startswith(old):
+                raise CantShare(f"it changes more than bodies of functions: {old.strip()}")
+            opens, closes = span
+            found[span] = [after[opens][len(before[opens]) :], *after[opens + 1 : closes]]
+    return found
+
+
+def side_by_side(lines, arms):
+    """The text of these lines, with the numbered bodies that functions get beside their own."""
+    lines = list(lines)
+    for (opens, closes), wrong in sorted(arms.items(), reverse=True):
+        switch = ["match wrong_body() {"]
+        for number, body in wrong:
+            switch += [f"{number} => {{", *body, "}"]
+        lines[opens + 1 : closes] = [*switch, "_ => {", *lines[opens + 1 : closes], "}", "}"]
+    return "\n".join(lines) + SWITCH
+
+
+def shared_texts(edits, root):
+    """The texts that have the bodies of all these edits, numbered from 1 on, by their files in the copy at root."""
+    before, arms = {}, {}
+    for number, edit in enumerate(edits, 1):
+        for file, text in edited(edit, root).items():
+            before[file] = file.read_text(encoding="utf-8").split("\n")
+            for span, body in other_bodies(before[file], text.split("\n")).items():
+                arms.setdefault(file, {}).setdefault(span, []).append((number, body))
+    return {file: side_by_side(lines, arms[file]) for file, lines in before.items()}
+
+
+def can_share(edit, root):
+    """Whether the body can stand beside others."""
+    try:
+        shared_texts([edit], root)
+    except CantShare:
+        return False
+    return True
+
+
+class SharedBuild:
+    """The tests of a crate of the copy at root, with the bodies of all these edits, built in the room, an empty folder."""
+
+    def __init__(self, crate, edits, root, room):
+        self.room = room
+        # Rt takes a function in C from a crate with such a folder alone.
+        folders = {root / "crates" / edit.crate / "c" for edit in edits}
+        with contextlib.ExitStack() as undo:
+            for folder in folders:
+                folder.mkdir()
+                undo.callback(folder.rmdir)
+            undo.enter_context(replaced(shared_texts(edits, root)))
+            self.tests = object_of(root / "crates" / crate, room, TESTS, RT_ALLOW_C="1")
+
+    def program(self, number):
+        """The program with the body of this number, or as the crate is with 0."""
+        answer, program = self.room / "wrong_body.o", self.room / f"tests-{number}"
+        words = [*compiler(kit())[:2], "-c", "-x", "c", "-", "-o", answer]
+        subprocess.run(words, input=ANSWER.format(number=number).encode(), check=True)
+        link([self.tests, answer], program)
+        return program

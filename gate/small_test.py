@@ -1,0 +1,120 @@
+#!/usr/bin/env python3
+"""Tries what no other part of the test command tries: the pictures of docs/ are what the scripts draw of the stored figures, the number of
+checks side by side is one that the machine has processors for, and gate/quick.py, over a small crate, passes what is right and nothing else.
+
+usage: gate/small_test.py
+"""
+
+import re
+import subprocess
+import sys
+import tempfile
+import unittest
+from pathlib import Path
+from unittest import mock
+
+import find_tools  # has Python find the modules of tools/
+import machine
+import quick
+import repository
+
+TOP = Path(__file__).resolve().parent.parent
+GLANCE = re.compile(rb"subject|table 100000 |hot |live 10000 12|live 1000000 14|crowd")  # the calls of README's picture
+PICTURES = [  # the script, what it reads, which lines of that, and what it draws
+    ("ratios.py", "speed.txt", None, "speed.svg"),
+    ("ratios.py", "speed.txt", GLANCE, "glance.svg"),
+    ("clients.py", "BENCHMARKS.md", None, "clients.svg"),
+    ("curves.py", "growth.txt", None, "growth.svg"),
+]
+RIGHT = """\
+//! What is proved.
+#![tactic(auto)]
+
+ghost use Rattle.std.specs.Prelude.{◌≡◌, ◌+◌};
+
+/// The number after it.
+pub fn next(number: u8) -> u32
+    ensures { result ≡ number + 1 }
+{
+    u32::from(number) + 1
+}
+"""
+BODY = "function: next\nfile: src/lib.rt\nold: u32::from(number) + 1\nnew: u32::from(number) + 2\n"
+
+
+class Pictures(unittest.TestCase):
+    def test_pictures_are_those_of_the_stored_figures(self):
+        for script, figures, lines, picture in PICTURES:
+            text = (TOP / "docs" / figures).read_bytes()
+            if lines:
+                text = b"".join(line for line in text.splitlines(keepends=True) if lines.match(line))
+            drawn = subprocess.run([TOP / "gate" / "pictures" / script], input=text, stdout=subprocess.PIPE, check=True).stdout
+            self.assertEqual(drawn, (TOP / "docs" / picture).read_bytes(), picture)
+
+
+class Machine(unittest.TestCase):
+    def lanes(self):
+        return subprocess.run([TOP / "gate" / "lanes.py"], stdout=subprocess.PIPE, check=True).stdout.decode()
+
+    def test_there_is_a_check_for_each_processor_or_no_number(self):
+        self.assertIn(self.lanes(), ("", f"{machine.processors()}\n"))
+        self.assertGreater(machine.processors(), 0)
+
+    def test_a_quota_is_an_upper_bound(self):
+        with tempfile.TemporaryDirectory(prefix="machine-") as room, mock.patch.object(machine, "CGROUP", Path(room)):
+            usual = machine.processors()
+            (Path(room) / "cpu.max").write_text("150000 100000\n", encoding="ascii")
+            self.assertEqual(machine.processors(), 1)
+            (Path(room) / "cpu.max").write_text("max 100000\n", encoding="ascii")
+            self.assertEqual(machine.processors(), usual)
+            for name, bytes_ in (("memory.max", 5000), ("memory.current", 3000)):
+                (Path(room) / name).write_text(f"{bytes_}\n", encoding="ascii")
+            self.assertEqual(machine.free_memory(), 2000)
+
+
+class Quick(unittest.TestCase):
+    """The steps of quick over a repository with one small crate."""
+
+    def setUp(self):
+        room = tempfile.TemporaryDirectory(prefix="quick-test-")
+        self.addCleanup(room.cleanup)
+        top = Path(room.name)
+        self.folder = top / "crates" / "few"
+        for file, text in {"src/lib.rt": RIGHT, "refused/two.edit": BODY, "../../crates.txt": "few: core\n", "../../HANDLES": "Handles allowed: none.\n"}.items():
+            (self.folder / file).parent.mkdir(parents=True, exist_ok=True)
+            (self.folder / file).write_text(text, encoding="utf-8")
+        for module in (quick, repository):
+            held = mock.patch.object(module, "TOP", top)
+            held.start()
+            self.addCleanup(held.stop)
+
+    def changed(self, old, new):
+        (self.folder / "src" / "lib.rt").write_text(RIGHT.replace(old, new), encoding="utf-8")
+
+    def test_what_is_right_passes(self):
+        for step in (quick.is_laid_out, quick.texts_stand, quick.is_proved):
+            well, text = step("few")
+            self.assertTrue(well, text)
+
+    def test_another_layout_fails(self):
+        self.changed("u32::from(number) + 1", "u32::from( number ) + 1")
+        self.assertFalse(quick.is_laid_out("few")[0])
+
+    def test_a_text_that_does_not_stand_fails(self):
+        self.changed("u32::from(number) + 1", "1 + u32::from(number)")
+        self.assertFalse(quick.texts_stand("few")[0])
+
+    def test_what_is_not_proved_fails(self):
+        self.changed("u32::from(number) + 1", "u32::from(number) + 2")
+        self.assertFalse(quick.is_proved("few")[0])
+
+
+def main():
+    result = unittest.TextTestRunner(stream=sys.stdout, verbosity=2).run(unittest.defaultTestLoader.loadTestsFromName("__main__"))
+    bad = len(result.failures) + len(result.errors)
+    print(f"{result.testsRun - bad} passed, {bad} failed")
+    return 0 if result.wasSuccessful() else 1
+
+
+if __name__ == "__main__":
+    sys.exit(main())
