@@ -178,12 +178,18 @@ static {constant}_WORDS: [u64; {count}] = [
 {rows}
 ];
 
+/// The word of a static text.
+#[cfg(test)]
+fn static_word<S: StaticTables>(text: &str) -> Option<u64> {{
+    Some(Atom::<S>::try_static(text)?.unsafe_data())
+}}
+
 /// The word of a text that is inline or static.
 #[cfg(test)]
 fn word_of<S: StaticTables>(text: &str) -> Option<u64> {{
     match pack_inline_word(text) {{
         Some(word) => Some(word),
-        None => Some(Atom::<S>::try_static(text)?.unsafe_data()),
+        None => static_word::<S>(text),
     }}
 }}
 
@@ -274,12 +280,18 @@ PAIRS_TEST = '''
 #[cfg(test)]
 {pairs}
 
+/// The word of a static text.
+#[cfg(test)]
+fn static_word(text: &str) -> Option<u64> {{
+    Some({alias}::try_static(text)?.unsafe_data())
+}}
+
 /// The word of a text that is inline or static.
 #[cfg(test)]
 fn word_of(text: &str) -> Option<u64> {{
     match pack_inline_word(text) {{
         Some(word) => Some(word),
-        None => Some({alias}::try_static(text)?.unsafe_data()),
+        None => static_word(text),
     }}
 }}
 

@@ -61,7 +61,7 @@ def main():
     if not found:
         sys.exit("no table has the times of the table for C: ask docs/BENCHMARKS.md")
     what = "Times and memory of the table for C, and of its module for Python, as ratios to what one would use instead; bars to the left are less"
-    print_picture(found, what, "the same")
+    print_picture(found, what, "the same", ("ours", "the other"))
 
 
 if __name__ == "__main__":

@@ -25,8 +25,8 @@ STYLE = """
 """
 CALLS = ("intern of a text that is there", "intern of one more new text", "last drop, of any")
 WIDTH, HEIGHT, LEFT, TOP, APART = 250, 260, 70, 40, 110
-TEXTS = (1_000, 10_000, 100_000, 1_000_000, 10_000_000)
-NANOS = (10, 100, 1_000, 10_000, 100_000, 1_000_000)
+TEXTS = (1_000, 10_000, 100_000, 1_000_000)
+NANOS = (10, 100, 1_000, 10_000, 100_000)
 
 
 def read(lines):

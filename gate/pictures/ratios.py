@@ -26,6 +26,7 @@ STYLE = """
   }
 """
 LEFT, WIDTH, ROW = 330, 420, 20
+COLUMNS = (LEFT + WIDTH + 85, LEFT + WIDTH + 175)  # where the figures end, ours and the other's
 LOW, HIGH = 1 / 32, 32
 
 
@@ -76,12 +77,12 @@ def drawn_bar(y, bar):
     yield f'<rect class="{kind}" x="{start:.1f}" y="{y + 4}" width="{max(end - start, 1):.1f}" height="{ROW - 7}" rx="2"/>'
     figures = (bar.ours, bar.plain)
     places = 0 if bar.ours >= 20 or all(figure.is_integer() for figure in figures) else 1
-    label = " to ".join(f"{figure:,.{places}f} {bar.unit}" for figure in figures)
-    yield f'<text x="{LEFT + WIDTH + 12}" y="{y + 14}">{label}</text>'
+    for x, figure in zip(COLUMNS, figures):
+        yield f'<text x="{x}" y="{y + 14}" text-anchor="end">{figure:,.{places}f} {bar.unit}</text>'
 
 
-def drawn(bars, same):
-    """The lines of the picture, and how high it is. The words of `same` stand where a ratio is 1."""
+def drawn(bars, same, heads):
+    """The lines of the picture, and how high it is. The words of `same` stand where a ratio is 1, and the heads above the two figures."""
     lines, y, last = [], 34, None
     for bar in bars:
         if bar.group != last:
@@ -95,12 +96,13 @@ def drawn(bars, same):
         kind = "one" if ratio == 1 else "axis"
         scale.append(f'<line class="{kind}" x1="{x:.1f}" y1="28" x2="{x:.1f}" y2="{y}"/>')
         scale.append(f'<text x="{x:.1f}" y="20" text-anchor="middle">{name}</text>')
+    scale += [f'<text class="group" x="{x}" y="20" text-anchor="end">{head}</text>' for x, head in zip(COLUMNS, heads)]
     return scale + lines, y + 12
 
 
-def print_picture(bars, what, same):
+def print_picture(bars, what, same, heads):
     """Prints the picture of these bars, and what it shows for who doesn't see it."""
-    body, height = drawn(bars, same)
+    body, height = drawn(bars, same, heads)
     width = LEFT + WIDTH + 190
     print(f'<svg xmlns="http://www.w3.org/2000/svg" viewBox="0 0 {width} {height}" role="img"')
     print(f'  aria-label="{what}">')
@@ -113,7 +115,7 @@ def main():
     bars = read(sys.stdin)
     if not bars:
         sys.exit("no line has a ratio: ask compare.sh")
-    print_picture(bars, "The time of each call as a ratio to plain code over std; bars to the left are faster", "the same time")
+    print_picture(bars, "The time of each call as a ratio to plain code over std; bars to the left are faster", "the same time", ("ours", "plain code"))
 
 
 if __name__ == "__main__":

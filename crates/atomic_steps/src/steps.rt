@@ -136,6 +136,7 @@ impl<S: StaticTables> World<S> {
         })
     }
 
+    /// Does one step of a party, and tells its reply.
     fn apply(&mut self, party: u32, step: &Step) -> Result<StepReply, Fault>
         ensures ok { IfOk result (λ reply. IsStep S.tables self.old party step.now reply self.new) }
         ensures err { RefusesUnchanged self.old result self.new }

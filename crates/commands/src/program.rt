@@ -15,7 +15,7 @@ use std::sync::Wait;
 use std::thread::Threads;
 use std::{env, fmt};
 use string_cache::Fault;
-use table_generator::numbers::{number_of, short_number_of};
+use text_forms::numbers::{number_of, short_number_of};
 use text_streams::faults::AppFault;
 use text_streams::streams::{Sink, Source, write_whole};
 use word_counts::count::count_command;

@@ -2640,12 +2640,18 @@ static PAGE_NAMES_WORDS: [u64; 1008] = [
     PageNamesTables::ZOOM_AND_PAN,
 ];
 
+/// The word of a static text.
+#[cfg(test)]
+fn static_word<S: StaticTables>(text: &str) -> Option<u64> {
+    Some(Atom::<S>::try_static(text)?.unsafe_data())
+}
+
 /// The word of a text that is inline or static.
 #[cfg(test)]
 fn word_of<S: StaticTables>(text: &str) -> Option<u64> {
     match pack_inline_word(text) {
         Some(word) => Some(word),
-        None => Some(Atom::<S>::try_static(text)?.unsafe_data()),
+        None => static_word::<S>(text),
     }
 }
 

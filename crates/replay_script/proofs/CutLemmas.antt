@@ -7,8 +7,8 @@ use Rattle.text_forms.specs.Bounds.{Bounds, AreBounds}
 use Rattle.text_forms.specs.Layout.{most_bits}
 use Rattle.atomic_steps.specs.declared.steps.Step.{Step}
 use Rattle.replay_script.specs.Script.{HasWords, step_words, Spells, SpellsBuckets, SpellsLimits}
-use Rattle.table_generator.proofs.Cuts.{Lacks, first_byte}
-use Rattle.table_generator.proofs.NumberLemmas.{decimal_byte}
+use Rattle.text_forms.proofs.Cuts.{Lacks, first_byte}
+use Rattle.text_forms.proofs.NumberLemmas.{decimal_byte}
 
 pub decimal_no_space : (n : ℕ) → n < 2 ^ 64 → Lacks 32 (decimal n)
 decimal_no_space n small i h e = absurd (omega (arith, (decimal_byte n small i h).0))

@@ -17,7 +17,7 @@ use Rattle.atomic_steps.specs.Steps.{step, step_if, take_intern_if, opening}
 use Rattle.atomic_steps.specs.Runs.{Leads, Script, events_of}
 use Rattle.replay_script.specs.Script.{script_lines, step_words, HasWords, Spells, SpellsBuckets, SpellsLimits, SpellSteps, SpellBody, SpellScript}
 use Rattle.replay_script.specs.Replay.{output_of, IsOutput, IsReplay}
-use Rattle.table_generator.proofs.NumberLemmas.{decimal_byte}
+use Rattle.text_forms.proofs.NumberLemmas.{decimal_byte}
 use Rattle.replay_script.proofs.CutLemmas.{cut_once, limits_cut}
 
 value_of : (n : ℕ) → n < 2 ^ 64 → digits_value 10 (decimal n) ≡ n

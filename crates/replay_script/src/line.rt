@@ -7,7 +7,7 @@ ghost use Rattle.replay_script.specs.Script.{HasWords, step_words, IsEntryNumber
 
 use atomic_steps::steps::Step;
 use std::alloc::{AllocError, Global};
-use table_generator::numbers::{number_after, number_of};
+use text_forms::numbers::{number_after, number_of};
 use text_forms::word::{Buckets, Limits};
 
 /// The number behind `words` as that of an entry, which is from 1.

@@ -8,17 +8,17 @@ use Rattle.string_cache_core.specs.Table.{Interns, Clones, IsHeld}
 use Rattle.string_cache_core.specs.Tables.{empty_tables}
 use Rattle.text_forms.specs.declared.faults.Fault.{Fault}
 use Rattle.string_cache_c.specs.Numbers.{IsReply, too_small}
-use Rattle.string_cache_c.specs.declared.words.Words.{Words}
+use Rattle.string_cache_c.specs.declared.numbered_table.NumberedTable.{NumberedTable}
 
 -- ---- the table in the handle
 
 -- There is none, or it is as P says.
-abbrev pub IfOpen : Option Words → (Kept → Type 0) → Type 0
+abbrev pub IfOpen : Option NumberedTable → (Kept → Type 0) → Type 0
 IfOpen None P = ⊤
-IfOpen (Some words) P = P words.table
+IfOpen (Some numbered) P = P numbered.table
 
 -- There is none before and after, or one in both, as P says.
-abbrev pub Within : Option Words → Option Words → (Kept → Kept → Type 0) → Type 0
+abbrev pub Within : Option NumberedTable → Option NumberedTable → (Kept → Kept → Type 0) → Type 0
 Within None None P = ⊤
 Within None (Some new) P = ⊥
 Within (Some old) None P = ⊥
@@ -45,17 +45,17 @@ CopiesText text number before after len =
 
 -- ---- what is counted
 
-abbrev pub HoldsWord : Option Words → ℕ → Type 0
+abbrev pub HoldsWord : Option NumberedTable → ℕ → Type 0
 HoldsWord None word = ⊥
-HoldsWord (Some words) word = IsHeld empty_tables (map_of words.table) word
+HoldsWord (Some numbered) word = IsHeld empty_tables (map_of numbered.table) word
 
-abbrev pub entries_of : Option Words → ℕ
+abbrev pub entries_of : Option NumberedTable → ℕ
 entries_of None = 0
-entries_of (Some words) = length words.table.pairs
+entries_of (Some numbered) = length numbered.table.pairs
 
-abbrev pub text_bytes_of : Option Words → ℕ
+abbrev pub text_bytes_of : Option NumberedTable → ℕ
 text_bytes_of None = 0
-text_bytes_of (Some words) = sum_by (λ pair. length pair.0) words.table.pairs
+text_bytes_of (Some numbered) = sum_by (λ pair. length pair.0) numbered.table.pairs
 
 -- the bytes of the block in which the handle has a table
 abbrev pub block_size : ℕ

@@ -36,11 +36,11 @@ pub extern "C" fn sc_table_intern(t: &mut ScTable, text: &[u8], word: &mut u64) 
     ensures number { (result ≤ 3) ⊎ (result ≡ not_utf8) ⊎ (result ≡ closed) }
     ensures err { result ≢ 0 → (t.new.seat.value ≡ t.old.seat.value) × (word.new ≡ word.old) }
 {
-    let Some(mut words) = t.take() else {
+    let Some(mut numbered) = t.take() else {
         return CLOSED;
     };
-    let number = words.intern(text, word);
-    t.put(words);
+    let number = numbered.intern(text, word);
+    t.put(numbered);
     number
 }
 
@@ -57,11 +57,11 @@ pub extern "C" fn sc_table_get(t: &mut ScTable, text: &[u8], word: &mut u64) -> 
     ensures same { t.new.seat.value ≡ t.old.seat.value }
     ensures err { result ≢ 0 → word.new ≡ word.old }
 {
-    let Some(words) = t.take() else {
+    let Some(numbered) = t.take() else {
         return CLOSED;
     };
-    let number = words.get(text, word);
-    t.put(words);
+    let number = numbered.get(text, word);
+    t.put(numbered);
     number
 }
 
@@ -80,11 +80,11 @@ pub extern "C" fn sc_table_clone(t: &mut ScTable, word: u64) -> u32
     ensures number { (result ≡ 0) ⊎ (result ≡ 2) ⊎ (result ≡ not_held) ⊎ (result ≡ closed) }
     ensures err { result ≢ 0 → t.new.seat.value ≡ t.old.seat.value }
 {
-    let Some(mut words) = t.take() else {
+    let Some(mut numbered) = t.take() else {
         return CLOSED;
     };
-    let number = words.clone_word(word);
-    t.put(words);
+    let number = numbered.clone_word(word);
+    t.put(numbered);
     number
 }
 
@@ -102,10 +102,10 @@ pub extern "C" fn sc_table_give(t: &mut ScTable, word: u64) -> u32
     ensures number { (result ≡ 0) ⊎ (result ≡ not_held) ⊎ (result ≡ closed) }
     ensures err { result ≢ 0 → t.new.seat.value ≡ t.old.seat.value }
 {
-    let Some(mut words) = t.take() else {
+    let Some(mut numbered) = t.take() else {
         return CLOSED;
     };
-    let number = words.give(word);
-    t.put(words);
+    let number = numbered.give(word);
+    t.put(numbered);
     number
 }

@@ -7,11 +7,11 @@ ghost use Rattle.string_cache_core.specs.Layout.{holder_bound, most_bits, serial
 ghost use Rattle.string_cache_core.specs.Map.{empty_map};
 ghost use Rattle.string_cache_c.specs.Calls.{Within};
 ghost use Rattle.string_cache_c.specs.Numbers.{closed, not_closed, not_limits};
-ghost use Rattle.string_cache_c.specs.declared.words.Words.{Words};
+ghost use Rattle.string_cache_c.specs.declared.numbered_table.NumberedTable.{NumberedTable};
 
 use crate::handle::ScTable;
+use crate::numbered_table::NumberedTable;
 use crate::numbers::{CLOSED, NO_MEMORY, NOT_CLOSED, NOT_LIMITS};
-use crate::words::Words;
 use std::alloc::Global;
 use string_cache_core::static_sets::EmptyStaticAtomSet;
 use string_cache_core::table::Table;
@@ -24,8 +24,8 @@ pub extern "C" fn sc_table_open(t: &mut ScTable, alloc: Global) -> u32
     ensures number { (result ≡ 0) ⊎ (result ≡ 1) ⊎ (result ≡ not_closed) }
     ensures not_closed { result ≡ not_closed ↔ IsSome t.old.seat.value }
     ensures open { result ≡ 0 → IsSome t.new.seat.value }
-    ensures empty { result ≡ 0 → IfSome t.new.seat.value (λ words. map_of words.table ≡ empty_map usual_buckets) }
-    ensures limits { result ≡ 0 → IfSome t.new.seat.value (λ words. words.table.limits ≡ record { holders = holder_bound - 1; serials = serial_bound - 1 }) }
+    ensures empty { result ≡ 0 → IfSome t.new.seat.value (λ numbered. map_of numbered.table ≡ empty_map usual_buckets) }
+    ensures limits { result ≡ 0 → IfSome t.new.seat.value (λ numbered. numbered.table.limits ≡ record { holders = holder_bound - 1; serials = serial_bound - 1 }) }
     ensures err { result ≢ 0 → t.new.seat.value ≡ t.old.seat.value }
 {
     if t.is_open() {
@@ -51,8 +51,8 @@ pub extern "C" fn sc_table_open_with(
     ensures not_closed { result ≡ not_closed ↔ IsSome t.old.seat.value }
     ensures not_limits { t.old.seat.value ≡ None → result ≡ not_limits ↔ ¬ (AreBounds holders serials × (bucket_bits ≤ most_bits)) }
     ensures open { result ≡ 0 → IsSome t.new.seat.value }
-    ensures empty { result ≡ 0 → IfSome t.new.seat.value (λ words. map_of words.table ≡ empty_map (2 ^ bucket_bits)) }
-    ensures limits { result ≡ 0 → IfSome t.new.seat.value (λ words. words.table.limits ≡ record { holders = holders; serials = serials }) }
+    ensures empty { result ≡ 0 → IfSome t.new.seat.value (λ numbered. map_of numbered.table ≡ empty_map (2 ^ bucket_bits)) }
+    ensures limits { result ≡ 0 → IfSome t.new.seat.value (λ numbered. numbered.table.limits ≡ record { holders = holders; serials = serials }) }
     ensures err { result ≢ 0 → t.new.seat.value ≡ t.old.seat.value }
 {
     if t.is_open() {
@@ -76,10 +76,10 @@ fn put_table(t: &mut ScTable, table: Table<EmptyStaticAtomSet>, alloc: Global) -
     ensures ok { result ≡ 0 → t.new.seat.value ≡ Some (record { table = table }) }
     ensures err { result ≢ 0 → t.new.seat.value ≡ t.old.seat.value }
 {
-    let Ok(words) = Box::new(alloc, Words { table }) else {
+    let Ok(numbered) = Box::new(alloc, NumberedTable { table }) else {
         return NO_MEMORY;
     };
-    t.put(words);
+    t.put(numbered);
     0
 }
 
@@ -98,11 +98,11 @@ pub extern "C" fn sc_table_clear(t: &mut ScTable) -> u32
     ensures some { IsSome t.old.seat.value → result ≡ 0 }
     ensures cleared { Within t.old.seat.value t.new.seat.value (λ old new. new ≡ record { limits = old.limits; lasts = old.lasts; pairs = [] }) }
 {
-    let Some(mut words) = t.take() else {
+    let Some(mut numbered) = t.take() else {
         return CLOSED;
     };
-    words.table.clear();
-    t.put(words);
+    numbered.table.clear();
+    t.put(numbered);
     0
 }
 
@@ -113,10 +113,10 @@ pub extern "C" fn sc_table_reserve(t: &mut ScTable, more: usize) -> u32
     ensures some { IsSome t.old.seat.value → (result ≡ 0) ⊎ (result ≡ 1) }
     ensures same { t.new.seat.value ≡ t.old.seat.value }
 {
-    let Some(mut words) = t.take() else {
+    let Some(mut numbered) = t.take() else {
         return CLOSED;
     };
-    let number = words.reserve(more);
-    t.put(words);
+    let number = numbered.reserve(more);
+    t.put(numbered);
     number
 }

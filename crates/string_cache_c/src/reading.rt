@@ -20,11 +20,11 @@ pub extern "C" fn sc_table_holds(t: &mut ScTable, word: u64) -> bool
     ensures holds { IsTrue result ↔ HoldsWord t.old.seat.value word }
     ensures same { t.new.seat.value ≡ t.old.seat.value }
 {
-    let Some(words) = t.take() else {
+    let Some(numbered) = t.take() else {
         return false;
     };
-    let holds = words.table.holds(word);
-    t.put(words);
+    let holds = numbered.table.holds(word);
+    t.put(numbered);
     holds
 }
 
@@ -38,11 +38,11 @@ pub extern "C" fn sc_table_holders(t: &mut ScTable, word: u64, holders: &mut u64
     ensures same { t.new.seat.value ≡ t.old.seat.value }
     ensures err { result ≢ 0 → holders.new ≡ holders.old }
 {
-    let Some(words) = t.take() else {
+    let Some(numbered) = t.take() else {
         return CLOSED;
     };
-    let number = words.holders(word, holders);
-    t.put(words);
+    let number = numbered.holders(word, holders);
+    t.put(numbered);
     number
 }
 
@@ -56,11 +56,11 @@ pub extern "C" fn sc_table_text(t: &mut ScTable, word: u64, room: &mut [u8], len
     ensures unheld { IfOpen t.old.seat.value (λ kept. ¬ (IsHeld empty_tables (map_of kept) word) → (result ≡ not_held) × (room.new ≡ room.old) × (len.new ≡ len.old)) }
     ensures same { t.new.seat.value ≡ t.old.seat.value }
 {
-    let Some(words) = t.take() else {
+    let Some(numbered) = t.take() else {
         return CLOSED;
     };
-    let number = words.text(word, room, len);
-    t.put(words);
+    let number = numbered.text(word, room, len);
+    t.put(numbered);
     number
 }
 
@@ -79,11 +79,11 @@ pub extern "C" fn sc_table_entry(
     ensures same { t.new.seat.value ≡ t.old.seat.value }
     ensures err { result ≢ 0 → (word.new ≡ word.old) × (holders.new ≡ holders.old) }
 {
-    let Some(words) = t.take() else {
+    let Some(numbered) = t.take() else {
         return CLOSED;
     };
-    let number = words.entry(index, word, holders);
-    t.put(words);
+    let number = numbered.entry(index, word, holders);
+    t.put(numbered);
     number
 }
 
@@ -94,11 +94,11 @@ pub extern "C" fn sc_table_entries(t: &mut ScTable) -> usize
     ensures distinct { IfOpen t.old.seat.value (λ kept. IsDistinct bytes_eq (keys_of kept.pairs)) }
     ensures same { t.new.seat.value ≡ t.old.seat.value }
 {
-    let Some(words) = t.take() else {
+    let Some(numbered) = t.take() else {
         return 0;
     };
-    let entries = words.table.entries();
-    t.put(words);
+    let entries = numbered.table.entries();
+    t.put(numbered);
     entries
 }
 
@@ -109,14 +109,14 @@ pub extern "C" fn sc_table_text_bytes(t: &mut ScTable) -> u64
     ensures most { 2 ^ 64 ≤ text_bytes_of t.old.seat.value → result ≡ 2 ^ 64 - 1 }
     ensures same { t.new.seat.value ≡ t.old.seat.value }
 {
-    let Some(words) = t.take() else {
+    let Some(numbered) = t.take() else {
         return 0;
     };
-    let bytes = match u64::try_from(words.table.text_bytes()) {
+    let bytes = match u64::try_from(numbered.table.text_bytes()) {
         Ok(bytes) => bytes,
         Err(_) => u64::MAX,
     };
-    t.put(words);
+    t.put(numbered);
     bytes
 }
 
@@ -128,10 +128,10 @@ pub extern "C" fn sc_table_memory(t: &mut ScTable) -> u64
     ensures memory { IfOpen t.old.seat.value (λ kept. TellsMemory kept result) }
     ensures same { t.new.seat.value ≡ t.old.seat.value }
 {
-    let Some(words) = t.take() else {
+    let Some(numbered) = t.take() else {
         return 0;
     };
-    let bytes = words.memory();
-    t.put(words);
+    let bytes = numbered.memory();
+    t.put(numbered);
     bytes
 }

@@ -86,6 +86,7 @@ pub extern "C" fn sc_word_form(word: u64, form: &mut ScForm) -> u32
     }
 }
 
+/// The form as C reads it.
 fn tell(form: Form) -> ScForm
     ensures { result ≡ told form }
 {

@@ -7,7 +7,7 @@ use Rattle.std.proofs.lemmas.Bool.{cases_eq, cases_lt, le-ltb, lt-ltb}
 use Rattle.std.proofs.lemmas.List.{length-replicate, append-nil, get_or_append_left, get_or_push, same_from_push}
 use Rattle.std.proofs.Math.Dec.{eqb-suc-zero}
 use Rattle.std.proofs.Math.Nat.{pow-le-pow_right, pow-suc}
-use Rattle.table_generator.proofs.Cuts.{Lacks}
+use Rattle.text_forms.proofs.Cuts.{Lacks}
 use Rattle.table_generator.specs.TableText.{hex_digit, hex_digits}
 
 pub hex_count : (c n : ℕ) → length (hex_digits c n) ≡ c

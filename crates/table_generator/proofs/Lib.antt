@@ -1,11 +1,9 @@
-pub mod Cuts
 pub mod Doubles
 pub mod Fitting
 pub mod HexLemmas
 pub mod LineLemmas
 pub mod ListedTexts
 pub mod Making
-pub mod NumberLemmas
 pub mod Placing
 pub mod PrintLemmas
 pub mod Ranking

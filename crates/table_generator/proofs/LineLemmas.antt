@@ -4,9 +4,9 @@ use Rattle.std.specs.Prelude.{if◌then◌else◌}
 use Rattle.std.proofs.lemmas.Bool.{false≢true, ltb-true}
 use Rattle.std.proofs.lemmas.List.{get_or_default, get_or-append-add}
 use Rattle.table_generator.specs.TableText.{key_line, disp_line, atom_line, hex_digits, HasNoFeed}
-use Rattle.table_generator.proofs.Cuts.{Lacks, cut_before, lacks_append, lacks_cons}
+use Rattle.text_forms.proofs.Cuts.{Lacks, cut_before, lacks_append, lacks_cons}
 use Rattle.table_generator.proofs.HexLemmas.{hex_count, hex_lacks}
-use Rattle.table_generator.proofs.NumberLemmas.{decimal_byte}
+use Rattle.text_forms.proofs.NumberLemmas.{decimal_byte}
 
 -- ---- the words of a line, in front of its line feed
 

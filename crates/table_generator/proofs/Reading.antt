@@ -5,7 +5,7 @@ use Rattle.std.proofs.lemmas.Fmt.{decimal_injective}
 use Rattle.std.proofs.lemmas.List.{append_cancel_left, append-nil}
 use Rattle.text_forms.specs.Tables.{Tables, IsPerfectTable}
 use Rattle.table_generator.specs.TableText.{key_line, disp_line, atom_line, atom_lines, hex_digits, HasNoFeed, ReadsDisps, ReadsAtoms, SpellsTables, SpellsPerfectTables}
-use Rattle.table_generator.proofs.Cuts.{first_byte}
+use Rattle.text_forms.proofs.Cuts.{first_byte}
 use Rattle.table_generator.proofs.HexLemmas.{hex_lacks, hex_injective}
 use Rattle.table_generator.proofs.LineLemmas.{key_words, disp_words, atom_words, key_flat, disp_flat, atom_flat, key_lacks, disp_lacks, atom_lacks, decimal_lacks}
 

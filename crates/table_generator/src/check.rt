@@ -5,9 +5,9 @@ ghost use Rattle.text_forms.specs.declared.faults.Fault.{Fault};
 ghost use Rattle.table_generator.specs.Generated.{texts_of};
 ghost use Rattle.table_generator.specs.TableText.{key_line, disp_line, atom_line, hex_digit, hex_digits, HasNoFeed, ReadsDisps, ReadsAtoms, SpellsPerfectTables};
 
-use crate::numbers::{number_after, short_number_of};
 use std::alloc::{AllocError, Global};
 use text_forms::Fault;
+use text_forms::numbers::{number_after, short_number_of};
 use text_forms::static_sets::check_parts;
 
 /// The value of a hexadecimal digit in lower case.

@@ -11,7 +11,6 @@ pub mod check;
 mod displace;
 pub mod generate;
 mod items;
-pub mod numbers;
 mod search;
 pub mod tables;
 

@@ -1,15 +1,46 @@
-//! Sets and tables that tests begin with. Of them no more is known than their types, so that a test's proof has less to read.
+//! Sets and tables that tests begin with, and calls of them. No more is known of these than their types, so that a test's proof has less to read.
 
 use std::alloc::Global;
 use std::process::Abort;
 use std::sync::Wait;
-use string_cache::Atom;
 use string_cache::dynamic_set::Set;
 use string_cache::static_sets::StaticAtomSet;
 use string_cache::table::Table;
+use string_cache::{Atom, Fault};
 
 pub fn new_set<R: Abort, Static: StaticAtomSet>(rt: &R, alloc: Global) -> Set<Static> {
     Set::new(alloc).expect(rt, "a set")
+}
+
+/// The atom of a text, unless it is refused.
+pub fn interned<'s, R: Wait, Static: StaticAtomSet>(
+    rt: &R,
+    set: &'s Set<Static>,
+    text: &str,
+) -> Result<Atom<'s, Static>, Fault> {
+    Atom::from_str_in(rt, set, text)
+}
+
+/// The atom of a text that the set has, unless it is refused.
+pub fn look_up<'s, R: Wait, Static: StaticAtomSet>(
+    rt: &R,
+    set: &'s Set<Static>,
+    text: &str,
+) -> Result<Option<Atom<'s, Static>>, Fault> {
+    Atom::get_in(rt, set, text)
+}
+
+/// A clone of an atom, unless it is refused.
+pub fn cloned<'s, R: Wait, Static: StaticAtomSet>(
+    rt: &R,
+    atom: &Atom<'s, Static>,
+) -> Result<Atom<'s, Static>, Fault> {
+    atom.clone_atom(rt)
+}
+
+/// The word of a text in a table, unless it is refused.
+pub fn word_in<Static: StaticAtomSet>(table: &mut Table<Static>, text: &str) -> Result<u64, Fault> {
+    table.intern(text)
 }
 
 /// The atom of a text.
@@ -18,7 +49,7 @@ pub fn intern<'s, R: Wait + Abort, Static: StaticAtomSet>(
     set: &'s Set<Static>,
     text: &str,
 ) -> Atom<'s, Static> {
-    Atom::from_str_in(rt, set, text).expect(rt, "an atom")
+    interned(rt, set, text).expect(rt, "an atom")
 }
 
 /// Whether the atom has this word and this text.

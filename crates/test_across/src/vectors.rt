@@ -4,7 +4,7 @@ mod limits;
 mod long;
 mod odd;
 
-use crate::begun::new_set;
+use crate::begun::{interned, new_set};
 use std::alloc::{AllocError, Global};
 use std::sync::Wait;
 use string_cache::dynamic_set::Set;
@@ -53,7 +53,7 @@ fn tell<R: Wait, Static: StaticAtomSet>(
     set: &Set<Static>,
     text: &str,
 ) -> Result<Told, Fault> {
-    let atom = Atom::from_str_in(rt, set, text)?;
+    let atom = interned(rt, set, text)?;
     Ok(Told {
         word: atom.unsafe_data(),
         form: form_told(&atom),

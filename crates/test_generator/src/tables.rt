@@ -7,9 +7,9 @@ use string_cache_core::phf::{Hashes, hash};
 use string_cache_core::static_sets::check_parts;
 use table_generator::check::check_tables;
 use table_generator::generate::generate;
-use table_generator::numbers::{number_after, number_of, short_number_of};
 use table_generator::tables::{GenFault, Tables};
 use table_generator::{Tried, find_pair};
+use text_forms::numbers::{number_after, number_of, short_number_of};
 
 /// As `generate`. Where memory was refused, the call is made once more.
 fn tables_of(alloc: Global, list: &[&str], key: u64, bound: u32) -> Result<Tables, GenFault> {

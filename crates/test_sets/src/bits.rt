@@ -3,6 +3,7 @@
 
 use crate::samples::{
     DefaultSet, atom_of, bucket_numbers, check_atom, check_linked, drop_under_locks, hash_of,
+    look_up,
 };
 use std::alloc::Global;
 use std::process::Abort;
@@ -32,7 +33,7 @@ fn has_one_entry<R: Wait>(rt: &R, set: &DefaultSet, number: usize, place: usize)
 
 /// Whether the text is found with this word.
 fn is_found<R: Wait>(rt: &R, set: &DefaultSet, word: u64) -> bool {
-    match DefaultAtom::get_in(rt, set, "interned") {
+    match look_up(rt, set, "interned") {
         Ok(Some(atom)) => atom.unsafe_data() == word,
         _ => false,
     }

@@ -1,6 +1,8 @@
 //! Texts of one bucket, and many workers at them.
 
-use crate::samples::{DefaultSet, atom_of, bucket_numbers, check_linked, default_set, hash_of};
+use crate::samples::{
+    DefaultSet, atom_of, bucket_numbers, check_linked, cloned, default_set, hash_of, interned,
+};
 use std::alloc::{AllocError, Global};
 use std::process::Abort;
 use std::sync::Wait;
@@ -77,16 +79,15 @@ fn cloned_apart<'s, R: Wait>(
     set: &'s DefaultSet,
     first: &str,
     second: &str,
-) -> Result<(bool, DefaultAtom<'s>, DefaultAtom<'s>), Fault> {
-    let one = DefaultAtom::from_str_in(rt, set, first)?;
-    let two = DefaultAtom::from_str_in(rt, set, second)?;
-    let is_apart = are_apart(&one, &two);
-    Ok((is_apart, one.clone_atom(rt)?, two.clone_atom(rt)?))
+) -> Result<(bool, (DefaultAtom<'s>, DefaultAtom<'s>)), Fault> {
+    let (one, two) = (interned(rt, set, first)?, interned(rt, set, second)?);
+    let clones = (cloned(rt, &one)?, cloned(rt, &two)?);
+    Ok((are_apart(&one, &two), clones))
 }
 
 /// Interns both texts in a set, and goes on with clones.
 fn check_apart_in_a_set<R: Wait + Abort>(rt: &R, set: &DefaultSet, first: &str, second: &str) {
-    let (is_apart, one, two) = cloned_apart(rt, set, first, second).expect(rt, "atoms");
+    let (is_apart, (one, two)) = cloned_apart(rt, set, first, second).expect(rt, "atoms");
     assert!(rt; is_apart && has_text(&one, first) && has_text(&two, second));
     drop(one);
     assert!(rt; has_text(&two, second));
@@ -184,8 +185,8 @@ fn turn_over<R: Wait>(rt: &R, set: &DefaultSet, texts: &[String]) -> Result<bool
     let mut is_same = true;
     for _ in 0..1000 {
         for text in texts {
-            let atom = Atom::from_str_in(rt, set, text)?;
-            let clone = atom.clone_atom(rt)?;
+            let atom = interned(rt, set, text)?;
+            let clone = cloned(rt, &atom)?;
             drop(atom);
             is_same = is_same && clone.as_str() == text.as_str();
         }

@@ -1,6 +1,6 @@
 //! One entry in each bucket of a set: held, then dying, then gone.
 
-use crate::samples::{DefaultSet, drop_under_locks, hash_of};
+use crate::samples::{DefaultSet, drop_under_locks, hash_of, interned, look_up};
 use std::alloc::Global;
 use std::process::Abort;
 use std::sync::Wait;
@@ -39,7 +39,7 @@ fn atoms_of<'s, R: Wait>(
 ) -> Result<Vec<DefaultAtom<'s>>, Fault> {
     let mut atoms = Vec::with_capacity(set.allocator(), texts.len())?;
     for text in texts {
-        atoms.push(DefaultAtom::from_str_in(rt, set, text)?)?;
+        atoms.push(interned(rt, set, text)?)?;
     }
     Ok(atoms)
 }
@@ -48,7 +48,7 @@ fn atoms_of<'s, R: Wait>(
 fn found<R: Wait>(rt: &R, set: &DefaultSet, texts: &[String]) -> Result<usize, Fault> {
     let mut number = 0usize;
     for text in texts {
-        if let Some(atom) = DefaultAtom::get_in(rt, set, text)? {
+        if let Some(atom) = look_up(rt, set, text)? {
             number = number.saturating_add(usize::from(atom.as_str() == text.as_str()));
         }
     }

@@ -1,7 +1,9 @@
 //! Buckets' locks that are held meanwhile, and what stays linked. By OpenSSL's SipHash the bucket of "afterwards" is 0, of
 //! "geometric" 0xfff, and of "forgotten" and "magnitude" 0x72f.
 
-use crate::samples::{DefaultSet, atom_of, check_atom, check_linked, default_set, lock_of};
+use crate::samples::{
+    DefaultSet, atom_of, check_atom, check_linked, cloned, default_set, interned, lock_of, look_up,
+};
 use serde_json::Value;
 use std::process::Abort;
 use std::sync::atomic::{AtomicBool, Ordering};
@@ -9,7 +11,7 @@ use std::sync::{Mutex, Wait};
 use std::thread::{self, Threads};
 use std::time::{Clock, Duration};
 use string_cache::dynamic_set::{Bucket, Set};
-use string_cache::static_sets::EmptyStaticAtomSet;
+use string_cache::static_sets::{EmptyStaticAtomSet, StaticTables};
 use string_cache::word::ticket_word;
 use string_cache::{Atom, DefaultAtom, Fault};
 use test_samples::One;
@@ -46,7 +48,7 @@ fn text_of_a_dying_entry_is_not_found(rt: HostRuntime) {
     drop(atom);
     drop(held);
     check_linked(&rt, &set, 1);
-    assert!(rt; matches!(DefaultAtom::get_in(&rt, &set, "interned"), Ok(None)));
+    assert!(rt; matches!(look_up(&rt, &set, "interned"), Ok(None)));
     check_linked(&rt, &set, 0);
 }
 
@@ -115,7 +117,7 @@ fn drop_of_one_of_two_shares_takes_out_nothing(rt: HostRuntime) {
     let set = default_set(&rt, rt.alloc());
     let dying = atom_of(&rt, &set, "forgotten");
     let first = atom_of(&rt, &set, "magnitude");
-    let second = first.clone_atom(&rt).expect(&rt, "an atom");
+    let second = cloned(&rt, &first).expect(&rt, "an atom");
     let held = lock_of(&rt, &set, 0x72f);
     drop(dying);
     drop(held);
@@ -174,27 +176,46 @@ fn beside<R: Threads + Clock, L: Drop, T: Send, F: FnOnce() -> T + Send>(
     )
 }
 
+/// Whether a clone's text in lower case is this one, and not dynamic.
+fn lowers_to<R: Wait>(
+    rt: &R,
+    set: &Set<One>,
+    atom: &Atom<'_, One>,
+    text: &str,
+) -> Result<bool, Fault> {
+    let clone = cloned(rt, atom)?;
+    let lower = clone.to_ascii_lowercase_in(rt, set)?;
+    Ok(lower.eq_str(text) && !lower.is_dynamic())
+}
+
+/// Whether the set has the atom of the text.
+fn has_found<R: Wait, Static: StaticTables>(
+    rt: &R,
+    set: &Set<Static>,
+    text: &str,
+    atom: &Atom<'_, Static>,
+) -> Result<bool, Fault> {
+    Ok(look_up(rt, set, text)?.is_some_and(|found| found == *atom))
+}
+
 /// Interns, clones, looks up and drops a text that isn't dynamic. Whether it was as it should be.
 fn keeps_fixed_text<R: Wait>(rt: &R, set: &Set<One>, text: &str) -> Result<bool, Fault> {
-    let atom = Atom::from_str_in(rt, set, text)?;
-    let clone = atom.clone_atom(rt)?;
-    let lower = clone.to_ascii_lowercase_in(rt, set)?;
-    let found = Atom::get_in(rt, set, text)?;
-    Ok(lower.eq_str(text) && !lower.is_dynamic() && found == Some(atom))
+    let atom = interned(rt, set, text)?;
+    Ok(lowers_to(rt, set, &atom, text)? && has_found(rt, set, text, &atom)?)
 }
 
 /// Works with an inline and a static text, and reads JSON values. Whether each was as it should be.
 fn work_without_locks<R: Wait>(rt: &R, set: &Set<One>, dynamic: &Atom<One>) -> Result<bool, Fault> {
     let refused = Atom::from_json_in(rt, set, &Value::Null).err();
     let are_kept = keeps_fixed_text(rt, set, "foo")? && keeps_fixed_text(rt, set, "sentence")?;
-    drop(dynamic.clone_atom(rt)?);
+    drop(cloned(rt, dynamic)?);
     Ok(are_kept && refused == Some(Fault::NotText) && dynamic.eq_str("interned"))
 }
 
 #[test]
 fn calls_that_take_no_lock(rt: HostRuntime) {
     let set: Set<One> = Set::new(rt.alloc()).expect(&rt, "a set");
-    let dynamic = Atom::from_str_in(&rt, &set, "interned").expect(&rt, "an atom");
+    let dynamic = interned(&rt, &set, "interned").expect(&rt, "an atom");
     let mut held = Vec::new(rt.alloc());
     for bucket in set.buckets() {
         held.push(bucket.lock(&rt)).expect(&rt, "room");
@@ -212,12 +233,11 @@ fn calls_that_take_no_lock(rt: HostRuntime) {
 
 /// Interns a text twice, looks it up, and drops the atoms. Whether their words were the first ticket's.
 fn intern_twice<R: Wait>(rt: &R, set: &DefaultSet) -> Result<bool, Fault> {
-    let first = DefaultAtom::from_str_in(rt, set, "interned")?;
-    let second = DefaultAtom::from_str_in(rt, set, "interned")?;
-    let found = DefaultAtom::get_in(rt, set, "interned")?;
+    let first = interned(rt, set, "interned")?;
+    let second = interned(rt, set, "interned")?;
     let word = ticket_word(1, 0x210);
     let are_first = first.unsafe_data() == word && second.unsafe_data() == word;
-    Ok(are_first && found == Some(second))
+    Ok(are_first && has_found(rt, set, "interned", &second)?)
 }
 
 #[test]

@@ -1,6 +1,6 @@
 //! More holders, entries and serials of one bucket than 16 bits count.
 
-use crate::samples::{DefaultSet, atom_of, hash_of, lock_of};
+use crate::samples::{DefaultSet, atom_of, cloned, hash_of, interned, lock_of, look_up};
 use std::alloc::Global;
 use std::process::Abort;
 use std::sync::Wait;
@@ -36,7 +36,7 @@ fn clones_of<'s, R: Wait>(
 ) -> Result<Vec<DefaultAtom<'s>>, Fault> {
     let mut clones = Vec::new(alloc);
     for _ in 0..MANY {
-        clones.push(atom.clone_atom(rt)?)?;
+        clones.push(cloned(rt, atom)?)?;
     }
     Ok(clones)
 }
@@ -65,7 +65,7 @@ fn linked_in(alloc: Global, bucket: &mut Bucket<EmptyStaticAtomSet>) -> Result<V
 
 /// Whether the text has an atom with this word already.
 fn is_found<R: Wait>(rt: &R, set: &DefaultSet, text: &str, word: u64) -> Result<bool, Fault> {
-    match DefaultAtom::get_in(rt, set, text)? {
+    match look_up(rt, set, text)? {
         Some(atom) => Ok(atom.unsafe_data() == word && atom.as_str() == text),
         None => Ok(false),
     }
@@ -95,7 +95,7 @@ fn one_bucket_has_many_entries(rt: HostRuntime) -> Result<(), Fail> {
 
 /// The word of a text that comes and goes.
 fn word_of<R: Wait>(rt: &R, set: &DefaultSet, text: &str) -> Result<u64, Fault> {
-    Ok(DefaultAtom::from_str_in(rt, set, text)?.unsafe_data())
+    Ok(interned(rt, set, text)?.unsafe_data())
 }
 
 /// Each time it has the next serial.

@@ -1,6 +1,6 @@
 //! Threads at work on one set, and on one atom.
 
-use crate::samples::{DefaultSet, atom_of, check_linked, default_set};
+use crate::samples::{DefaultSet, atom_of, check_linked, cloned, default_set, interned};
 use std::sync::Wait;
 use std::sync::atomic::{AtomicU64, Ordering};
 use std::thread;
@@ -13,8 +13,8 @@ fn turn_over<R: Wait>(rt: &R, set: &DefaultSet) -> Result<bool, Fault> {
     let mut is_same = true;
     for _ in 0..100 {
         for text in "interned tokenised sentence repeated".split_whitespace() {
-            let atom = DefaultAtom::from_str_in(rt, set, text)?;
-            let clone = atom.clone_atom(rt)?;
+            let atom = interned(rt, set, text)?;
+            let clone = cloned(rt, &atom)?;
             is_same = is_same && clone == atom && clone.as_str() == text;
         }
     }
@@ -38,16 +38,16 @@ fn threads_at_work(rt: HostRuntime) {
 /// Clones and drops the atom, again and again.
 fn clone_and_drop<R: Wait>(rt: &R, atom: &DefaultAtom) -> Result<(), Fault> {
     for _ in 0..30_000 {
-        drop(atom.clone_atom(rt)?);
+        drop(cloned(rt, atom)?);
     }
     Ok(())
 }
 
 /// Whether the atom, which has a single holder, takes just two more.
 fn takes_two_more<R: Wait>(rt: &R, atom: &DefaultAtom<'_>) -> Result<bool, Fault> {
-    let _second = atom.clone_atom(rt)?;
-    let _third = atom.clone_atom(rt)?;
-    Ok(matches!(atom.clone_atom(rt), Err(Fault::FullCount)))
+    let _second = cloned(rt, atom)?;
+    let _third = cloned(rt, atom)?;
+    Ok(matches!(cloned(rt, atom), Err(Fault::FullCount)))
 }
 
 /// No share is lost or left over, and none is refused, though both threads change one count.
@@ -94,7 +94,7 @@ fn intern_beside<R: Wait>(
     let mut same = 0u64;
     for round in 0..2_000u64 {
         meet(rt, gate, 3 * round + 1);
-        let atom = DefaultAtom::from_str_in(rt, set, "interned")?;
+        let atom = interned(rt, set, "interned")?;
         let word = atom.unsafe_data();
         mine.store(word, Ordering::SeqCst);
         meet(rt, gate, 3 * round + 2);

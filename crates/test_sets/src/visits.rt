@@ -1,7 +1,7 @@
 //! Entries that are visited, and the bytes that they take. By OpenSSL's SipHash the bucket of "afterwards" is 0, of "forgotten" and
 //! "magnitude" 0x72f, of "geometric" 0xfff, and of "interned" 0x210.
 
-use crate::samples::{DefaultSet, atom_of, check_linked, default_set, lock_of};
+use crate::samples::{DefaultSet, atom_of, check_linked, cloned, default_set, interned, lock_of};
 use std::alloc::Global;
 use std::fmt::Write;
 use std::process::Abort;
@@ -24,7 +24,7 @@ fn visits<R: Wait>(rt: &R, set: &DefaultSet, wanted: &str) -> bool {
 }
 
 fn clone_of<'s, R: Wait + Abort>(rt: &R, atom: &DefaultAtom<'s>) -> DefaultAtom<'s> {
-    atom.clone_atom(rt).expect(rt, "an atom")
+    cloned(rt, atom).expect(rt, "an atom")
 }
 
 /// Bucket by bucket, and the newest first.
@@ -90,7 +90,7 @@ fn atoms_of<'s, R: Wait>(
 ) -> Result<Vec<DefaultAtom<'s>>, Fault> {
     let mut atoms = Vec::new(set.allocator());
     for text in texts.split_whitespace() {
-        atoms.push(DefaultAtom::from_str_in(rt, set, text)?)?;
+        atoms.push(interned(rt, set, text)?)?;
     }
     Ok(atoms)
 }

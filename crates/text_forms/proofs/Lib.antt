@@ -1,5 +1,7 @@
 pub mod BucketCounts
 mod CutLemmas
+pub mod Cuts
+pub mod NumberLemmas
 mod PackedLemmas
 pub mod TableLemmas
 pub mod TimesLemmas

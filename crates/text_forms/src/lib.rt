@@ -2,6 +2,7 @@
 #![tactic(auto)]
 
 mod faults;
+pub mod numbers;
 pub mod packed_sets;
 pub mod phf;
 pub mod static_sets;

@@ -12,33 +12,35 @@ use std::alloc::Global;
 use std::marker::Model;
 use text_forms::Fault;
 
+/// Whether the number is one of them.
 pub fn contains(numbers: &[u64], number: u64) -> bool
     ensures { result ≡ has numbers.now number }
 {
     numbers.iter().any(|other| *other == number)
 }
 
+/// The first place of the number.
 fn place_in(numbers: &[u64], number: u64) -> Option<usize>
     ensures { result ≡ position (λ x. x == number) numbers.now }
 {
     numbers.iter().position(|other| *other == number)
 }
 
-// The first place of the number.
+/// The first place of the number.
 fn spot_of(numbers: &[u64], number: u64) -> Option<usize>
     ensures { MatchOption result (without_one number numbers.now ≡ numbers.now) (λ at. (at < length numbers.now) × (without_one number numbers.now ≡ remove numbers.now at)) }
 {
     place_in(numbers, number)
 }
 
-// The entry of that number, counted from 1.
+/// The entry of that number, counted from 1.
 fn entry_of(entries: &[WorldEntry], number: u64) -> Option<&WorldEntry>
     ensures { option_map (λ entry. entry.now) result ≡ entry_at entries.now number }
 {
     entries.get(number.checked_sub(1)? as usize)
 }
 
-// Whether the entry was looked at, if it is linked in the bucket.
+/// Whether the entry was looked at, if it is linked in the bucket.
 fn looked_at_if_linked(entries: &[WorldEntry], number: u64, bucket: u16, looked: &[u64]) -> bool
     ensures { result ≡ passes_at (looked_at_if_linked bucket looked.now) entries.now number }
 {
@@ -48,7 +50,7 @@ fn looked_at_if_linked(entries: &[WorldEntry], number: u64, bucket: u16, looked:
     }
 }
 
-// Whether the entry was found dying, if it is linked with the text.
+/// Whether the entry was found dying, if it is linked with the text.
 fn dying_if_linked(entries: &[WorldEntry], number: u64, text: &str, dying: &[u64]) -> bool
     ensures { result ≡ passes_at (dying_if_linked dying.now text.now) entries.now number }
 {
@@ -72,6 +74,7 @@ impl Model for EntryNumbers {
 }
 
 impl EntryNumbers {
+    /// No numbers yet.
     pub fn new(alloc: Global) -> EntryNumbers
         ensures { result ≡ [] }
     {
@@ -80,6 +83,7 @@ impl EntryNumbers {
         }
     }
 
+    /// Adds a number at the end. `Memory` where it finds no room, and then nothing changes.
     pub fn add(&mut self, number: u64) -> Result<(), Fault>
         ensures ok { OnOk result (self.new ≡ self.old ++ number ∷ []) }
         ensures err { RefusesUnchanged self.old result self.new }
@@ -89,6 +93,7 @@ impl EntryNumbers {
         Ok(())
     }
 
+    /// Takes the first place of the number out.
     pub fn take_out(&mut self, number: u64)
         ensures { self.new ≡ without_one number self.old }
     {
@@ -98,14 +103,14 @@ impl EntryNumbers {
         self.numbers.remove(at);
     }
 
-    // Whether each entry that is linked in the bucket was looked at.
+    /// Whether each entry that is linked in the bucket was looked at.
     pub fn all_seen(&self, entries: &[WorldEntry], bucket: u16, looked: &[u64]) -> bool
         ensures { result ≡ list_all (passes_at (looked_at_if_linked bucket looked.now) entries.now) self.now }
     {
         self.numbers.iter().all(|number| looked_at_if_linked(entries, *number, bucket, looked))
     }
 
-    // Whether each entry that is linked with the text was found dying.
+    /// Whether each entry that is linked with the text was found dying.
     pub fn all_dying(&self, entries: &[WorldEntry], text: &str, dying: &[u64]) -> bool
         ensures { result ≡ list_all (passes_at (dying_if_linked dying.now text.now) entries.now) self.now }
     {

@@ -34,12 +34,7 @@ impl Model for PartyPass {
 impl PartyPass {
     ghost use Rattle.atomic_steps.specs.Steps.{wants, finds_dying, looks_at, decides};
 
-    pub fn is_of(&self, party: u32) -> bool
-        ensures { result ≡ (self.now.party == party) }
-    {
-        self.party == party
-    }
-
+    /// Whether the pass wants this text.
     pub fn wants(&self, text: &str) -> bool
         ensures { result ≡ wants self.now text.now }
     {
@@ -49,12 +44,14 @@ impl PartyPass {
         }
     }
 
+    /// Whether the pass still wants a text.
     pub fn is_undecided(&self) -> bool
         ensures { result ≡ is_some self.now.wanted }
     {
         self.wanted.is_some()
     }
 
+    /// Notes that the entry was found dying. `Memory` changes nothing.
     pub fn find_dying(&mut self, number: u64) -> Result<(), Fault>
         ensures ok { OnOk result (self.new ≡ finds_dying self.old number) }
         ensures err { RefusesUnchanged self.old result self.new }
@@ -64,6 +61,7 @@ impl PartyPass {
         Ok(())
     }
 
+    /// Notes that the entry was looked at. `Memory` changes nothing.
     pub fn look_at(&mut self, number: u64) -> Result<(), Fault>
         ensures ok { OnOk result (self.new ≡ looks_at self.old number) }
         ensures err { RefusesUnchanged self.old result self.new }
@@ -73,14 +71,15 @@ impl PartyPass {
         Ok(())
     }
 
+    /// The pass wants no text any more.
     pub fn decide(&mut self)
         ensures { self.new ≡ decides self.old }
     {
         self.wanted = None;
     }
 
-    // A new entry of that number is listed and looked at, and the pass decides: its text. All growth comes before the first
-    // change.
+    /// A new entry of that number is listed and looked at, and the pass decides: its text. All growth comes before the first
+    /// change.
     pub fn link(&mut self, number: u64, listed: &mut EntryNumbers) -> Result<String, Fault>
         requires { IsSome self.old.wanted }
         ensures text { IfOk result (λ text. self.old.wanted ≡ Some (string_bytes text)) }

@@ -27,7 +27,7 @@ pub struct State {
     buckets: Buckets,
     lasts: Vec<u64>,
     entries: Vec<WorldEntry>,
-    // Of each bucket the numbers of its linked entries.
+    /// Of each bucket the numbers of its linked entries.
     linked: Vec<EntryNumbers>,
     passes: Vec<PartyPass>,
 }
@@ -45,18 +45,21 @@ impl Model for State {
     ghost invariant = { λ a. AreListsKept a.buckets a.entries.items a.lasts.items a.linked.items };
 }
 
+/// Where the party's pass stands among them.
 fn place_of(passes: &[PartyPass], party: u32) -> Option<usize>
     ensures { result ≡ position (λ pass. pass.party == party) passes.now }
 {
     passes.iter().position(|pass| pass.party == party)
 }
 
+/// Whether no pass has the bucket.
 fn is_free(passes: &[PartyPass], bucket: u16) -> bool
     ensures { result ≡ list_all (λ pass. not (pass.bucket == bucket)) passes.now }
 {
     passes.iter().all(|pass| pass.bucket != bucket)
 }
 
+/// That many empty lists. `Memory` where they find no room.
 fn empty_lists(alloc: Global, count: usize) -> Result<Vec<EntryNumbers>, Fault>
     ensures ok { IfOk result (λ lists. length lists.items ≡ count) }
     ensures err { OnErr result (result ≡ Err Fault.Memory) }
@@ -71,6 +74,7 @@ fn empty_lists(alloc: Global, count: usize) -> Result<Vec<EntryNumbers>, Fault>
 impl State {
     ghost use Rattle.atomic_steps.specs.World as world;
 
+    /// A state with these limits and buckets, without entries or passes. `Memory` where it finds no room.
     pub fn new(alloc: Global, limits: Limits, buckets: Buckets) -> Result<State, Fault>
         ensures ok { IfOk result (λ state. state ≡ opening limits (2 ^ buckets)) }
         ensures few { (1 ≤ 2 ^ buckets) × (2 ^ buckets ≤ most_buckets) }
@@ -91,12 +95,14 @@ impl State {
 
     // ---- what is there
 
+    /// Where the party's pass stands, if it has one.
     fn pass_place(&self, party: u32) -> Option<usize>
         ensures { MatchOption result (pass_of self.now party ≡ None) (λ at. PassAt self.now party at) }
     {
         place_of(&self.passes, party)
     }
 
+    /// Where the entry of that number stands, counted from 1.
     fn entry_place(&self, number: u64) -> Option<usize>
         ensures { MatchOption result (entry_at self.now.entries number ≡ None) (λ k. EntryAt self.now number k) }
     {
@@ -108,7 +114,7 @@ impl State {
         }
     }
 
-    // The bucket of a hash.
+    /// The bucket of a hash.
     fn bucket_of(&self, hash: u64) -> u16
         ensures value { result ≡ hash % length self.now.lasts }
         ensures below { result < most_buckets }
@@ -116,7 +122,7 @@ impl State {
         self.buckets.bucket_of(hash)
     }
 
-    // The bucket of that number, where there is one.
+    /// The bucket of that number, where there is one.
     fn bucket_at(&self, number: u32) -> Option<u16>
         ensures some { IfSome result (λ bucket. (bucket ≡ number) × (nat_lt number (length self.now.lasts) ≡ true) × (bucket < most_buckets)) }
         ensures none { IfNone result (nat_lt number (length self.now.lasts) ≡ false) }
@@ -128,6 +134,7 @@ impl State {
         }
     }
 
+    /// The most holders that an entry may have.
     fn holders(&self) -> u64
         ensures value { result ≡ self.now.limits.holders }
         ensures below { result < holder_bound }
@@ -135,6 +142,7 @@ impl State {
         self.limits.holders()
     }
 
+    /// The greatest serial that a bucket may give.
     fn serials(&self) -> u64
         ensures value { result ≡ self.now.limits.serials }
         ensures below { result < serial_bound }
@@ -142,6 +150,7 @@ impl State {
         self.limits.serials()
     }
 
+    /// The last serial that the pass's bucket gave.
     fn last_at(&self, at: usize) -> u64
         requires pass { at < length self.now.passes }
         requires below { AreWithin self.now }
@@ -151,6 +160,7 @@ impl State {
         self.lasts[pass.bucket as usize]
     }
 
+    /// How many hold the entry.
     fn count_at(&self, k: usize) -> u64
         requires { k < length self.now.entries }
         ensures { (entry : world.WorldEntry) → slice_get self.now.entries k ≡ Some entry → result ≡ entry.count }
@@ -169,12 +179,14 @@ impl State {
 
     // ---- tests
 
+    /// Whether the party has no pass, and no pass has the bucket.
     fn is_idle_and_free(&self, party: u32, bucket: u16) -> bool
         ensures { result ≡ (is_none (pass_of self.now party) && is_free self.now bucket) }
     {
         self.pass_place(party).is_none() && is_free(&self.passes, bucket)
     }
 
+    /// Whether the entry is linked in the pass's bucket and has the text that it wants.
     fn may_add(&self, at: usize, k: usize) -> bool
         requires pass { at < length self.now.passes }
         requires entry { k < length self.now.entries }
@@ -186,7 +198,7 @@ impl State {
         entry.is_linked_in(pass.bucket) && pass.wants(entry.text.as_str())
     }
 
-    // Whether the pass has found each linked entry of the text dying.
+    /// Whether the pass has found each linked entry of the text dying.
     fn all_dying(&self, at: usize, text: &str) -> bool
         requires pass { at < length self.now.passes }
         requires below { AreWithin self.now }
@@ -199,6 +211,7 @@ impl State {
         listed.all_dying(&self.entries, text, &pass.dying)
     }
 
+    /// Whether the pass wants a text, and found each linked entry of it dying.
     fn may_link(&self, at: usize) -> bool
         requires pass { at < length self.now.passes }
         requires below { AreWithin self.now }
@@ -214,6 +227,7 @@ impl State {
         }
     }
 
+    /// Whether the entry is linked in the pass's bucket.
     fn may_unlink(&self, at: usize, k: usize) -> bool
         requires pass { at < length self.now.passes }
         requires entry { k < length self.now.entries }
@@ -224,6 +238,7 @@ impl State {
         self.entries[k].is_linked_in(pass.bucket)
     }
 
+    /// Whether the entry was unlinked by the party, and is still there.
     fn may_free(&self, party: u32, k: usize) -> bool
         requires { k < length self.now.entries }
         ensures { (entry : world.WorldEntry) → slice_get self.now.entries k ≡ Some entry → result ≡ is_unlinked_by party entry.place }
@@ -231,7 +246,7 @@ impl State {
         self.entries[k].is_unlinked_by(party)
     }
 
-    // Whether the pass has looked at each entry of its bucket.
+    /// Whether the pass has looked at each entry of its bucket.
     fn all_seen(&self, at: usize) -> bool
         requires pass { at < length self.now.passes }
         requires below { AreWithin self.now }
@@ -242,6 +257,7 @@ impl State {
         listed.all_seen(&self.entries, pass.bucket, &pass.looked)
     }
 
+    /// Whether the pass wants nothing more.
     fn may_leave(&self, at: usize) -> bool
         requires pass { at < length self.now.passes }
         requires below { AreWithin self.now }
@@ -251,7 +267,7 @@ impl State {
         !pass.is_undecided() && self.all_seen(at)
     }
 
-    // Whether the bag has the entry's ticket.
+    /// Whether the bag has the entry's ticket.
     fn is_held(&self, k: usize) -> bool
         requires entry { k < length self.now.entries }
         requires sound { SoundTable self.now.entries self.now.lasts self.now.bag }

@@ -38,18 +38,21 @@ impl WorldEntry {
     ghost use Rattle.atomic_steps.specs.World.{is_linked, is_unlinked_by};
     ghost use Rattle.atomic_steps.specs.Steps.{is_linked_in};
 
+    /// Whether the entry is linked in this bucket.
     pub fn is_linked_in(&self, bucket: u16) -> bool
         ensures { result ≡ is_linked_in bucket self.now }
     {
         matches!(self.place, Place::Linked) && self.bucket == bucket
     }
 
+    /// Whether the entry is linked and has this text.
     pub fn is_linked_of(&self, text: &str) -> bool
         ensures { result ≡ is_linked self.now.place && bytes_eq self.now.text text.now }
     {
         matches!(self.place, Place::Linked) && self.text.as_str() == text
     }
 
+    /// Whether the party has unlinked the entry, and it isn't freed yet.
     pub fn is_unlinked_by(&self, party: u32) -> bool
         ensures { result ≡ is_unlinked_by party self.now.place }
     {
@@ -60,6 +63,7 @@ impl WorldEntry {
         }
     }
 
+    /// One holder more.
     pub fn add_holder(&mut self)
         requires { self.old.count < holder_bound }
         ensures { self.new ≡ record self.old { count = self.old.count + 1 } }
@@ -67,18 +71,21 @@ impl WorldEntry {
         self.count += 1;
     }
 
+    /// One holder less.
     pub fn drop_holder(&mut self)
         ensures { self.new ≡ record self.old { count = self.old.count - 1 } }
     {
         self.count = self.count.saturating_sub(1);
     }
 
+    /// The party has unlinked the entry.
     pub fn unlink(&mut self, party: u32)
         ensures { self.new ≡ record self.old { place = Place.UnlinkedBy party } }
     {
         self.place = Place::UnlinkedBy(party);
     }
 
+    /// The entry is freed.
     pub fn free(&mut self)
         ensures { self.new ≡ record self.old { place = Place.Freed } }
     {

@@ -44,13 +44,6 @@ impl Holding {
     {
         self.holders
     }
-
-    /// Lets this number of holders have it.
-    pub fn set_holders(&mut self, holders: u64)
-        ensures { self.new ≡ record { ticket = self.old.ticket; holders = holders } }
-    {
-        self.holders = holders;
-    }
 }
 
 /// Lets this number of holders have the text at a place.
@@ -61,5 +54,5 @@ pub fn write_holders(entries: &mut IndexMap<String, Holding>, at: usize, holders
     ensures unique { IsUnique string_eq entries.old }
 {
     let (_, held) = entries.pair_mut(at);
-    held.set_holders(holders);
+    held.holders = holders;
 }

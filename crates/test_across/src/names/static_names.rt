@@ -1477,12 +1477,18 @@ static NAMES_WORDS: [(&str, u64); 393] = [
     ("z-index", Names::Z_INDEX),
 ];
 
+/// The word of a static text.
+#[cfg(test)]
+fn static_word(text: &str) -> Option<u64> {
+    Some(Name::try_static(text)?.unsafe_data())
+}
+
 /// The word of a text that is inline or static.
 #[cfg(test)]
 fn word_of(text: &str) -> Option<u64> {
     match pack_inline_word(text) {
         Some(word) => Some(word),
-        None => Some(Name::try_static(text)?.unsafe_data()),
+        None => static_word(text),
     }
 }
 

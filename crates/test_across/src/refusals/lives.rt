@@ -1,5 +1,6 @@
 //! The life of a text from its first atom to its last, in a set of one bucket whose texts have two holders at most.
 
+use crate::begun::{cloned, interned, look_up};
 use std::alloc::Global;
 use std::io::Print;
 use std::process::Abort;
@@ -13,20 +14,14 @@ type OneBucket = Set<EmptyStaticAtomSet>;
 
 /// Whether each call that adds a holder of the atom's text is refused it.
 fn is_full<R: Wait>(rt: &R, set: &OneBucket, atom: &DefaultAtom<'_>) -> bool {
-    matches!(atom.clone_atom(rt), Err(Fault::FullCount))
-        && matches!(
-            DefaultAtom::from_str_in(rt, set, atom.as_str()),
-            Err(Fault::FullCount)
-        )
-        && matches!(
-            DefaultAtom::get_in(rt, set, atom.as_str()),
-            Err(Fault::FullCount)
-        )
+    cloned(rt, atom).err() == Some(Fault::FullCount)
+        && interned(rt, set, atom.as_str()).err() == Some(Fault::FullCount)
+        && look_up(rt, set, atom.as_str()).err() == Some(Fault::FullCount)
 }
 
 /// Whether one entry is left where another text came and went, and after a sweep.
 fn stays_alone<R: Wait>(rt: &R, set: &OneBucket) -> Result<bool, Fault> {
-    drop(DefaultAtom::from_str_in(rt, set, "tokenised")?);
+    drop(interned(rt, set, "tokenised")?);
     let is_alone = set.linked(rt) == 1;
     set.sweep(rt);
     Ok(is_alone && set.linked(rt) == 1)
@@ -58,7 +53,7 @@ fn are_one(first: &DefaultAtom<'_>, second: &DefaultAtom<'_>) -> bool {
 
 /// Whether the atom has a clone, beside which its text is full, stays and is shown.
 fn is_cloned<R: Wait>(rt: &R, set: &OneBucket, atom: &DefaultAtom<'_>) -> Result<bool, Fault> {
-    let clone = atom.clone_atom(rt)?;
+    let clone = cloned(rt, atom)?;
     Ok(
         are_one(atom, &clone)
             && is_full(rt, set, atom)
@@ -69,7 +64,7 @@ fn is_cloned<R: Wait>(rt: &R, set: &OneBucket, atom: &DefaultAtom<'_>) -> Result
 
 /// Whether the atom's text is found, and is full then.
 fn is_found<R: Wait>(rt: &R, set: &OneBucket, atom: &DefaultAtom<'_>) -> Result<bool, Fault> {
-    match DefaultAtom::get_in(rt, set, atom.as_str())? {
+    match look_up(rt, set, atom.as_str())? {
         Some(found) => Ok(are_one(atom, &found) && is_full(rt, set, &found)),
         None => Ok(false),
     }
@@ -77,7 +72,7 @@ fn is_found<R: Wait>(rt: &R, set: &OneBucket, atom: &DefaultAtom<'_>) -> Result<
 
 /// Whether the text has an atom that is cloned and found.
 fn is_interned<R: Wait>(rt: &R, set: &OneBucket, text: &str) -> Result<bool, Fault> {
-    let atom = DefaultAtom::from_str_in(rt, set, text)?;
+    let atom = interned(rt, set, text)?;
     Ok(atom.as_str() == text && is_cloned(rt, set, &atom)? && is_found(rt, set, &atom)?)
 }
 

@@ -1,6 +1,6 @@
 //! Sets and their atoms: a call that is made again gives the ticket that it would have given the first time.
 
-use crate::begun::{intern, is_of, links, new_set};
+use crate::begun::{intern, interned, is_of, links, new_set};
 use serde_json::Value;
 use std::alloc::Global;
 use std::borrow::CowStr;
@@ -34,7 +34,7 @@ fn interned_at_last<'s, R: Wait + Print>(
     set: &'s Set<EmptyStaticAtomSet>,
     text: &str,
 ) -> Result<DefaultAtom<'s>, Fault> {
-    at_last(rt, || DefaultAtom::from_str_in(rt, set, text))
+    at_last(rt, || interned(rt, set, text))
 }
 
 #[test]
@@ -54,8 +54,7 @@ fn add_atom<'s, R: Wait>(
     atoms: &mut Vec<DefaultAtom<'s>>,
     text: &str,
 ) -> Result<(), Fault> {
-    let atom = DefaultAtom::from_str_in(rt, set, text)?;
-    atoms.push(atom)?;
+    atoms.push(interned(rt, set, text)?)?;
     Ok(())
 }
 
@@ -142,17 +141,26 @@ fn text_that_may_be_owned_is_interned(rt: HostRuntime) {
     assert!(rt; is_first(&rt, &set, &atom));
 }
 
-/// The atom of the text in capital letters. A call that is refused memory is made again.
+/// The atom of the text in capital letters, unless it is refused.
+fn upper<'s, R: Wait>(
+    rt: &R,
+    set: &'s Set<EmptyStaticAtomSet>,
+    atom: &DefaultAtom<'s>,
+) -> Result<DefaultAtom<'s>, Fault> {
+    atom.to_ascii_uppercase_in(rt, set)
+}
+
+/// As `upper`. A call that is refused memory is made again.
 fn upper_at_last<'s, R: Wait + Print>(
     rt: &R,
     set: &'s Set<EmptyStaticAtomSet>,
     atom: &DefaultAtom<'s>,
 ) -> Result<DefaultAtom<'s>, Fault> {
     begin(rt);
-    let answer = atom.to_ascii_uppercase_in(rt, set);
+    let answer = upper(rt, set, atom);
     finish(rt, End::of(&answer));
     match answer {
-        Err(Fault::Memory) => atom.to_ascii_uppercase_in(rt, set),
+        Err(Fault::Memory) => upper(rt, set, atom),
         made => made,
     }
 }

@@ -1,6 +1,6 @@
 //! Tables and worlds of steps.
 
-use crate::begun::new_table;
+use crate::begun::{new_table, word_in};
 use std::alloc::Global;
 use std::io::Print;
 use std::process::Abort;
@@ -32,7 +32,7 @@ fn table_is_made(rt: HostRuntime) {
         "an answer",
     );
     assert!(rt; table.entries() == 0 && table.text_bytes() == 0);
-    assert!(rt; table.intern("interned").expect(&rt, "a word") == FIRST);
+    assert!(rt; word_in(&mut table, "interned") == Ok(FIRST));
 }
 
 fn is_empty(table: &Table<EmptyStaticAtomSet>) -> bool {
@@ -45,12 +45,12 @@ fn word_at_last<R: Print + Abort>(
     table: &mut Table<EmptyStaticAtomSet>,
 ) -> Result<u64, Fault> {
     begin(rt);
-    let answer = table.intern("interned");
+    let answer = word_in(table, "interned");
     let is_refused = answer == Err(Fault::Memory);
     finish(rt, midway(is_refused));
     if is_refused {
         assert!(rt; is_empty(table));
-        return table.intern("interned");
+        return word_in(table, "interned");
     }
     answer
 }
@@ -73,18 +73,28 @@ fn table_with_room_is_made(rt: HostRuntime) {
     assert!(rt; is_empty(&made.expect(&rt, "an answer")));
 }
 
+/// Makes room for a thousand texts.
+fn make_room(table: &mut Table<EmptyStaticAtomSet>) -> Result<(), Fault> {
+    table.reserve(1000)
+}
+
+/// Whether "interned" has the word, and no other text has one.
+fn has_alone(table: &Table<EmptyStaticAtomSet>, word: u64) -> bool {
+    table.text(word) == Some("interned") && table.entries() == 1
+}
+
 /// What is held stays, whether the room is refused or not.
 #[test]
 fn room_is_made_in_a_table(rt: HostRuntime) {
     let mut table: Table<EmptyStaticAtomSet> = new_table(&rt, rt.alloc());
-    let word = table.intern("interned").expect(&rt, "a word");
+    let word = word_in(&mut table, "interned").expect(&rt, "a word");
     begin(&rt);
-    let made = table.reserve(1000);
+    let made = make_room(&mut table);
     finish(&rt, midway(made.is_err()));
     assert!(rt; made.is_ok() || made == Err(Fault::Memory));
-    assert!(rt; table.text(word) == Some("interned") && table.entries() == 1);
+    assert!(rt; has_alone(&table, word));
     if made.is_err() {
-        table.reserve(1000).expect(&rt, "an answer");
+        make_room(&mut table).expect(&rt, "an answer");
     }
 }
 
@@ -96,7 +106,7 @@ fn fill<R: Abort>(
     number: u32,
 ) -> Result<(), Fault> {
     for n in 0..number {
-        table.intern(format!(in alloc; "the text {n}")?.as_str())?;
+        word_in(table, format!(in alloc; "the text {n}")?.as_str())?;
     }
     assert!(rt; table.entries() == number as usize);
     Ok(())
@@ -105,7 +115,7 @@ fn fill<R: Abort>(
 /// The word of "interned", which asks for no more than the text's own bytes.
 fn has_room<R: Print + Abort>(rt: &R, table: &mut Table<EmptyStaticAtomSet>) -> bool {
     begin(rt);
-    let answer = table.intern("interned");
+    let answer = word_in(table, "interned");
     let is_refused = answer == Err(Fault::Memory);
     finish(rt, midway(is_refused));
     is_refused || answer == Ok(FIRST)
@@ -152,11 +162,16 @@ const REPLIES: [TableReply; 6] = [
     TableReply::Word(0x1_39dc),
 ];
 
+/// Whether one of these calls was refused memory.
+fn are_refused(replies: &[TableReply]) -> bool {
+    replies.contains(&TableReply::Refused(Fault::Memory))
+}
+
 /// How a run ended.
 fn end_of(answer: &Result<Vec<TableReply>, Fault>) -> End {
     match answer {
-        Ok(replies) if replies.contains(&TableReply::Refused(Fault::Memory)) => End::RefusedMidway,
-        answer => End::of(answer),
+        Ok(replies) => midway(are_refused(replies)),
+        Err(_) => End::of(answer),
     }
 }
 

@@ -1,13 +1,13 @@
 //! Calls whose bytes a set tells: `gate/refused.py` compares what each of these tests prints with what the call asked for.
 
-use crate::begun::new_set;
+use crate::begun::{interned, new_set};
 use std::alloc::Global;
 use std::io::Print;
 use std::process::Abort;
 use std::sync::Wait;
+use string_cache::EmptyStaticAtomSet;
 use string_cache::dynamic_set::Set;
 use string_cache::word::{Buckets, Limits};
-use string_cache::{DefaultAtom, EmptyStaticAtomSet};
 use test_refusals::{End, begin, finish};
 
 /// A set without static texts.
@@ -43,7 +43,7 @@ fn set_of_most_buckets(rt: HostRuntime) {
 fn intern<R: Wait + Print + Abort>(rt: &R, set: &DefaultSet, text: &str) {
     let before = set.memory(rt);
     begin(rt);
-    let atom = DefaultAtom::from_str_in(rt, set, text);
+    let atom = interned(rt, set, text);
     finish(rt, End::Given);
     tell(rt, set.memory(rt).saturating_sub(before));
     assert!(rt; atom.expect(rt, "an atom").as_str() == text);
@@ -64,7 +64,7 @@ fn text_of_a_hundred_bytes(rt: HostRuntime) {
 #[test]
 fn second_text_of_a_node(rt: HostRuntime) {
     let set: DefaultSet = new_set(&rt, rt.alloc());
-    let _first = DefaultAtom::from_str_in(&rt, &set, "forgotten").expect(&rt, "an atom");
+    let _first = interned(&rt, &set, "forgotten").expect(&rt, "an atom");
     intern(&rt, &set, "magnitude");
 }
 

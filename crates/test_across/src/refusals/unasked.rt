@@ -1,6 +1,6 @@
 //! Calls that ask for no memory: `gate/refused.py` refuses every request between the two lines, and wants that there is none.
 
-use crate::begun::{new_set, new_table};
+use crate::begun::{cloned, intern, interned, look_up, new_set, new_table, word_in};
 use serde_json::Value;
 use std::alloc::Global;
 use std::cmp::Ordering;
@@ -19,8 +19,8 @@ fn short_text_is_interned(rt: HostRuntime) {
     let set: Set<EmptyStaticAtomSet> = new_set(&rt, rt.alloc());
     let mut table: Table<EmptyStaticAtomSet> = new_table(&rt, rt.alloc());
     begin(&rt);
-    let atom = DefaultAtom::from_str_in(&rt, &set, "abcdefg");
-    let word = table.intern("abcdefg");
+    let atom = interned(&rt, &set, "abcdefg");
+    let word = word_in(&mut table, "abcdefg");
     finish(&rt, End::Given);
     assert!(rt; atom.expect(&rt, "an answer").unsafe_data() == 0x6766_6564_6362_6171);
     assert!(rt; word.expect(&rt, "an answer") == 0x6766_6564_6362_6171);
@@ -31,8 +31,8 @@ fn static_text_is_interned(rt: HostRuntime) {
     let set: Set<One> = new_set(&rt, rt.alloc());
     let mut table: Table<One> = new_table(&rt, rt.alloc());
     begin(&rt);
-    let atom = Atom::from_str_in(&rt, &set, "sentence");
-    let word = table.intern("sentence");
+    let atom = interned(&rt, &set, "sentence");
+    let word = word_in(&mut table, "sentence");
     finish(&rt, End::Given);
     assert!(rt; atom.expect(&rt, "an answer").unsafe_data() == 2);
     assert!(rt; word.expect(&rt, "an answer") == 2);
@@ -44,7 +44,7 @@ fn value_of<R: Wait, Static: StaticAtomSet>(
     set: &Set<Static>,
     text: &str,
 ) -> Result<Value, Fault> {
-    Atom::from_str_in(rt, set, text)?.to_json(set.allocator())
+    interned(rt, set, text)?.to_json(set.allocator())
 }
 
 /// The values of a short text and of a static one.
@@ -66,11 +66,16 @@ fn json_is_read(rt: HostRuntime) {
 #[test]
 fn lower_case_is_a_static_text(rt: HostRuntime) {
     let set: Set<One> = new_set(&rt, rt.alloc());
-    let upper = Atom::from_str_in(&rt, &set, "SENTENCE").expect(&rt, "an atom");
+    let upper = intern(&rt, &set, "SENTENCE");
     begin(&rt);
     let lower = upper.to_ascii_lowercase_in(&rt, &set);
     finish(&rt, End::Given);
     assert!(rt; lower.expect(&rt, "an answer").unsafe_data() == 2);
+}
+
+/// A copy of the atom, unless it is refused.
+fn copied<'s, R: Wait>(rt: &R, atom: &DefaultAtom<'s>) -> Result<DefaultAtom<'s>, Fault> {
+    DefaultAtom::from_atom(rt, atom)
 }
 
 /// Whether clones of the atom of "interned", and the one that is found again, are equal to it. They end here.
@@ -79,17 +84,17 @@ fn are_cloned<R: Wait>(
     set: &Set<EmptyStaticAtomSet>,
     first: &DefaultAtom<'_>,
 ) -> Result<bool, Fault> {
-    let clone = first.clone_atom(rt)?;
-    let again = DefaultAtom::from_atom(rt, first)?;
-    let found = DefaultAtom::from_str_in(rt, set, "interned")?;
+    let clone = cloned(rt, first)?;
+    let again = copied(rt, first)?;
+    let found = interned(rt, set, "interned")?;
     Ok(clone == *first && again == *first && found == *first)
 }
 
 #[test]
 fn atoms_are_cloned_compared_and_dropped(rt: HostRuntime) {
     let set: Set<EmptyStaticAtomSet> = new_set(&rt, rt.alloc());
-    let first = DefaultAtom::from_str_in(&rt, &set, "interned").expect(&rt, "an atom");
-    let other = DefaultAtom::from_str_in(&rt, &set, "tokenised").expect(&rt, "an atom");
+    let first = intern(&rt, &set, "interned");
+    let other = intern(&rt, &set, "tokenised");
     begin(&rt);
     let are_same = are_cloned(&rt, &set, &first) == Ok(true);
     let is_other = first != other && first.cmp(&other) == Ordering::Less;
@@ -103,7 +108,7 @@ fn atoms_are_cloned_compared_and_dropped(rt: HostRuntime) {
 #[test]
 fn sets_are_swept(rt: HostRuntime) {
     let set: Set<EmptyStaticAtomSet> = new_set(&rt, rt.alloc());
-    let atom = DefaultAtom::from_str_in(&rt, &set, "interned").expect(&rt, "an atom");
+    let atom = intern(&rt, &set, "interned");
     begin(&rt);
     set.sweep(&rt);
     let held = set.linked(&rt);
@@ -117,7 +122,7 @@ fn sets_are_swept(rt: HostRuntime) {
 #[test]
 fn entries_are_visited(rt: HostRuntime) {
     let set: Set<EmptyStaticAtomSet> = new_set(&rt, rt.alloc());
-    let atom = DefaultAtom::from_str_in(&rt, &set, "interned").expect(&rt, "an atom");
+    let atom = intern(&rt, &set, "interned");
     let mut holders = 0u64;
     begin(&rt);
     set.for_each(&rt, |_, count| holders = holders.saturating_add(count));
@@ -130,7 +135,7 @@ fn entries_are_visited(rt: HostRuntime) {
 /// A set whose one entry died under the lock of its bucket, which is that of "interned", and is still linked.
 fn with_dying_entry<R: Wait + Abort>(rt: &R, alloc: Global) -> Set<EmptyStaticAtomSet> {
     let set = new_set(rt, alloc);
-    let atom = DefaultAtom::from_str_in(rt, &set, "interned").expect(rt, "an atom");
+    let atom = intern(rt, &set, "interned");
     let held = set.buckets().get(0x210).expect(rt, "a bucket").lock(rt);
     drop(atom);
     drop(held);
@@ -155,7 +160,7 @@ fn six_atoms<'s, R: Wait>(
 ) -> Result<Vec<DefaultAtom<'s>>, Fault> {
     let mut atoms = Vec::new(set.allocator());
     for text in "interned tokenised sentence repeated forgotten magnitude".split(' ') {
-        atoms.push(DefaultAtom::from_str_in(rt, set, text)?)?;
+        atoms.push(interned(rt, set, text)?)?;
     }
     Ok(atoms)
 }
@@ -183,15 +188,10 @@ fn set_ends_with_two_nodes(rt: HostRuntime) {
 
 /// Whether the atom's text is found, and an inline and a static text are, and no other.
 fn are_found<R: Wait>(rt: &R, set: &Set<One>, held: &Atom<'_, One>) -> Result<bool, Fault> {
-    let found = Atom::get_in(rt, set, held.as_str())?;
-    let absent = Atom::get_in(rt, set, "tokenised")?;
-    let is_short = Atom::get_in(rt, set, "abcdefg")?.is_some();
-    let is_static = Atom::get_in(rt, set, "sentence")?.is_some();
-    let is_held = match found {
-        Some(atom) => atom == *held,
-        None => false,
-    };
-    Ok(is_held && is_short && is_static && absent.is_none())
+    let is_held = look_up(rt, set, held.as_str())?.is_some_and(|atom| atom == *held);
+    let is_short = look_up(rt, set, "abcdefg")?.is_some();
+    let is_static = look_up(rt, set, "sentence")?.is_some();
+    Ok(is_held && is_short && is_static && look_up(rt, set, "tokenised")?.is_none())
 }
 
 /// What is full once it is found, too.
@@ -199,11 +199,11 @@ fn are_found<R: Wait>(rt: &R, set: &Set<One>, held: &Atom<'_, One>) -> Result<bo
 fn texts_are_looked_up(rt: HostRuntime) {
     let limits = Limits::new(2, 9).expect(&rt, "limits");
     let set: Set<One> = Set::with_limits(rt.alloc(), limits).expect(&rt, "a set");
-    let first = Atom::from_str_in(&rt, &set, "interned").expect(&rt, "an atom");
+    let first = intern(&rt, &set, "interned");
     begin(&rt);
     let are_right = are_found(&rt, &set, &first) == Ok(true);
-    let second = first.clone_atom(&rt);
-    let refused = Atom::get_in(&rt, &set, "interned").err();
+    let second = cloned(&rt, &first);
+    let refused = look_up(&rt, &set, "interned").err();
     finish(&rt, End::Given);
     assert!(rt; are_right && second.is_ok());
     assert!(rt; refused == Some(Fault::FullCount));
@@ -225,7 +225,7 @@ fn refused_thrice<R: Wait>(
     value: &Value,
 ) -> [Option<Fault>; 3] {
     [
-        DefaultAtom::from_str_in(rt, set, "interned").err(),
+        interned(rt, set, "interned").err(),
         DefaultAtom::from_string_in(rt, set, text).err(),
         DefaultAtom::from_json_in(rt, set, value).err(),
     ]
@@ -233,18 +233,25 @@ fn refused_thrice<R: Wait>(
 
 /// Whether or not memory is there.
 #[test]
-fn tickets_are_spent(rt: HostRuntime) {
+fn tickets_of_a_set_are_spent(rt: HostRuntime) {
     let limits = Limits::new(9, 1).expect(&rt, "limits");
     let set: Set<EmptyStaticAtomSet> = Set::with_limits(rt.alloc(), limits).expect(&rt, "a set");
-    let mut table = spent_table(rt.alloc(), limits).expect(&rt, "a table");
     let value = value_of(&rt, &set, "interned").expect(&rt, "a value");
     let text = String::from_str(rt.alloc(), "interned").expect(&rt, "a text");
     begin(&rt);
-    let in_set = refused_thrice(&rt, &set, text, &value);
-    let in_table = table.intern("interned").err();
+    let refused = refused_thrice(&rt, &set, text, &value);
     finish(&rt, End::Given);
-    assert!(rt; in_set == [Some(Fault::TicketsSpent); 3]);
-    assert!(rt; in_table == Some(Fault::TicketsSpent));
+    assert!(rt; refused == [Some(Fault::TicketsSpent); 3]);
+}
+
+#[test]
+fn tickets_of_a_table_are_spent(rt: HostRuntime) {
+    let limits = Limits::new(9, 1).expect(&rt, "limits");
+    let mut table = spent_table(rt.alloc(), limits).expect(&rt, "a table");
+    begin(&rt);
+    let refused = word_in(&mut table, "interned").err();
+    finish(&rt, End::Given);
+    assert!(rt; refused == Some(Fault::TicketsSpent));
 }
 
 /// What a table tells of "interned", and of a text and a number that it doesn't hold; a holder comes and goes, and then all do.
@@ -267,7 +274,7 @@ fn is_told(table: &mut Table<One>, word: u64) -> bool {
 #[test]
 fn table_is_looked_into(rt: HostRuntime) {
     let mut table: Table<One> = new_table(&rt, rt.alloc());
-    let word = table.intern("interned").expect(&rt, "a word");
+    let word = word_in(&mut table, "interned").expect(&rt, "a word");
     begin(&rt);
     let is_told = is_told(&mut table, word);
     let bytes = table.memory();

@@ -1,6 +1,6 @@
 //! Sets with small limits, and no other thread.
 
-use crate::begun::{intern, is_of, links};
+use crate::begun::{self, cloned, intern, is_of, links};
 use std::alloc::Global;
 use std::process::Abort;
 use std::sync::Wait;
@@ -25,7 +25,7 @@ fn interned<'s, R: Wait>(
     set: &'s Set<EmptyStaticAtomSet>,
     word: u64,
 ) -> Option<DefaultAtom<'s>> {
-    let atom = DefaultAtom::from_str_in(rt, set, "interned").ok()?;
+    let atom = begun::interned(rt, set, "interned").ok()?;
     if atom.unsafe_data() != word {
         return None;
     }
@@ -34,7 +34,7 @@ fn interned<'s, R: Wait>(
 
 /// Why "interned" is refused.
 fn refused<R: Wait>(rt: &R, set: &Set<EmptyStaticAtomSet>) -> Option<Fault> {
-    DefaultAtom::from_str_in(rt, set, "interned").err()
+    begun::interned(rt, set, "interned").err()
 }
 
 /// Why the text of the atom is refused, handed in as a JSON value and in small letters.
@@ -86,7 +86,7 @@ fn two_holders_and_two_serials(rt: HostRuntime) {
 
 /// Whether a clone of the atom has its word.
 fn is_cloned<R: Wait>(rt: &R, atom: &DefaultAtom<'_>) -> Result<bool, Fault> {
-    Ok(atom.clone_atom(rt)?.unsafe_data() == atom.unsafe_data())
+    Ok(cloned(rt, atom)?.unsafe_data() == atom.unsafe_data())
 }
 
 /// Whether the one entry is full, and the atom can't be cloned.

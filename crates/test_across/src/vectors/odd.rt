@@ -1,6 +1,6 @@
 //! Words that are odd, or of nothing, and tables that are odd.
 
-use crate::begun::new_set;
+use crate::begun::{intern, new_set};
 use std::alloc::Global;
 use string_cache::dynamic_set::Set;
 use string_cache::static_sets::{PhfStrSet, StaticAtomSet};
@@ -124,7 +124,7 @@ fn checked_tables(rt: HostRuntime) {
 #[test]
 fn text_listed_twice(rt: HostRuntime) {
     let set: Set<Twice> = new_set(&rt, rt.alloc());
-    let atom = Atom::from_str_in(&rt, &set, "sentence").expect(&rt, "an atom");
+    let atom = intern(&rt, &set, "sentence");
     assert!(rt; atom.is_static() && atom.unsafe_data() == 2);
     assert!(rt; atom.get_hash() == 1);
     assert!(rt; Atom::<Twice>::pack_static(0) == Some(atom));
@@ -134,7 +134,7 @@ fn text_listed_twice(rt: HostRuntime) {
 #[test]
 fn short_text_in_tables(rt: HostRuntime) {
     let set: Set<Short> = new_set(&rt, rt.alloc());
-    let atom = Atom::from_str_in(&rt, &set, "short").expect(&rt, "an atom");
+    let atom = intern(&rt, &set, "short");
     assert!(rt; atom.unsafe_data() == 0x7472_6f68_7351);
     assert!(rt; Atom::<Short>::try_static("short").is_none());
     assert!(rt; Atom::<Short>::pack_static(0).is_none());

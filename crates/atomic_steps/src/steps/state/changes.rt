@@ -43,6 +43,7 @@ impl State {
         Ok(())
     }
 
+    /// Ends the pass, and frees its bucket.
     pub(super) fn end_pass(&mut self, at: usize)
         requires { at < length self.old.passes }
         ensures { self.new ≡ record self.old { passes = remove self.old.passes at } }
@@ -50,6 +51,7 @@ impl State {
         self.passes.remove(at);
     }
 
+    /// The pass has looked at the entry. `Memory` changes nothing.
     pub(super) fn look_at(&mut self, at: usize, number: u64) -> Result<(), Fault>
         requires { at < length self.old.passes }
         ensures ok { (pass : world.PartyPass) → slice_get self.old.passes at ≡ Some pass
@@ -60,6 +62,7 @@ impl State {
         pass.look_at(number)
     }
 
+    /// The pass has found the entry dying. `Memory` changes nothing.
     pub(super) fn find_dying(&mut self, at: usize, number: u64) -> Result<(), Fault>
         requires { at < length self.old.passes }
         ensures ok { (pass : world.PartyPass) → slice_get self.old.passes at ≡ Some pass
@@ -70,6 +73,7 @@ impl State {
         pass.find_dying(number)
     }
 
+    /// The pass wants no text any more.
     pub(super) fn decide(&mut self, at: usize)
         requires { at < length self.old.passes }
         ensures { (pass : world.PartyPass) → slice_get self.old.passes at ≡ Some pass
@@ -79,7 +83,7 @@ impl State {
         pass.decide();
     }
 
-    // Looks at the entry, and decides.
+    /// Looks at the entry, and decides.
     pub(super) fn decide_on(&mut self, at: usize, number: u64) -> Result<(), Fault>
         requires { at < length self.old.passes }
         ensures ok { (pass : world.PartyPass) → slice_get self.old.passes at ≡ Some pass
@@ -92,7 +96,7 @@ impl State {
         Ok(())
     }
 
-    // One holder more: the ticket, and how many hold it now.
+    /// One holder more: the ticket, and how many hold it now.
     pub(super) fn add_share(&mut self, k: usize) -> (u64, u64)
         requires entry { k < length self.old.entries }
         requires sound { SoundTable self.old.entries self.old.lasts self.old.bag }
@@ -108,7 +112,7 @@ impl State {
         (entry.ticket, entry.count)
     }
 
-    // One holder less: how many are left.
+    /// One holder less: how many are left.
     pub(super) fn give_share(&mut self, k: usize) -> u64
         requires entry { k < length self.old.entries }
         requires sound { SoundTable self.old.entries self.old.lasts self.old.bag }
@@ -124,7 +128,7 @@ impl State {
         entry.count
     }
 
-    // A new entry with the text that the pass wants: its number and its ticket. All growth comes before the first change.
+    /// A new entry with the text that the pass wants: its number and its ticket. All growth comes before the first change.
     pub(super) fn link_entry(&mut self, at: usize, serial: u64) -> Result<(u64, u64), Fault>
         requires pass { at < length self.old.passes }
         requires below { AreWithin self.old }
@@ -158,7 +162,7 @@ impl State {
         Ok((number, ticket))
     }
 
-    // Takes the entry out of the list of the pass's bucket.
+    /// Takes the entry out of the list of the pass's bucket.
     pub(super) fn set_unlinked(&mut self, at: usize, k: usize, party: u32)
         requires pass { at < length self.old.passes }
         requires below { AreWithin self.old }
@@ -172,6 +176,7 @@ impl State {
         entry.unlink(party);
     }
 
+    /// The entry is freed.
     pub(super) fn set_freed(&mut self, k: usize)
         requires { k < length self.old.entries }
         ensures { (entry : world.WorldEntry) → slice_get self.old.entries k ≡ Some entry

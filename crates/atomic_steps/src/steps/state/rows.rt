@@ -13,6 +13,7 @@ use text_forms::Fault;
 use text_forms::static_sets::{StaticTables, TextForm, form_of_text};
 
 impl State {
+    /// Begins a pass of the text's bucket that wants the text.
     fn take_intern<S: StaticTables>(
         &mut self,
         party: u32,
@@ -33,6 +34,7 @@ impl State {
         Ok(StepReply::Taken)
     }
 
+    /// Begins a pass of the bucket that wants nothing.
     fn take_sweep(&mut self, party: u32, number: u32) -> Result<StepReply, Fault>
         ensures ok { IfOk result (λ reply. (t : Tables) → IsStep t self.old party (Step.TakeSweep number) reply self.new) }
         ensures err { RefusesUnchanged self.old result self.new }
@@ -47,6 +49,7 @@ impl State {
         Ok(StepReply::Taken)
     }
 
+    /// One holder more of an entry with the text that the pass wants, unless it is dying or full.
     fn add(&mut self, party: u32, number: u64) -> Result<StepReply, Fault>
         requires { SoundTable self.old.entries self.old.lasts self.old.bag }
         ensures ok { IfOk result (λ reply. (t : Tables) → IsStep t self.old party (Step.Add number) reply self.new) }
@@ -74,6 +77,7 @@ impl State {
         Ok(StepReply::Added { ticket, holders })
     }
 
+    /// A new entry with the text that the pass wants, where each linked one of it was found dying.
     fn link<S: StaticTables>(&mut self, party: u32, room: bool) -> Result<StepReply, Fault>
         requires { SoundWorld S.tables self.old }
         ensures ok { IfOk result (λ reply. (t : Tables) → IsStep t self.old party (Step.Link room) reply self.new) }
@@ -98,7 +102,7 @@ impl State {
         Ok(StepReply::Linked { entry, ticket })
     }
 
-    // A step of any party, also of an idle one.
+    /// A step of any party, also of an idle one.
     fn clone_entry(&mut self, number: u64) -> StepReply
         requires { SoundTable self.old.entries self.old.lasts self.old.bag }
         ensures { (t : Tables) (party : ℕ) → IsStep t self.old party (Step.Clone number) result self.new }
@@ -116,7 +120,7 @@ impl State {
         StepReply::Cloned { holders }
     }
 
-    // A step of any party, also of an idle one.
+    /// A step of any party, also of an idle one.
     fn give(&mut self, number: u64) -> StepReply
         requires { SoundTable self.old.entries self.old.lasts self.old.bag }
         ensures { (t : Tables) (party : ℕ) → IsStep t self.old party (Step.Give number) result self.new }
@@ -131,6 +135,7 @@ impl State {
         StepReply::Given { left }
     }
 
+    /// Takes a dying entry out of the list of the pass's bucket, or finds that it is held.
     fn unlink(&mut self, party: u32, number: u64) -> Result<StepReply, Fault>
         requires { AreWithin self.old }
         ensures ok { IfOk result (λ reply. (t : Tables) → IsStep t self.old party (Step.Unlink number) reply self.new) }
@@ -153,6 +158,7 @@ impl State {
         Ok(StepReply::Kept)
     }
 
+    /// Frees an entry that the party unlinked.
     fn free(&mut self, party: u32, number: u64) -> StepReply
         ensures { (t : Tables) → IsStep t self.old party (Step.Free number) result self.new }
     {
@@ -166,6 +172,7 @@ impl State {
         StepReply::Freed
     }
 
+    /// Ends the party's pass, where it may end.
     fn leave(&mut self, party: u32) -> StepReply
         requires { AreWithin self.old }
         ensures { (t : Tables) → IsStep t self.old party Step.Leave result self.new }

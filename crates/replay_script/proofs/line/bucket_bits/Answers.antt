@@ -1,5 +1,5 @@
 use Rattle.std.proofs.Common.{rules, arith, ◌^◌, codes}
-use Rattle.table_generator.proofs.NumberLemmas.{number_below}
+use Rattle.text_forms.proofs.NumberLemmas.{number_below}
 use Rattle.replay_script.proofs.line.bucket_bits.Goals as goal
 
 pub returns : goal.returns

@@ -1,5 +1,5 @@
 use Rattle.std.proofs.Common.{rules, arith}
-use Rattle.table_generator.proofs.NumberLemmas.{number_unique}
+use Rattle.text_forms.proofs.NumberLemmas.{number_unique}
 use Rattle.replay_script.proofs.line.entry_after.Goals as goal
 
 pub returns-then-e-eq0 : goal.returns-then-e-eq0

@@ -1,5 +1,5 @@
 use Rattle.std.proofs.Common.{arith, ap, decimal, ◌∙◌, ◌++◌, ◌∷◌}
-use Rattle.table_generator.proofs.Cuts.{found_first, no_cut, not_found}
+use Rattle.text_forms.proofs.Cuts.{found_first, no_cut, not_found}
 use Rattle.replay_script.proofs.CutLemmas.{cut_number}
 use Rattle.replay_script.proofs.line.number_and_rest.Goals as goal
 

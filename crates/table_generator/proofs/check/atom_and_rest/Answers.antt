@@ -1,5 +1,5 @@
 use Rattle.std.proofs.Common.{◌∙◌, ◌∷◌, ◌++◌, ap, arith, sym}
-use Rattle.table_generator.proofs.Cuts.{found_first, no_cut, not_found}
+use Rattle.text_forms.proofs.Cuts.{found_first, no_cut, not_found}
 use Rattle.table_generator.proofs.LineLemmas.{atom_flat, atom_lacks, atom_words, text_lacks, words_are}
 use Rattle.table_generator.proofs.check.atom_and_rest.Goals as goal
 

@@ -1,7 +1,7 @@
 use Rattle.std.proofs.Common.{◌≡◌, ◌∙◌, ◌∷◌, ◌++◌, ap, arith, codes, sym}
 use Rattle.std.proofs.lemmas.List.{append_cancel_left}
 use Rattle.table_generator.specs.TableText.{hex_digits}
-use Rattle.table_generator.proofs.Cuts.{cut_before, found_first, no_cut, not_found}
+use Rattle.text_forms.proofs.Cuts.{cut_before, found_first, no_cut, not_found}
 use Rattle.table_generator.proofs.HexLemmas.{hex_lacks}
 use Rattle.table_generator.proofs.check.atom_of.Goals as goal
 

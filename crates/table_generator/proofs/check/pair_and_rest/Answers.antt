@@ -1,5 +1,5 @@
 use Rattle.std.proofs.Common.{◌∙◌, arith}
-use Rattle.table_generator.proofs.Cuts.{found_first, no_cut, not_found}
+use Rattle.text_forms.proofs.Cuts.{found_first, no_cut, not_found}
 use Rattle.table_generator.proofs.LineLemmas.{disp_flat, disp_lacks, disp_words, words_are}
 use Rattle.table_generator.proofs.check.pair_and_rest.Goals as goal
 

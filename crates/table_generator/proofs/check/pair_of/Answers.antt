@@ -1,6 +1,6 @@
 use Rattle.std.proofs.Common.{◌≡◌, ◌∙◌, ◌++◌, ap, arith, codes, decimal, sym}
 use Rattle.std.proofs.lemmas.List.{append_cancel_left}
-use Rattle.table_generator.proofs.Cuts.{cut_before, found_first, no_cut, not_found}
+use Rattle.text_forms.proofs.Cuts.{cut_before, found_first, no_cut, not_found}
 use Rattle.table_generator.proofs.LineLemmas.{decimal_lacks}
 use Rattle.table_generator.proofs.check.pair_of.Goals as goal
 

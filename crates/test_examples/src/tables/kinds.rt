@@ -1,6 +1,6 @@
 //! Names of two kinds, and a table that two threads read.
 
-use crate::kept::filled;
+use super::kept::filled;
 use example_tables::{Function, Program, lengths_of_both};
 use std::alloc::Global;
 use std::process::Abort;

@@ -18,12 +18,14 @@ use std::str;
 use string_cache_core::static_sets::EmptyStaticAtomSet;
 use string_cache_core::table::Table;
 
+/// A table whose calls answer with a number: 0, or why they failed.
 #[derive(Drop)]
-pub struct Words {
+pub struct NumberedTable {
     pub table: Table<EmptyStaticAtomSet>,
 }
 
-impl Words {
+impl NumberedTable {
+    /// As `Table::intern`. The word is written where the number is 0.
     pub fn intern(&mut self, text: &[u8], word: &mut u64) -> u32
         ensures utf8 { ¬ (IsUtf8 text.now) → result ≡ not_utf8 }
         ensures limits { self.new.table.limits ≡ self.old.table.limits }
@@ -52,6 +54,7 @@ impl Words {
         }
     }
 
+    /// As `Table::get`. The word is written where the number is 0.
     pub fn get(&self, text: &[u8], word: &mut u64) -> u32
         ensures utf8 { ¬ (IsUtf8 text.now) → result ≡ not_utf8 }
         ensures word { result ≡ 0 → HasWord empty_tables (map_of self.now.table) text.now word.new }
@@ -72,6 +75,7 @@ impl Words {
         }
     }
 
+    /// As `Table::clone_word`.
     pub fn clone_word(&mut self, word: u64) -> u32
         ensures limits { self.new.table.limits ≡ self.old.table.limits }
         ensures clones { ClonesWord self.old.table word result self.new.table }
@@ -92,6 +96,7 @@ impl Words {
         }
     }
 
+    /// As `Table::give`, of a word that is held.
     pub fn give(&mut self, word: u64) -> u32
         ensures limits { self.new.table.limits ≡ self.old.table.limits }
         ensures gives { IsHeld empty_tables (map_of self.old.table) word → (result ≡ 0) × Gives empty_tables self.old.table.limits (map_of self.old.table) word (map_of self.new.table) }
@@ -109,6 +114,7 @@ impl Words {
         0
     }
 
+    /// As `Table::holders`. The number of holders is written where the answer is 0.
     pub fn holders(&self, word: u64, holders: &mut u64) -> u32
         ensures holders { result ≡ 0 → HasHolders (map_of self.now.table) word holders.new }
         ensures unheld { result ≡ not_held → ¬ (IsHeldTicket (map_of self.now.table) word) }
@@ -136,6 +142,7 @@ impl Words {
         }
     }
 
+    /// As `Table::nth`. The word and its holders are written where the number is 0.
     pub fn entry(&self, at: usize, word: &mut u64, holders: &mut u64) -> u32
         ensures entry { (pair : Pair) → slice_get self.now.table.pairs at ≡ Some pair → (result ≡ 0) × (word.new ≡ pair.1.ticket) × (holders.new ≡ pair.1.holders) }
         ensures past { slice_get self.now.table.pairs at ≡ None → result ≡ not_held }
@@ -151,6 +158,7 @@ impl Words {
         }
     }
 
+    /// As `Table::reserve`.
     pub fn reserve(&mut self, more: usize) -> u32
         ensures same { self.new ≡ self.old }
         ensures number { (result ≡ 0) ⊎ (result ≡ 1) }
@@ -161,11 +169,12 @@ impl Words {
         }
     }
 
+    /// As `Table::memory`, with the block in which the handle has the table, or the greatest number where it is more.
     pub fn memory(&self) -> u64
         ensures { TellsMemory self.now.table result }
     {
         match u64::try_from(self.table.memory()) {
-            Ok(bytes) => bytes.saturating_add(size_of::<Words>() as u64),
+            Ok(bytes) => bytes.saturating_add(size_of::<NumberedTable>() as u64),
             Err(_) => u64::MAX,
         }
     }

@@ -1,7 +1,7 @@
 use Rattle.std.proofs.Common.{rules, ◌≡◌, Bool, true, false, nat_eq, length, eq-eqb}
 use Rattle.std.specs.Bool.{OnFalse}
-use Rattle.table_generator.proofs.NumberLemmas.{no_number-sign, no_number-zero}
-use Rattle.table_generator.proofs.numbers.has_plain_front.Goals as goal
+use Rattle.text_forms.proofs.NumberLemmas.{no_number-sign, no_number-zero}
+use Rattle.text_forms.proofs.numbers.has_plain_front.Goals as goal
 
 pub returns-then-first-eq43-clause-other : goal.returns-then-first-eq43-clause-other
 returns-then-first-eq43-clause-other c = no_number-sign c.args.bytes.now (search rules)

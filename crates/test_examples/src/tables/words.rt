@@ -1,6 +1,6 @@
 //! Words that are shared, handed on and read.
 
-use crate::kept::{Plain, filled};
+use super::kept::{Plain, filled};
 use example_tables::{
     comes_and_goes, first_byte, hand_on, is_known, is_shared, lent_text, price_of, reads_back,
     share,

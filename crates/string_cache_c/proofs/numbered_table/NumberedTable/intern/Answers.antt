@@ -2,7 +2,7 @@ use Rattle.std.proofs.Common.{ℕ, List, ◌<◌, length, subst}
 use Rattle.string_cache_core.specs.Kept.{map_of}
 use Rattle.string_cache_core.specs.Table.{IsTextOf}
 use Rattle.string_cache_core.specs.Tables.{empty_tables}
-use Rattle.string_cache_c.proofs.words.Words.intern.Goals as goal
+use Rattle.string_cache_c.proofs.numbered_table.NumberedTable.intern.Goals as goal
 
 pub returns-in-Ok-intern-clause-lends : goal.returns-in-Ok-intern-clause-lends
 returns-in-Ok-intern-clause-lends c =

@@ -1,6 +1,6 @@
 //! Names that are compared.
 
-use crate::kept::Plain;
+use super::kept::Plain;
 use example_tables::{are_one_name, is_keyword, same_word, two_come_and_go};
 use std::alloc::Global;
 use std::process::Abort;

@@ -2,7 +2,7 @@ use Rattle.std.proofs.Common.{ℕ, ◌∷◌, refl, subst}
 use Rattle.string_cache_core.specs.Kept.{map_of}
 use Rattle.string_cache_core.specs.Table.{AreHeld, IsHeld}
 use Rattle.string_cache_core.specs.Tables.{empty_tables}
-use Rattle.string_cache_c.proofs.words.Words.clone_word.Goals as goal
+use Rattle.string_cache_c.proofs.numbered_table.NumberedTable.clone_word.Goals as goal
 
 pub returns-in-Ok-clause-unheld : goal.returns-in-Ok-clause-unheld
 returns-in-Ok-clause-unheld c = λ not. absurd (not (c.if-not-holds.ensures.0 refl))

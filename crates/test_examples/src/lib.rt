@@ -1,0 +1,8 @@
+//! What the small programs of `example_sets` and `example_tables` answer, with worked values. A test asks helpers that have no contract, so that it
+//! is proved in a moment.
+#![tactic(auto)]
+
+#[cfg(test)]
+mod sets;
+#[cfg(test)]
+mod tables;

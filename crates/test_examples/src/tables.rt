@@ -1,0 +1,6 @@
+//! The programs over a table.
+
+mod compared;
+mod kept;
+mod kinds;
+mod words;
