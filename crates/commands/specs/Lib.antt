@@ -1,7 +1,9 @@
 pub mod Commands
-pub mod TimesSeen
+pub mod CountLines
 pub mod Faults
 pub mod Program
 pub mod Replay
 pub mod TableCommands
+pub mod TimesSeen
+pub mod Told
 pub mod WordLines

@@ -5,7 +5,7 @@ use Rattle.std.specs.Io.KnownBytes.{Appends}
 use Rattle.string_cache.specs.Tables.{empty_tables}
 use Rattle.replay_script.specs.Replay.{IsReplay}
 use Rattle.text_streams.specs.Streams.{AppendsBeginning}
-use Rattle.word_counts.specs.CountLines.{count_lines}
+use Rattle.commands.specs.CountLines.{count_lines}
 use Rattle.commands.specs.Commands.{AreCheck, AreCount, AreGenerate, AreWords, AreReplay}
 use Rattle.commands.specs.Replay.{BeginsReplay}
 use Rattle.commands.specs.WordLines.{word_lines}

@@ -3,10 +3,11 @@
 //! `word_counts` stand here as well, and what makes and checks static tables in `generate`.
 #![tactic(auto)]
 
+pub mod buckets;
+pub mod count;
 pub mod generate;
 pub mod program;
 pub mod replay;
 pub mod words;
 
 pub use text_streams::{faults, streams};
-pub use word_counts::count;

@@ -4,6 +4,7 @@ ghost use Rattle.std.specs.Prelude.{◌≡◌, ◌≢◌, ℕ, ◌≤◌, codes,
 ghost use Rattle.commands.specs.Commands.{AreCheck, AreCount, AreGenerate, AreWords, AreReplay, IsRequest, IsWorkers};
 ghost use Rattle.commands.specs.Program.{Runs};
 
+use crate::count::count_command;
 use crate::generate::{check_command, generate_command};
 use crate::replay::replay;
 use crate::words::words_command;
@@ -18,7 +19,6 @@ use string_cache::Fault;
 use text_forms::numbers::{number_of, short_number_of};
 use text_streams::faults::AppFault;
 use text_streams::streams::{Sink, Source, write_whole};
-use word_counts::count::count_command;
 
 const USAGE: &str = "usage: atoms words | count N | replay | generate KEY BOUND | check\n";
 

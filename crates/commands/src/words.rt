@@ -6,11 +6,11 @@ ghost use Rattle.std.specs.Str.{IsUtf8};
 ghost use Rattle.string_cache.specs.Faults.{IsInternFault};
 ghost use Rattle.commands.specs.TimesSeen.{count_of, CountsOneMore};
 ghost use Rattle.text_streams.specs.Streams.{AppendsBeginning};
-ghost use Rattle.word_counts.specs.Faults.{IsWritingFault};
-ghost use Rattle.word_counts.specs.Told.{TellsLines};
-ghost use Rattle.commands.specs.Faults.{IsWordsFault};
+ghost use Rattle.commands.specs.Told.{TellsLines};
+ghost use Rattle.commands.specs.Faults.{IsWordsFault, IsWritingFault};
 ghost use Rattle.commands.specs.WordLines.{seen_line, word_lines};
 
+use crate::buckets::buckets_for;
 use std::alloc::{AllocError, Global};
 use std::collections::HashMap;
 use std::sync::Wait;
@@ -20,7 +20,6 @@ use string_cache::word::Limits;
 use string_cache::{Atom, EmptyStaticAtomSet, Fault, StaticTables};
 use text_streams::faults::AppFault;
 use text_streams::streams::{PIECE, Sink, Source, read_text, write_whole};
-use word_counts::buckets::buckets_for;
 
 /// What words are interned in, and kept by until its end.
 trait Interner {

@@ -4,6 +4,7 @@ use crate::memory::{Page, Streams};
 use crate::program::EXAMPLE_COUNTS;
 use crate::replay::{OUTPUT, SCRIPT};
 use crate::words::EXAMPLE_LINES;
+use commands::count::count_command;
 use commands::replay::replay;
 use commands::words::{words, words_alone};
 use std::alloc::Global;
@@ -14,7 +15,6 @@ use string_cache::EmptyStaticAtomSet;
 use string_cache::dynamic_set::Set;
 use test_samples::EXAMPLE;
 use text_streams::faults::AppFault;
-use word_counts::count::count_command;
 
 /// A call that reads all and writes.
 #[derive(Clone, Copy, Debug)]

@@ -5,4 +5,3 @@ pub mod SectionLemmas
 pub mod TallyLemmas
 pub mod WordCountLemmas
 pub mod WordLemmas
-pub mod WrittenLines

@@ -5,13 +5,12 @@ ghost use Rattle.word_counts.specs.Faults.{IsCountFault};
 ghost use Rattle.word_counts.specs.WordCounts.{AreWordCounts, counted_texts, word_counts};
 ghost use Rattle.word_counts.specs.Words.{words};
 
-mod lines;
 mod merge;
 mod parts;
 mod tally;
 mod workers;
 
-pub use lines::count_command;
+pub use merge::MANY;
 // For the tests above.
 #[doc(hidden)]
 pub use parts::sections;

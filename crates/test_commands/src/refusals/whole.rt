@@ -1,11 +1,11 @@
 //! Calls over 1,024 different dynamic words, each of which comes twice: `gate/refused.py` sees that no block is left of what they took.
 
 use crate::memory::{Bytes, Lost};
+use commands::count::count_command;
 use commands::words::words_command;
 use std::alloc::{AllocError, Global};
 use std::test::Fail;
 use test_refusals::{End, begin, finish};
-use word_counts::count::count_command;
 
 /// The words, one after another, and once more.
 fn text_of_words(alloc: Global) -> Result<String, AllocError> {

@@ -1,9 +1,9 @@
 use Rattle.std.proofs.Common.{ap, ◌∙◌, ◌≡◌, ◌++◌, arith, string_bytes}
-use Rattle.word_counts.specs.CountLines.{count_line}
+use Rattle.commands.specs.CountLines.{count_line}
 use Rattle.text_streams.proofs.StreamLemmas.{on_err, on_err_map, beginning_nothing, keeps_same}
-use Rattle.word_counts.proofs.WrittenLines.{line_pends, pending_written, lines_begun, line_at}
-use Rattle.word_counts.proofs.count.lines.write_lines.Goals as goal
-use Rattle.word_counts.proofs.count.lines.write_lines.Goals.{then-len-ge-PIECE+in_ok-write_whole, else-len-ge-PIECE}
+use Rattle.commands.proofs.WrittenLines.{line_pends, pending_written, lines_begun, line_at}
+use Rattle.commands.proofs.count.write_lines.Goals as goal
+use Rattle.commands.proofs.count.write_lines.Goals.{then-len-ge-PIECE+in_ok-write_whole, else-len-ge-PIECE}
 
 pub returns-in_err-append_count-clause-err : goal.returns-in_err-append_count-clause-err
 returns-in_err-append_count-clause-err g c = on_err _ (lines_begun c.loop-atom.invariant.lines _ (beginning_nothing _ _ _ (keeps_same _)))

@@ -1,9 +1,9 @@
 use Rattle.std.proofs.Common.{◌∙◌, ap, subst, OnErr, ℕ, List}
 use Rattle.std.specs.List.{flat_map}
-use Rattle.word_counts.specs.CountLines.{count_line}
+use Rattle.commands.specs.CountLines.{count_line}
 use Rattle.text_streams.specs.Streams.{AppendsBeginning}
 use Rattle.word_counts.specs.WordCounts.{counted_texts}
-use Rattle.word_counts.proofs.count.lines.write_counts.Goals as goal
+use Rattle.commands.proofs.count.write_counts.Goals as goal
 
 pub returns-clause-err : goal.returns-clause-err
 returns-clause-err g c = subst (λ (counts : List (List ℕ × ℕ)). OnErr c.write_lines-outcome.result

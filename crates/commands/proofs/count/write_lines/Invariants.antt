@@ -1,9 +1,9 @@
 use Rattle.std.proofs.Common.{◌≡◌, false, drop, string_bytes}
 use Rattle.std.specs.List.{flat_map}
-use Rattle.word_counts.specs.CountLines.{count_line}
+use Rattle.commands.specs.CountLines.{count_line}
 use Rattle.word_counts.specs.WordCounts.{counted_texts}
-use Rattle.word_counts.proofs.WrittenLines.{Written}
-use Rattle.word_counts.proofs.count.lines.write_lines.Given as goal
+use Rattle.commands.proofs.WrittenLines.{Written}
+use Rattle.commands.proofs.count.write_lines.Given as goal
 
 abbrev pub invariant-loop-atom : goal.invariant-loop-atom
 invariant-loop-atom g l = record {

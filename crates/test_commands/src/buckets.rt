@@ -1,6 +1,6 @@
 //! How many buckets a text gets.
 
-use word_counts::buckets::buckets_for;
+use commands::buckets::buckets_for;
 
 /// At each step of the choice, and on both sides of it.
 #[test]

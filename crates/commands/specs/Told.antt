@@ -6,7 +6,7 @@ use Rattle.text_streams.specs.declared.faults.AppFault.{AppFault}
 use Rattle.text_streams.specs.declared.faults.AppFault.TheVariants.{Read, Write, Text}
 use Rattle.text_streams.specs.Faults.{IsReadingFault}
 use Rattle.text_streams.specs.Streams.{AppendsBeginning}
-use Rattle.word_counts.specs.Faults.{IsUnwrittenFault}
+use Rattle.commands.specs.Faults.{IsUnwrittenFault}
 
 module _ {S K : Type 0}
     (remaining : S → Option (List ℕ))  -- the bytes that reads give from here on, where they are known

@@ -1,16 +1,14 @@
-//! The lines of counts.
+//! The words of a text, counted by several workers, and the lines of their counts.
 
 ghost use Rattle.std.specs.Prelude.{◌≡◌, ◌↔◌, ◌≤◌, ◌++◌, false, true, string_bytes, IfErr, OnOk, OnErr};
 ghost use Rattle.std.specs.Io.KnownBytes.{Appends};
 ghost use Rattle.std.specs.List.{flat_map};
-ghost use Rattle.word_counts.specs.CountLines.{count_line, count_lines};
-ghost use Rattle.word_counts.specs.Faults.{IsCountCommandFault, IsWritingCountsFault, IsWritingFault};
+ghost use Rattle.commands.specs.CountLines.{count_line, count_lines};
+ghost use Rattle.commands.specs.Faults.{IsCountCommandFault, IsWritingCountsFault, IsWritingFault};
 ghost use Rattle.text_streams.specs.Streams.{AppendsBeginning};
-ghost use Rattle.word_counts.specs.Told.{TellsLines};
+ghost use Rattle.commands.specs.Told.{TellsLines};
 ghost use Rattle.word_counts.specs.WordCounts.{counted_texts};
 
-use super::merge::MANY;
-use super::{Open, count};
 use crate::buckets::buckets_for;
 use std::alloc::{AllocError, Global};
 use std::sync::Wait;
@@ -20,6 +18,8 @@ use string_cache::word::Limits;
 use string_cache::{Atom, EmptyStaticAtomSet, StaticTables};
 use text_streams::faults::AppFault;
 use text_streams::streams::{PIECE, Sink, Source, read_text, write_whole};
+use word_counts::count::MANY;
+pub use word_counts::count::{Gate, Open, WordCounts, count};
 
 /// Appends the line of a word and its number.
 fn append_count(out: &mut String, word: &str, n: u64) -> Result<(), AllocError>

@@ -4,7 +4,7 @@ use Rattle.std.specs.List.{flat_map}
 use Rattle.std.specs.Io.KnownBytes.{Appends}
 use Rattle.std.proofs.lemmas.List.{drop_more}
 use Rattle.string_cache.specs.AtomValue.{AtomValue}
-use Rattle.word_counts.specs.CountLines.{count_line}
+use Rattle.commands.specs.CountLines.{count_line}
 use Rattle.text_streams.specs.Streams.{AppendsBeginning}
 use Rattle.word_counts.specs.WordCounts.{counted_texts}
 use Rattle.text_streams.proofs.StreamLemmas.{appends_then, beginning_then}
