@@ -5,7 +5,8 @@ body in each of many functions, and each is judged by what is said of its own fu
 
 - It is refused where `search` left a goal of that function, where an error stands in that function's own folder of proofs, or where a loop
   that the body adds is asked for a measure.
-- Where its proofs name what the edit took away, as a variable or a goal, nothing is shown of the contract: it isn't refused.
+- An error of proofs that name what the edit took away, as a variable or a goal, or that aren't read at all, shows nothing of the contract: it
+  doesn't count.
 - A check without a line for the function says nothing of it.
 
 A body is given by its function, named by the end of its name as `rt check` prints it, and by what is replaced by what. It may change that
@@ -30,7 +31,8 @@ PARTS = ("src", "specs", "proofs")  # what a check reads of a crate
 LEFT = re.compile(r"`search` did not prove ((?:`[^`]*`(?:, (?:and )?| and )?)+)")
 MEASURE = re.compile(r"expected a measure in ")
 GOAL = re.compile(r"`([^`]*)`")
-GONE = re.compile(r"has no field|is not in scope|has no `|was not admitted|is no name")
+ERROR = re.compile(r"^(?:\./)?(proofs/\S+?):\d+:\d+: error: (.*(?:\n  .*)*)", re.MULTILINE)
+GONE = re.compile(r"has no field|is not in scope|has no `|was not admitted|is no name|does not read")
 GENERICS = re.compile(r"<[^<>]*>")
 
 
@@ -172,13 +174,10 @@ def goals_of(name, text, said):
         return []
     left = LEFT.search(text)
     own = f"proofs/{'/'.join(name.split('::')[1:])}/"
-    lines = [line.removeprefix("./") for line in said.splitlines()]
-    errors = [line.partition(": error")[2].lstrip(": ") for line in lines if line.startswith(own) and ": error" in line]
-    if any(GONE.search(error) for error in errors):
-        return []
+    errors = [error for file, error in ERROR.findall(said) if file.startswith(own)]
     goals = GOAL.findall(left[1]) if left else []
     goals += ["a loop's measure"] * bool(MEASURE.search(text))
-    return goals + [error[:60] for error in errors]
+    return goals + [error.partition("\n")[0][:60] for error in errors if not GONE.search(error)]
 
 
 def told_of(function, said):

@@ -101,6 +101,14 @@ pub trait Calls {
 SAID = """\
 ./proofs/low/third/Answers.antt:4:15: error: `returns`: `goal.returns`: module `Goals` has no `returns` that can be named from here
 ./proofs/low/fifth/Proof.antt:9:1: error: `walk`: expected type `A`
+./proofs/low/tenth/Answers.antt:3:9: error: `loop-preserved`: record `few.low.tenth.After-keep` (nearest: .keep)
+  has no field `take_out`
+  the fields that can be named here are `keep`
+./proofs/low/tenth/Answers.antt: error: rattle does not read this file, since the borrow checker does not cover the function
+./proofs/low/eleventh/Answers.antt:3:9: error: `kept`: record `few.low.eleventh.After-keep` (nearest: .keep)
+  has no field `take_out`
+./proofs/low/eleventh/Answers.antt:8:1: error: `returns`: the two types differ
+  expected type `A`
 fn few::low::first: no proof: expected answers in ./proofs/low/first/Answers.antt; `search` did not prove `returns`, `invariant_of-result`
 fn few::low::Few::second: no proof: it calls `few::low::first`, which is not proved
 fn few::low::third: not proved
@@ -112,6 +120,8 @@ fn few::low::fn::ninth::scope: no proof: expected answers; `search` did not prov
 fn few::low::fn::ninth::scope+FnOnce::call_once: no proof: it calls `few::low::fn::ninth::scope`, which is not proved
 fn few::low::ninth: no proof: it calls `few::low::fn::ninth::scope+FnOnce::call_once`, which is not proved
 fn few::low::ninth_of: proved
+fn few::low::tenth: not proved
+fn few::low::eleventh: not proved
 crate few: modules loaded=28 checked=21
 """
 
@@ -161,9 +171,11 @@ class Lines(unittest.TestCase):
 
     def test_a_name_that_is_gone_does_not(self):
         self.assertEqual(self.goals("third"), [])
+        self.assertEqual(self.goals("tenth"), [])
+        self.assertEqual(self.goals("eleventh"), ["`returns`: the two types differ"])
 
     def test_a_function_that_no_body_changes_has_to_be_proved(self):
-        bodies = [SimpleNamespace(function=name) for name in ("first", "fifth", "sixth", "low::seventh", "ninth")]
+        bodies = [SimpleNamespace(function=name) for name in ("first", "fifth", "sixth", "low::seventh", "ninth", "eleventh")]
         self.assertEqual(batches.strangers(bodies, SAID), [])
         self.assertEqual(batches.strangers(bodies[1:], SAID), ["few::low::first"])
 
