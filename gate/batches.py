@@ -32,7 +32,7 @@ LEFT = re.compile(r"`search` did not prove ((?:`[^`]*`(?:, (?:and )?| and )?)+)"
 MEASURE = re.compile(r"expected a measure in ")
 GOAL = re.compile(r"`([^`]*)`")
 ERROR = re.compile(r"^(?:\./)?(proofs/\S+?):\d+:\d+: error: (.*(?:\n  .*)*)", re.MULTILINE)
-GONE = re.compile(r"has no field|is not in scope|has no `|was not admitted|is no name|does not read")
+GONE = re.compile(r"has no field|is not in scope|has no `|was not admitted|is no name|projects from a record, but|does not read")
 GENERICS = re.compile(r"<[^<>]*>")
 
 
