@@ -32,7 +32,7 @@ LEFT = re.compile(r"`search` did not prove ((?:`[^`]*`(?:, (?:and )?| and )?)+)"
 MEASURE = re.compile(r"expected a measure in ")
 GOAL = re.compile(r"`([^`]*)`")
 ERROR = re.compile(r"^(?:\./)?(proofs/\S+?):\d+:\d+: error: (.*(?:\n  .*)*)", re.MULTILINE)
-GONE = re.compile(r"has no field|is not in scope|has no `|was not admitted|is no name|projects from a record, but|does not read")
+GONE = re.compile(r"has no field|is not in scope|has no `|was not admitted|is no name|projects from a record, but|rattle does not read")
 GENERICS = re.compile(r"<[^<>]*>")
 
 
@@ -174,10 +174,10 @@ def goals_of(name, text, said):
         return []
     left = LEFT.search(text)
     own = f"proofs/{'/'.join(name.split('::')[1:])}/"
-    errors = [error for file, error in ERROR.findall(said) if file.startswith(own)]
+    errors = [error.splitlines()[:2] for file, error in ERROR.findall(said) if file.startswith(own)]  # what is gone stands there
     goals = GOAL.findall(left[1]) if left else []
     goals += ["a loop's measure"] * bool(MEASURE.search(text))
-    return goals + [error.partition("\n")[0][:60] for error in errors if not GONE.search(error)]
+    return goals + [error[0][:60] for error in errors if not any(GONE.search(line) for line in error)]
 
 
 def told_of(function, said):

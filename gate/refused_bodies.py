@@ -73,6 +73,12 @@ def sum_of(crate):
     return found.hexdigest()
 
 
+def cost(folder):
+    """About how many seconds the bodies in the folder of a crate take: some for each, and more for each check."""
+    functions = [body.function for body in bodies_of(folder)[0]]
+    return 6 * len(functions) + 20 * max(map(functions.count, functions), default=0)
+
+
 def kept(crate_sum, body):
     """Where it is kept that the body was refused."""
     return KEPT / hashlib.sha256(f"{crate_sum} {body} {body.function} {body.places}".encode()).hexdigest()
@@ -128,7 +134,7 @@ def main():
     if set(given.crates) - set(folders):
         sys.exit(f"refused_bodies: no wrong bodies stand in {', '.join(sorted(set(given.crates) - set(folders)))}")
     chosen = [folders[name] for name in folders if not given.crates or name in given.crates]
-    chosen.sort(key=lambda folder: -len(list((folder / "refused").iterdir())))
+    chosen.sort(key=lambda folder: -cost(folder))
     with tempfile.TemporaryDirectory(prefix="refused-") as room, ThreadPoolExecutor(max(1, given.jobs)) as lanes:
         copies = batches.copies_of([folder.name for folder in chosen], Path(room))
         tried = lanes.map(lambda folder: try_crate(folder, copies[folder.name], given.proved, given.anew), chosen)
