@@ -14,18 +14,21 @@ MOST = 100_000  # requests of one call
 EVERY = sys.maxsize
 NAMES = {"memory": "requests for memory", "starts": "starts of threads"}  # what can be refused
 # How many requests a call may do without, by its test's name: in each worker that has words (the text has 20), each of two lists that
-# are collected asks ahead for the room that it may need, and goes on without it. Threads ask in another order in each run, so that a
-# number may meet such a request twice: with more than one worker there may be twice as many. Equal texts are looked for with two requests,
-# and where one of them is refused, without. A thread for half of the lists that are merged can be done without as well.
+# are collected asks ahead for the room that it may need, and goes on without it. Equal texts are looked for with two requests, and where one
+# of them is refused, without. A thread for half of the lists that are merged can be done without as well.
 SPARED = {
     "refusals::generated::doubles_are_told": 2,
     "refusals::programs::counts_by_one": 2,
-    "refusals::programs::counts_by_two": 8,
-    "refusals::programs::counts_by_three": 12,
-    "refusals::programs::counts_by_sixty_four": 80,
-    "refusals::programs::counts_of_many_by_four": 16,
+    "refusals::programs::counts_by_two": 4,
+    "refusals::programs::counts_by_three": 6,
+    "refusals::programs::counts_by_sixty_four": 40,
+    "refusals::programs::counts_of_many_by_four": 8,
     "refusals::starts::counts_of_many_by_four": 1,
 }
+
+# How often a number is tried while the call goes on without that request: threads ask in another order in each run, so that many numbers
+# may meet such a request once, but no more of them than there are such requests meet one each time.
+TRIES = 5
 
 # The most requests that a call may make, by its test's name: a new text has a cell, and a node where its bucket's first one has no room; in a
 # table that has room it has its bytes.
@@ -56,6 +59,10 @@ class Run:
     def passed(self):
         """Whether the test itself saw nothing wrong."""
         return self.status == 0 and "test result: ok" in self.said
+
+    def went_on(self):
+        """Whether something was refused, and the call gave what it gives."""
+        return self.refused > 0 and self.ended == "given"
 
     def wrong(self):
         """What is wrong with it, or None."""
@@ -106,13 +113,21 @@ class Refuser:
         """Whether the test passes where nothing is refused."""
         return self.run(test, "memory", 0, 0).passed()
 
+    def without(self, test, what, at):
+        """A run without this request: the first of some that is wrong or tells of the refusal, or the last of them."""
+        for _ in range(TRIES):
+            ran = self.run(test, what, at, at)
+            if ran.wrong() or not ran.went_on():
+                break
+        return ran
+
     def one_after_another(self, test, what):
         """Refuses each request in turn. Whether all is well, and what to say."""
         spare = sum(count for name, count in SPARED.items() if test.startswith(name))
         for at in range(1, MOST):
-            ran = self.run(test, what, at, at)
+            ran = self.without(test, what, at)
             wrong = ran.wrong()
-            if ran.refused and ran.ended == "given":
+            if ran.went_on():
                 spare -= 1
                 if spare < 0:
                     wrong = wrong or "the call doesn't say that it was refused"
