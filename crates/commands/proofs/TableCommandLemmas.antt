@@ -1,7 +1,6 @@
--- What the arguments spell, and that the bytes which were read are the text that a promise speaks of.
-use Rattle.std.proofs.Common.{◌≡◌, ℕ, List, Option, sym, subst, ap, ◌∙◌, inr, codes, [], ◌∷◌, String, string_bytes, length, get_or, arith}
-use Rattle.std.specs.Prelude.{IfErr, IfSome, Result, Err}
-use Rattle.std.specs.Io.KnownBytes.{Appends}
+-- What the arguments spell, and which fault the tables had.
+use Rattle.std.proofs.Common.{◌≡◌, ℕ, List, sym, subst, ap, ◌∙◌, codes, [], ◌∷◌, String, string_bytes, length, get_or, arith}
+use Rattle.std.specs.Prelude.{IfErr, Result, Err}
 use Rattle.std.proofs.lemmas.Fmt.{decimal_injective}
 use Rattle.table_generator.specs.Generated.{TellsTables}
 use Rattle.table_generator.specs.declared.tables.Tables.{Tables}
@@ -10,21 +9,6 @@ use Rattle.text_streams.specs.declared.faults.AppFault.{AppFault}
 use Rattle.text_streams.specs.declared.faults.AppFault.TheVariants.{Gen}
 use Rattle.commands.specs.Commands.{AreCount, AreGenerate, IsRequest, IsWorkers}
 use Rattle.commands.specs.Faults.{IsMakingFault}
-use Rattle.text_streams.specs.Streams.{AppendsBeginning}
-use Rattle.commands.specs.TableCommands.{IsAnswer, IsTableOutput, BeginsAnswer, BeginsTables, WritesAnswer}
-use Rattle.text_streams.proofs.StreamLemmas.{told_of_given}
-
--- an answer that is written, and a beginning of one
-pub answer_written : (a old new : Option (List ℕ)) (given text out : List ℕ) → IfSome a (λ bytes. bytes ≡ given) → text ≡ given → IsAnswer text out → Appends old new out → IfSome a (λ t. WritesAnswer t old new)
-answer_written a old new given text out spelt same is appended = told_of_given (λ t. WritesAnswer t old new) a given text spelt same (out, is, appended)
-
-pub answer_begun : (a old new : Option (List ℕ)) (given text out : List ℕ) → IfSome a (λ bytes. bytes ≡ given) → text ≡ given → IsAnswer text out → AppendsBeginning old new out → IfSome a (λ t. BeginsAnswer t old new)
-answer_begun a old new given text out spelt same is begun = told_of_given (λ t. BeginsAnswer t old new) a given text spelt same (inr (out, is, begun))
-
--- a beginning of tables
-pub tables_begun : (key bound : ℕ) (a old new : Option (List ℕ)) (given text out : List ℕ) → IfSome a (λ bytes. bytes ≡ given) → text ≡ given → IsTableOutput key bound text out → AppendsBeginning old new out
-    → IfSome a (λ t. BeginsTables key bound t old new)
-tables_begun key bound a old new given text out spelt same is begun = told_of_given (λ t. BeginsTables key bound t old new) a given text spelt same (inr (out, is, begun))
 
 -- a fault of the tables, told of the lines
 pub told_fault : (texts lines : List (List ℕ)) (key bound : ℕ) (r : Result Tables GenFault) (g : GenFault) → TellsTables texts key bound r → r ≡ Err g → texts ≡ lines → TellsTables lines key bound (Err g)

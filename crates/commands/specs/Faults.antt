@@ -1,7 +1,9 @@
 -- Which faults of the commands may come, and when.
+use Rattle.std.specs.Prelude.{◌≢◌}
 use Rattle.string_cache.specs.Faults.{IsInternFault}
 use Rattle.table_generator.specs.declared.tables.GenFault.{GenFault}
 use Rattle.text_streams.specs.declared.faults.AppFault.{AppFault}
+use Rattle.text_streams.specs.declared.faults.AppFault.TheVariants.{Write}
 use Rattle.text_streams.specs.Faults.{IsOf, memory, streams}
 
 -- once all is read and before anything is written: want of memory, or a fault of the tables of which P holds
@@ -31,6 +33,10 @@ IsWritingFault fault = IsOf (record memory { writes = Unit {0}; interns = IsInte
 -- before anything is written
 abbrev pub IsUnwrittenFault : AppFault → Type 0
 IsUnwrittenFault fault = IsOf (record memory { reads = Unit {0}; texts = Unit {0}; scripts = Unit {0}; interns = λ fault. ⊥ }) fault
+
+-- of anything but a write
+abbrev pub IsOfNoWrite : AppFault → Type 0
+IsOfNoWrite fault = fault ≢ Write
 
 -- from counting words and writing lines of them
 abbrev pub IsWritingCountsFault : AppFault → Type 0

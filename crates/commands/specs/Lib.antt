@@ -2,7 +2,6 @@ pub mod Commands
 pub mod CountLines
 pub mod Faults
 pub mod Program
-pub mod Replay
 pub mod TableCommands
 pub mod TimesSeen
 pub mod Told

@@ -1,5 +1,5 @@
 -- The line that is written for each word of a text.
-use Rattle.std.specs.Prelude.{ℕ, List, [], ◌∷◌, ◌++◌, nat_lt, codes, decimal, if◌then◌else◌}
+use Rattle.std.specs.Prelude.{◌≡◌, ℕ, List, [], ◌∷◌, ◌++◌, nat_lt, codes, decimal, if◌then◌else◌}
 use Rattle.word_counts.specs.Words.{times_seen, words}
 
 -- the line of a word with n equal words before it
@@ -15,3 +15,7 @@ lines_after before (word ∷ rest) = seen_line word (times_seen before word) ++ 
 -- what `words` writes of a text
 abbrev pub word_lines : List ℕ → List ℕ
 word_lines text = lines_after [] (words text)
+
+-- the output is those lines
+abbrev pub AreWordLines : List ℕ → List ℕ → Type 0
+AreWordLines text output = output ≡ word_lines text

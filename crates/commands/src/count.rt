@@ -3,10 +3,10 @@
 ghost use Rattle.std.specs.Prelude.{◌≡◌, ◌↔◌, ◌≤◌, ◌++◌, false, true, string_bytes, IfErr, OnOk, OnErr};
 ghost use Rattle.std.specs.Io.KnownBytes.{Appends};
 ghost use Rattle.std.specs.List.{flat_map};
-ghost use Rattle.commands.specs.CountLines.{count_line, count_lines};
-ghost use Rattle.commands.specs.Faults.{IsCountCommandFault, IsWritingCountsFault, IsWritingFault};
+ghost use Rattle.commands.specs.CountLines.{AreCountLines, count_line, count_lines};
+ghost use Rattle.commands.specs.Faults.{IsCountCommandFault, IsUnwrittenFault, IsWritingCountsFault, IsWritingFault};
 ghost use Rattle.text_streams.specs.Streams.{AppendsBeginning};
-ghost use Rattle.commands.specs.Told.{TellsLines};
+ghost use Rattle.commands.specs.Told.{Tells};
 ghost use Rattle.word_counts.specs.WordCounts.{counted_texts};
 
 use crate::buckets::buckets_for;
@@ -111,8 +111,8 @@ pub fn count_command<R: Threads + Wait + Sync, S: Source, K: Sink>(
     requires high { n ≤ 64 }
     requires reader { S.has_failed reader.old ≡ false }
     requires writer { K.has_failed writer.old ≡ false }
-    ensures { TellsLines S.remaining S.has_ended S.has_failed K.contents K.has_failed
-        count_lines IsCountCommandFault reader.old reader.new writer.old writer.new result }
+    ensures { Tells S.remaining S.has_ended S.has_failed K.contents K.has_failed
+        AreCountLines IsUnwrittenFault IsCountCommandFault reader.old reader.new writer.old writer.new result }
 {
     let text = read_text(alloc, reader)?;
     write_counts(rt, alloc, n, &text, writer)

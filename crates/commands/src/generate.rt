@@ -1,14 +1,12 @@
 //! The commands that make static tables of a list of texts, and check a table text.
 
-ghost use Rattle.std.specs.Prelude.{◌≡◌, ◌≢◌, ◌↔◌, ◌++◌, false, true, string_bytes, IfOk, IfErr, IfSome, OnOk, OnErr, Err};
-ghost use Rattle.std.specs.Str.{IsUtf8};
-ghost use Rattle.std.specs.Io.KnownBytes.{IsAtEnd, Keeps};
+ghost use Rattle.std.specs.Prelude.{◌≡◌, ◌++◌, false, true, string_bytes, IfOk, IfErr, IfSome, Err};
 ghost use Rattle.table_generator.specs.Generated.{texts_of, TellsTables};
 ghost use Rattle.replay_script.specs.Script.{script_lines};
 ghost use Rattle.table_generator.specs.declared.tables.GenFault.{GenFault};
-ghost use Rattle.text_streams.specs.Faults.{IsReadingFault};
-ghost use Rattle.commands.specs.Faults.{IsCheckFault, IsGenerateFault, IsMakingFault};
-ghost use Rattle.commands.specs.TableCommands.{IsTableOutput, IsAnswer, WritesTables, BeginsTables, WritesAnswer, BeginsAnswer};
+ghost use Rattle.commands.specs.Faults.{IsCheckFault, IsGenerateFault, IsMakingFault, IsOfNoWrite};
+ghost use Rattle.commands.specs.TableCommands.{IsTableOutput, IsAnswer};
+ghost use Rattle.commands.specs.Told.{Tells};
 
 use replay_script::next_line;
 use std::alloc::{AllocError, Global};
@@ -54,21 +52,10 @@ pub fn generate_command<S: Source, K: Sink>(
 ) -> Result<(), AppFault>
     requires reader { S.has_failed reader.old ≡ false }
     requires writer { K.has_failed writer.old ≡ false }
-    ensures ended { OnOk result (S.has_ended reader.new ≡ true × IsAtEnd (S.remaining reader.new)) }
-    ensures utf8 { OnOk result (IfSome (S.remaining reader.old) IsUtf8) }
-    ensures tables { OnOk result (IfSome (S.remaining reader.old) (λ bytes.
-        WritesTables key bound bytes (K.contents writer.old) (K.contents writer.new))) }
-    ensures beginning { OnErr result (IfSome (S.remaining reader.old) (λ bytes.
-        BeginsTables key bound bytes (K.contents writer.old) (K.contents writer.new))) }
-    ensures unwritten { IfErr result (λ fault. fault ≢ AppFault.Write → Keeps (K.contents writer.old) (K.contents writer.new)) }
-    ensures fault { IfErr result IsGenerateFault }
-    ensures reading { IfErr result (λ fault. S.has_ended reader.new ≡ false → IsReadingFault fault) }
-    ensures text { result ≡ Err AppFault.Text → S.has_ended reader.new ≡ true
-        × IfSome (S.remaining reader.old) (λ bytes. ¬ (IsUtf8 bytes)) }
+    ensures told { Tells S.remaining S.has_ended S.has_failed K.contents K.has_failed
+        (IsTableOutput key bound) IsOfNoWrite IsGenerateFault reader.old reader.new writer.old writer.new result }
     ensures refused { (g : GenFault) → result ≡ Err (AppFault.Gen g) → S.has_ended reader.new ≡ true
         × IfSome (S.remaining reader.old) (λ bytes. TellsTables (script_lines bytes) key bound (Err g)) }
-    ensures read { (result ≡ Err AppFault.Read) ↔ (S.has_failed reader.new ≡ true) }
-    ensures write { (result ≡ Err AppFault.Write) ↔ (K.has_failed writer.new ≡ true) }
 {
     let text = read_text(alloc, reader)?;
     let output = output_of(alloc, key, bound, &text)?;
@@ -98,19 +85,8 @@ pub fn check_command<S: Source, K: Sink>(
 ) -> Result<(), AppFault>
     requires reader { S.has_failed reader.old ≡ false }
     requires writer { K.has_failed writer.old ≡ false }
-    ensures ended { OnOk result (S.has_ended reader.new ≡ true × IsAtEnd (S.remaining reader.new)) }
-    ensures utf8 { OnOk result (IfSome (S.remaining reader.old) IsUtf8) }
-    ensures answer { OnOk result (IfSome (S.remaining reader.old) (λ bytes.
-        WritesAnswer bytes (K.contents writer.old) (K.contents writer.new))) }
-    ensures beginning { OnErr result (IfSome (S.remaining reader.old) (λ bytes.
-        BeginsAnswer bytes (K.contents writer.old) (K.contents writer.new))) }
-    ensures unwritten { IfErr result (λ fault. fault ≢ AppFault.Write → Keeps (K.contents writer.old) (K.contents writer.new)) }
-    ensures fault { IfErr result IsCheckFault }
-    ensures reading { IfErr result (λ fault. S.has_ended reader.new ≡ false → IsReadingFault fault) }
-    ensures text { result ≡ Err AppFault.Text → S.has_ended reader.new ≡ true
-        × IfSome (S.remaining reader.old) (λ bytes. ¬ (IsUtf8 bytes)) }
-    ensures read { (result ≡ Err AppFault.Read) ↔ (S.has_failed reader.new ≡ true) }
-    ensures write { (result ≡ Err AppFault.Write) ↔ (K.has_failed writer.new ≡ true) }
+    ensures { Tells S.remaining S.has_ended S.has_failed K.contents K.has_failed
+        IsAnswer IsOfNoWrite IsCheckFault reader.old reader.new writer.old writer.new result }
 {
     let text = read_text(alloc, reader)?;
     let answer = answer_of(alloc, &text)?;

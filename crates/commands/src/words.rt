@@ -6,9 +6,9 @@ ghost use Rattle.std.specs.Str.{IsUtf8};
 ghost use Rattle.string_cache.specs.Faults.{IsInternFault};
 ghost use Rattle.commands.specs.TimesSeen.{count_of, CountsOneMore};
 ghost use Rattle.text_streams.specs.Streams.{AppendsBeginning};
-ghost use Rattle.commands.specs.Told.{TellsLines};
-ghost use Rattle.commands.specs.Faults.{IsWordsFault, IsWritingFault};
-ghost use Rattle.commands.specs.WordLines.{seen_line, word_lines};
+ghost use Rattle.commands.specs.Told.{Tells};
+ghost use Rattle.commands.specs.Faults.{IsUnwrittenFault, IsWordsFault, IsWritingFault};
+ghost use Rattle.commands.specs.WordLines.{AreWordLines, seen_line, word_lines};
 
 use crate::buckets::buckets_for;
 use std::alloc::{AllocError, Global};
@@ -117,7 +117,7 @@ fn write_words<I: Interner, K: Sink>(
 }
 
 /// Reads all, interns its words in order, and writes a line for each.
-fn tell<I: Interner, S: Source, K: Sink>(
+fn list_words<I: Interner, S: Source, K: Sink>(
     alloc: Global,
     interner: &mut I,
     reader: &mut S,
@@ -125,8 +125,8 @@ fn tell<I: Interner, S: Source, K: Sink>(
 ) -> Result<(), AppFault>
     requires reader { S.has_failed reader.old ≡ false }
     requires writer { K.has_failed writer.old ≡ false }
-    ensures { TellsLines S.remaining S.has_ended S.has_failed K.contents K.has_failed
-        word_lines IsWordsFault reader.old reader.new writer.old writer.new result }
+    ensures { Tells S.remaining S.has_ended S.has_failed K.contents K.has_failed
+        AreWordLines IsUnwrittenFault IsWordsFault reader.old reader.new writer.old writer.new result }
 {
     let text = read_text(alloc, reader)?;
     write_words(alloc, interner, &text, writer)
@@ -145,11 +145,11 @@ pub fn words<R: Wait, Static: StaticTables, S: Source, K: Sink>(
 ) -> Result<(), AppFault>
     requires reader { S.has_failed reader.old ≡ false }
     requires writer { K.has_failed writer.old ≡ false }
-    ensures { TellsLines S.remaining S.has_ended S.has_failed K.contents K.has_failed
-        word_lines IsWordsFault reader.old reader.new writer.old writer.new result }
+    ensures { Tells S.remaining S.has_ended S.has_failed K.contents K.has_failed
+        AreWordLines IsUnwrittenFault IsWordsFault reader.old reader.new writer.old writer.new result }
 {
     let alloc = set.allocator();
-    tell(alloc, &mut Holder::new(rt, set), reader, writer)
+    list_words(alloc, &mut Holder::new(rt, set), reader, writer)
 }
 
 /// As `words`, over a set of this call's own, whose number of buckets fits the input.
@@ -161,8 +161,8 @@ pub fn words_command<R: Wait, S: Source, K: Sink>(
 ) -> Result<(), AppFault>
     requires reader { S.has_failed reader.old ≡ false }
     requires writer { K.has_failed writer.old ≡ false }
-    ensures { TellsLines S.remaining S.has_ended S.has_failed K.contents K.has_failed
-        word_lines IsWordsFault reader.old reader.new writer.old writer.new result }
+    ensures { Tells S.remaining S.has_ended S.has_failed K.contents K.has_failed
+        AreWordLines IsUnwrittenFault IsWordsFault reader.old reader.new writer.old writer.new result }
 {
     let text = read_text(alloc, reader)?;
     let buckets = buckets_for(text.len());
@@ -179,9 +179,9 @@ pub fn words_alone<S: Source, K: Sink>(
 ) -> Result<(), AppFault>
     requires reader { S.has_failed reader.old ≡ false }
     requires writer { K.has_failed writer.old ≡ false }
-    ensures { TellsLines S.remaining S.has_ended S.has_failed K.contents K.has_failed
-        word_lines IsWordsFault reader.old reader.new writer.old writer.new result }
+    ensures { Tells S.remaining S.has_ended S.has_failed K.contents K.has_failed
+        AreWordLines IsUnwrittenFault IsWordsFault reader.old reader.new writer.old writer.new result }
 {
     let mut table = Table::<EmptyStaticAtomSet>::new(alloc)?;
-    tell(alloc, &mut table, reader, writer)
+    list_words(alloc, &mut table, reader, writer)
 }

@@ -78,7 +78,7 @@ returns-in-Err g c = record {
         let outcome : w.generate_command-outcome.result ≡ Err c.in-Err.fault = sym w.outcome-is ∙ c.in-Err.is in
         record {
           all = λ status. absurd (omega (arith, status));
-          beginning = λ _. rw (same_key, same_bound, w.output-is) (rw outcome at w.generate_command-outcome.ensures.beginning);
+          beginning = λ _. rw (same_key, same_bound, w.output-is) (rw outcome at w.generate_command-outcome.ensures.told.beginning);
           no_other = omega arith;
         }
     | in-Check w ↦ let is = w.in-Check.is in cc (e, is)
