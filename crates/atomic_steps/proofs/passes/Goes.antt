@@ -336,7 +336,7 @@ module _ (tables : Tables) where
 pub pass_is_steps_all : {S : Type 0} → PassIsSteps S
 pass_is_steps_all tables limits n before w taken party bucket take some few leads does b replies asked room =
     let held = held_by tables w (held_all tables (opening limits n) (held_opening tables limits n some few) before w leads) (record { party = party; does = take; reply = reply.Taken }) taken does in
-    let t = took_event tables w party take bucket taken b does in
+    let t = took_event tables w party take taken does in
     let same : t.pass.bucket ≡ bucket = (let e : Some bucket ≡ Some t.pass.bucket = sym b ∙ t.bucket in cc) in
     let begun = text_taken take in
     let plan = plan_of room begun (list_of taken bucket) replies in

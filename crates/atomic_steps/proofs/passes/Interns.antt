@@ -1,5 +1,5 @@
 -- A pass interns its text once.
-use Rattle.std.proofs.Common.{◌≡◌, ℕ, ◌⊎◌, inl, inr, Bool, true, false, cond, List, [], ◌∷◌, ◌++◌, length, Option, None, Some, refl, sym, ap, ◌∙◌, subst, append_assoc}
+use Rattle.std.proofs.Common.{◌≡◌, ℕ, ◌⊎◌, inl, inr, Bool, true, false, cond, List, [], ◌∷◌, ◌++◌, Option, None, Some, refl, sym, ap, ◌∙◌, subst, append_assoc}
 use Rattle.std.specs.Prelude.{◌==◌}
 use Rattle.std.proofs.lemmas.Bool.{cases_eq}
 use Rattle.std.proofs.lemmas.List.Elements.{filter-append}
@@ -12,9 +12,9 @@ use Rattle.atomic_steps.specs.World.{PartyPass, World}
 use Rattle.atomic_steps.specs.Steps.{pass_of, step}
 use Rattle.atomic_steps.specs.Runs.{Made, Event, Leads, call_of, history_of}
 use Rattle.atomic_steps.specs.Theorem.{Stays, event, interned_by, texts_in, text_taken, made_by, own_calls}
-use Rattle.atomic_steps.proofs.passes.Parties.{Decided, own_event, other_event, took_event, bucket_of_text, leads-append, others_intern_nothing, by_own}
+use Rattle.atomic_steps.proofs.passes.Parties.{Decided, own_event, other_event, took_event, leads-append, others_intern_nothing, by_own}
 use Rattle.atomic_steps.proofs.passes.Parties as passes
-use Rattle.text_forms.specs.Tables.{Tables, bucket_of}
+use Rattle.text_forms.specs.Tables.{Tables}
 
 interned_by-append : (party : ℕ) (xs ys : List Made) → interned_by party (xs ++ ys) ≡ interned_by party xs ++ interned_by party ys
 interned_by-append party [] ys = refl
@@ -75,14 +75,14 @@ module _ (tables : Tables) where
   module _ (w v : World) (party : ℕ) (take : Step) (text : List ℕ) (is_text : text_taken take ≡ Some text) where
     silently : (mid : World) (rest : List Event) → step tables w party take ≡ (reply.Taken, mid) → interned_by party (history_of tables w (event party take reply.Taken ∷ rest)) ≡ interned_by party (history_of tables mid rest)
     silently mid rest does =
-        let t = took_event tables w party take (bucket_of tables (length w.lasts) text) mid (bucket_of_text tables (length w.lasts) take text is_text) does in
+        let t = took_event tables w party take mid does in
         ap (λ (cs : List Made). interned_by party (cs ++ history_of tables (step tables w party take).1 rest)) t.silent
         ∙ ap (λ (u : World). interned_by party (history_of tables u rest)) (ap (λ (o : StepReply × World). o.1) does)
 
     pub interns_at_most : (since : List Event) → Leads tables w (event party take reply.Taken ∷ since) v → Stays party since
         → let texts = interned_by party (history_of tables w (event party take reply.Taken ∷ since)) in (texts ≡ []) ⊎ (texts ≡ text ∷ [])
     interns_at_most since leads stays =
-        let t = took_event tables w party take (bucket_of tables (length w.lasts) text) leads.0 (bucket_of_text tables (length w.lasts) take text is_text) leads.1 in
+        let t = took_event tables w party take leads.0 leads.1 in
         let went = goes_on leads.0 party t.pass t.found since v leads.2 stays in
         let start = silently leads.0 since leads.1 in
         elim went.decided [
@@ -94,7 +94,7 @@ module _ (tables : Tables) where
         → interned_by party (history_of tables w (event party take reply.Taken ∷ middle ++ event party Leave reply.Left ∷ [])) ≡ text ∷ []
     interns_once middle leads stays =
         let mid = leads.0 in
-        let t = took_event tables w party take (bucket_of tables (length w.lasts) text) mid (bucket_of_text tables (length w.lasts) take text is_text) leads.1 in
+        let t = took_event tables w party take mid leads.1 in
         let leave = event party Leave reply.Left in
         let parts = leads-append tables mid v middle (leave ∷ []) leads.2 in
         let went = goes_on mid party t.pass t.found middle parts.0 parts.1 stays in

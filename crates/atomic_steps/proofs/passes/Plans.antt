@@ -21,6 +21,7 @@ use Rattle.atomic_steps.specs.PassSteps.{Item, item, list_of, steps_of_all, end_
 use Rattle.atomic_steps.specs.Sound.{At, SoundPass, SoundWorld}
 use Rattle.atomic_steps.proofs.lists.Facts.{implied, has_old, has_new, numbered_all, at_set_cases, at_push_cases, at_one, if_case, find-all, at_set_other, false_is_true}
 use Rattle.atomic_steps.proofs.worlds.Kept.{same_text}
+use Rattle.atomic_steps.proofs.worlds.Outcomes.{outcome}
 use Rattle.atomic_steps.proofs.passes.Parties.{of_party, replaced_same, others_keep, is_party}
 use Rattle.atomic_steps.proofs.worlds.Apart.{SameIn, same_in, same_change, others_leave}
 use Rattle.atomic_steps.proofs.lists.Items.{numbers, Falls, items, items_same, items_push, items_cut, is_other, filter_reverse}
@@ -183,7 +184,7 @@ module _ (tables : Tables) where
     others_go held q n s =
         let same = others_leave tables w held party pass m.found q n s in
         record {
-          found = others_keep tables w party pass m.found q n s;
+          found = others_keep tables w party pass m.found q n (outcome tables w q s);
           wants = m.wants;
           there = stand_on pass.bucket w.entries (step tables w q s).1.entries same rest m.there;
           top = m.top;

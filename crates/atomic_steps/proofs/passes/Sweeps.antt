@@ -1,21 +1,23 @@
 -- One party that sweeps all buckets leaves exactly the entries with a holder.
-use Rattle.std.proofs.Common.{◌≡◌, ℕ, ◌+◌, ◌<◌, ◌≢◌, inl, inr, Bool, true, false, List, [], ◌∷◌, ◌++◌, length, Option, None, Some, refl, sym, ap, ◌∙◌, subst, arith, zero, suc, append_assoc}
-use Rattle.std.specs.Prelude.{slice_get, slice_set, nat_lt, ◌==◌, ◌&&◌, is_none}
+use Rattle.std.proofs.Common.{◌≡◌, ℕ, ◌+◌, ◌<◌, ◌≢◌, inl, inr, true, false, List, [], ◌∷◌, ◌++◌, length, Option, None, Some, refl, sym, ap, ◌∙◌, subst, arith, zero, suc, append_assoc}
+use Rattle.std.specs.Prelude.{slice_set}
 use Rattle.std.specs.List.{AllByRecursion}
 use Rattle.std.proofs.lemmas.Bool.{cases_eq}
 use Rattle.atomic_steps.specs.declared.steps.world_entry.Place.TheVariants as place
 use Rattle.atomic_steps.specs.declared.steps.Step.{Step}
-use Rattle.atomic_steps.specs.declared.steps.Step.TheVariants.{TakeIntern, TakeSweep, Add, Link, Clone, Give, Unlink, Free, Leave}
+use Rattle.atomic_steps.specs.declared.steps.Step.TheVariants.{TakeSweep, Give, Leave}
 use Rattle.atomic_steps.specs.declared.steps.StepReply.{StepReply}
 use Rattle.atomic_steps.specs.declared.steps.StepReply.TheVariants as reply
-use Rattle.atomic_steps.specs.World.{WorldEntry, PartyPass, World, is_linked, is_unlinked_by}
-use Rattle.atomic_steps.specs.Steps.{pass_of, is_linked_in, wants, has, take_bucket, add, link, clone, unlink, all_found_dying, all_looked_at, step}
+use Rattle.atomic_steps.specs.World.{WorldEntry, World, is_linked}
+use Rattle.atomic_steps.specs.Steps.{step}
 use Rattle.atomic_steps.specs.Runs.{Event, Leads}
 use Rattle.atomic_steps.specs.Theorem.{event, IsAlone, Sweeps, OnlyHeldLinked}
 use Rattle.atomic_steps.specs.Sound.{At, Sound}
 use Rattle.text_forms.specs.Times.{times}
-use Rattle.atomic_steps.proofs.lists.Facts.{at_one, at_set_cases, at_push_cases, bind_case, guard_case, if_case, false_is_true}
+use Rattle.atomic_steps.proofs.lists.Facts.{at_one, at_set_cases, at_push_cases, false_is_true}
 use Rattle.atomic_steps.proofs.runs.Opening.{keeps_all}
+use Rattle.atomic_steps.proofs.worlds.Outcomes.{Outcome, outcome_of}
+use Rattle.atomic_steps.proofs.worlds.Outcomes as did
 use Rattle.atomic_steps.proofs.worlds.Entries.{sound_by, all_sound, stays_gone}
 use Rattle.atomic_steps.proofs.passes.Parties.{leads-append}
 use Rattle.atomic_steps.proofs.passes.Zeros.{AtZero, zero_taken, zero_all, zero_left}
@@ -55,76 +57,20 @@ came_set es j x y at zero_was bucket linked k z b zero_now = elim (at_set_cases 
 ]
 
 module _ (tables : Tables) where
-  module _ (w : World) (party : ℕ) where
-    abbrev From : StepReply × World → Type 0
-    From o = Came w.entries o.1.entries
-
-    add_came : (k : ℕ) (pass : PartyPass) (x : WorldEntry) → At w.entries k x → From (add w pass (suc k) x)
-    unfolding add
-    add_came k pass x at =
-        if_case From (x.count == 0) _ _ (λ e. came_same w.entries)
-        (λ e. if_case From (nat_lt x.count w.limits.holders) _ _
-        (λ r. came_set w.entries k x (record x { count = x.count + 1 }) at (λ h. absurd (omega (arith, h))) refl (λ h. h))
-        (λ r. came_same w.entries))
-
-    link_came : (pass : PartyPass) (room : Bool) (text : List ℕ) → From (link w pass room text)
-    unfolding link
-    link_came pass room text =
-        if_case From (nat_lt _ w.limits.serials) _ _
-        (λ e. if_case From room _ _ (λ r. came_push w.entries _ refl) (λ r. came_same w.entries))
-        (λ e. came_same w.entries)
-
-    clone_came : (k : ℕ) (x : WorldEntry) → At w.entries k x → From (clone w (suc k) x)
-    unfolding clone
-    clone_came k x at =
-        if_case From (nat_lt x.count w.limits.holders) _ _
-        (λ r. came_set w.entries k x (record x { count = x.count + 1 }) at (λ h. absurd (omega (arith, h))) refl (λ h. h))
-        (λ r. came_same w.entries)
-
-    unlink_came : (k : ℕ) (pass : PartyPass) (x : WorldEntry) → At w.entries k x → From (unlink w pass (suc k) x)
-    unfolding unlink
-    unlink_came k pass x at =
-        if_case From (x.count == 0) _ _
-        (λ e. came_set w.entries k x (record x { place = place.UnlinkedBy pass.party }) at (λ h. h) refl (λ h. false_is_true h))
-        (λ e. came_same w.entries)
-
-    take_came : (bucket : ℕ) (wanted : Option (List ℕ)) → From (take_bucket w party bucket wanted)
-    unfolding take_bucket
-    take_came bucket wanted = came_same w.entries
-
-    pub came : (s : Step) → ((e : ℕ) → s ≢ Give e) → From (step tables w party s)
-    came (TakeIntern t) n = guard_case From (is_none (pass_of w party) && _ && _) _ _ (came_same w.entries) (λ ok. take_came _ _)
-    came (TakeSweep bucket) n = guard_case From (is_none (pass_of w party) && nat_lt bucket (length w.lasts) && _) _ _ (came_same w.entries) (λ ok. take_came _ _)
-    came (Add zero) n = bind_case From (pass_of w party) _ _ (came_same w.entries) (λ pass p. came_same w.entries)
-    came (Add (suc k)) n =
-        bind_case From (pass_of w party) _ _ (came_same w.entries) (λ pass p.
-        bind_case From (slice_get w.entries k) _ _ (came_same w.entries) (λ x at.
-        guard_case From (is_linked_in pass.bucket x && wants pass x.text) _ _ (came_same w.entries) (λ ok. add_came k pass x at)))
-    came (Link room) n =
-        bind_case From (pass_of w party) _ _ (came_same w.entries) (λ pass p.
-        bind_case From pass.wanted _ _ (came_same w.entries) (λ text t.
-        guard_case From (all_found_dying w pass text) _ _ (came_same w.entries) (λ ok. link_came pass room text)))
-    came (Clone zero) n = came_same w.entries
-    came (Clone (suc k)) n = bind_case From (slice_get w.entries k) _ _ (came_same w.entries) (λ x at. guard_case From (has w.bag x.ticket) _ _ (came_same w.entries) (λ ok. clone_came k x at))
-    came (Give e) n = absurd (n e refl)
-    came (Unlink zero) n = bind_case From (pass_of w party) _ _ (came_same w.entries) (λ pass p. came_same w.entries)
-    came (Unlink (suc k)) n =
-        bind_case From (pass_of w party) _ _ (came_same w.entries) (λ pass p.
-        bind_case From (slice_get w.entries k) _ _ (came_same w.entries) (λ x at.
-        guard_case From (is_linked_in pass.bucket x) _ _ (came_same w.entries) (λ ok. unlink_came k pass x at)))
-    came (Free zero) n = came_same w.entries
-    came (Free (suc k)) n =
-        bind_case From (slice_get w.entries k) _ _ (came_same w.entries) (λ x at.
-        guard_case From (is_unlinked_by party x.place) _ _ (came_same w.entries) (λ ok. came_set w.entries k x (record x { place = place.Freed }) at (λ h. h) refl (λ h. false_is_true h)))
-    came Leave n =
-        bind_case From (pass_of w party) _ _ (came_same w.entries) (λ pass p. guard_case From (is_none pass.wanted && all_looked_at w pass) _ _ (came_same w.entries) (λ ok. came_same w.entries))
+  pub came : (w : World) (party : ℕ) {s : Step} {o : StepReply × World} → Outcome tables w party s o → ((e : ℕ) → s ≢ Give e) → Came w.entries o.1.entries
+  came w party (did.Added l wanted some room) n = came_set w.entries l.k l.entry (record l.entry { count = l.entry.count + 1 }) l.at (λ h. absurd (omega (arith, h))) refl (λ h. h)
+  came w party (did.Linked m left) n = came_push w.entries _ refl
+  came w party (did.Cloned h room) n = came_set w.entries h.k h.entry (record h.entry { count = h.entry.count + 1 }) h.at (λ h. absurd (omega (arith, h))) refl (λ h. h)
+  came w party (did.Given h) n = absurd (n (suc h.k) refl)
+  came w party (did.Unlinked l none) n = came_set w.entries l.k l.entry (record l.entry { place = place.UnlinkedBy l.pass.party }) l.at (λ h. h) refl (λ h. false_is_true h)
+  came w party (did.Freed k x at own) n = came_set w.entries k x (record x { place = place.Freed }) at (λ h. h) refl (λ h. false_is_true h)
+  came w party other n = came_same w.entries
 
   pub came_all : (party : ℕ) (w : World) (events : List Event) (v : World) → Leads tables w events v → IsAlone party events → Came w.entries v.entries
   came_all party w [] v leads alone k z at zero_now = came_same w.entries k z (subst (λ (u : World). At u.entries k z) leads at) zero_now
   came_all party w (e ∷ events) v leads alone k z at zero_now =
       let later = came_all party leads.0 events v leads.2 alone.1 k z at zero_now in
-      let one : Came w.entries leads.0.entries = subst (λ (o : StepReply × World). Came w.entries o.1.entries) leads.1 (came w e.party e.does alone.0.1) in
-      let first = one k later.entry later.at later.zero_then in
+      let first = came w e.party (outcome_of tables w e leads.0 leads.1) alone.0.1 k later.entry later.at later.zero_then in
       record { entry = first.entry; at = first.at; zero_then = first.zero_then; bucket = later.bucket ∙ first.bucket; linked = λ h. first.linked (later.linked h) }
 
   all_right : {X : Type 0} (P : X → Type 0) (xs ys : List X) → AllByRecursion P (xs ++ ys) → AllByRecursion P ys

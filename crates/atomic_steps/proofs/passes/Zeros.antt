@@ -96,7 +96,7 @@ module _ (tables : Tables) where
   pub zero_taken : (w : World) (party bucket : ℕ) (take : Step) (mid : World) → bucket_taken tables (length w.lasts) take ≡ Some bucket → step tables w party take ≡ (reply.Taken, mid)
       → (k : ℕ) (x : WorldEntry) → At mid.entries k x → x.count ≡ 0 → x.bucket ≡ bucket → AtZero mid party bucket k
   zero_taken w party bucket take mid b does k x at z right =
-      let t = took_event tables w party take bucket mid b does in
+      let t = took_event tables w party take mid does in
       let same : Some t.pass.bucket ≡ Some bucket = sym t.bucket ∙ b in
       record {
         entry = x;
@@ -112,7 +112,7 @@ module _ (tables : Tables) where
       → (k : ℕ) (x : WorldEntry) → At w.entries k x → x.bucket ≡ bucket → x.count ≡ 0 → (y : WorldEntry) × At v.entries k y × (is_linked y.place ≡ false)
   zeros_gone w sound party bucket take middle v b leads k x at right z =
       let mid = leads.0 in
-      let t = took_event tables w party take bucket mid b leads.1 in
+      let t = took_event tables w party take mid leads.1 in
       let sound' = sound_by tables w sound (event party take reply.Taken) mid leads.1 in
       let now : At mid.entries k x = subst (λ (es : List WorldEntry). At es k x) (sym t.entries) at in
       let parts = leads-append tables mid v middle (event party Leave reply.Left ∷ []) leads.2 in

@@ -12,7 +12,8 @@ use Rattle.atomic_steps.specs.Runs.{living_at, live_map, call_of, history_of, Ev
 use Rattle.text_forms.specs.Map.{InternMap, empty_map}
 use Rattle.atomic_steps.proofs.worlds.Kept.{same_map}
 use Rattle.text_forms.specs.Tables.{Tables}
-use Rattle.atomic_steps.proofs.runs.History.{Keeps, keeps}
+use Rattle.atomic_steps.proofs.worlds.Outcomes.{outcome_of}
+use Rattle.atomic_steps.proofs.runs.History.{keeps}
 
 module _ (tables : Tables) where
   replays-append : (limits : Bounds) (m : InternMap) (xs ys : List Made) (mid new : InternMap) → ReplaysHistory tables limits m xs mid → ReplaysHistory tables limits mid ys new → ReplaysHistory tables limits m (xs ++ ys) new
@@ -34,7 +35,7 @@ module _ (tables : Tables) where
   }
   keeps_all w sound (e ∷ events) new leads =
       let mid = leads.0 in
-      let one : Keeps tables w e.party e.does (e.reply, mid) = subst (Keeps tables w e.party e.does) leads.1 (keeps tables w sound e.party e.does) in
+      let one = keeps tables w sound e.party (outcome_of tables w e mid leads.1) in
       let rest = keeps_all mid one.sound events new leads.2 in
       let is : mid ≡ (step tables w e.party e.does).1 = sym (ap (λ (o : StepReply × World). o.1) leads.1) in
       record {

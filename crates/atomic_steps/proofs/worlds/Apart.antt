@@ -1,26 +1,25 @@
 -- Parties don't share a bucket, and an entry stands in its text's bucket.
-use Rattle.std.proofs.Common.{◌≡◌, ℕ, ◌+◌, ◌-◌, ◌≢◌, ◌⊎◌, inl, inr, Bool, true, false, cond, not, List, [], ◌∷◌, ◌++◌, length, Option, None, Some, refl, sym, ap, ◌∙◌, subst, zero, suc}
-use Rattle.std.specs.Prelude.{slice_get, slice_set, nat_lt, ◌==◌, ◌&&◌, is_none}
+use Rattle.std.proofs.Common.{◌≡◌, ℕ, ◌+◌, ◌-◌, ◌≢◌, ◌⊎◌, inl, inr, Bool, true, false, cond, not, List, [], ◌∷◌, ◌++◌, length, Option, None, Some, refl, sym, ap, ◌∙◌, subst}
+use Rattle.std.specs.Prelude.{slice_set, ◌==◌, is_none}
 use Rattle.std.specs.List.{find, list_all, AllByRecursion}
-use Rattle.std.specs.String.{string_bytes}
 use Rattle.std.proofs.lemmas.Bool.{eqb-true, eq-eqb, cases_eq, and_parts, and_from}
 use Rattle.atomic_steps.specs.declared.steps.world_entry.Place.TheVariants as place
 use Rattle.atomic_steps.specs.declared.steps.Step.{Step}
-use Rattle.atomic_steps.specs.declared.steps.Step.TheVariants.{TakeIntern, TakeSweep, Add, Link, Clone, Give, Unlink, Free, Leave}
 use Rattle.atomic_steps.specs.declared.steps.StepReply.{StepReply}
-use Rattle.atomic_steps.specs.Steps.{pass_of, is_free, is_linked_in, wants, has, take_bucket, add, link, clone, give, unlink, all_found_dying, all_looked_at, replaced, without_party, finds_dying, looks_at, decides, last_of, step}
-use Rattle.atomic_steps.specs.World.{WorldEntry, PartyPass, World, is_linked, is_unlinked_by}
+use Rattle.atomic_steps.specs.Steps.{pass_of, is_linked_in, replaced, without_party, step}
+use Rattle.atomic_steps.specs.World.{WorldEntry, PartyPass, World, is_linked}
 use Rattle.atomic_steps.specs.EntryNumbers.{AreWithin}
 use Rattle.atomic_steps.specs.Runs.{Event, Leads}
 use Rattle.atomic_steps.specs.Sound.{At, SoundPass, DiffersFrom, Apart, SoundWorld}
-use Rattle.atomic_steps.proofs.lists.Facts.{at_set_cases, at_push_cases, at_set_same, at_push_old, at_one, bind_case, guard_case, if_case, find-all, all_at, at_set_other, false_is_true}
+use Rattle.atomic_steps.proofs.lists.Facts.{at_set_cases, at_push_cases, at_set_same, at_push_old, at_one, if_case, find-all, all_at, all_push, at_set_other, false_is_true}
 use Rattle.atomic_steps.proofs.worlds.Kept.{all_replaced, all_without_party}
-use Rattle.atomic_steps.proofs.worlds.Entries.{sound_by}
+use Rattle.atomic_steps.proofs.worlds.Outcomes.{Outcome, outcome, outcome_of, PassesGo, passes_go}
+use Rattle.atomic_steps.proofs.worlds.Outcomes as did
 use Rattle.atomic_steps.proofs.runs.History.{keeps, not_both}
 use Rattle.atomic_steps.proofs.passes.Parties.{of_party, find_passes, none_is}
-use Rattle.text_forms.specs.Tables.{Tables, is_dynamic, bucket_of}
+use Rattle.text_forms.specs.Tables.{Tables, bucket_of}
 
--- ---- what a step may do to the entries, and to the passes
+-- ---- what a step may do to the entries
 
 pub data EntriesGo (w : World) (q : ℕ) (es : List WorldEntry) : Type 0 where
   Stay : es ≡ w.entries → EntriesGo w q es
@@ -31,21 +30,7 @@ pub data EntriesGo (w : World) (q : ℕ) (es : List WorldEntry) : Type 0 where
   -- a new entry in the bucket that the party holds
   Add_one : (pass : PartyPass) (y : WorldEntry) → pass_of w q ≡ Some pass → y.bucket ≡ pass.bucket → pass.wanted ≡ Some y.text → es ≡ w.entries ++ y ∷ [] → EntriesGo w q es
 
-pub data PassesGo (w : World) (q : ℕ) (ps : List PartyPass) : Type 0 where
-  As_they_are : ps ≡ w.passes → PassesGo w q ps
-  One_more : (new : PartyPass) → new.party ≡ q → is_none (pass_of w q) ≡ true → is_free w new.bucket ≡ true → ps ≡ w.passes ++ new ∷ [] → PassesGo w q ps
-  Next : (old new : PartyPass) → pass_of w q ≡ Some old → new.party ≡ old.party → new.bucket ≡ old.bucket → ps ≡ replaced w.passes new → PassesGo w q ps
-  One_less : ps ≡ without_party w.passes q → PassesGo w q ps
-
-pub record Goes (w : World) (q : ℕ) (o : StepReply × World) : Type 0 where
-  pub entries : EntriesGo w q o.1.entries
-  pub passes : PassesGo w q o.1.passes
-
 -- ---- no two passes have one party or one bucket
-
-all_push_one : (P : PartyPass → Type 0) (xs : List PartyPass) (y : PartyPass) → AllByRecursion P xs → P y → AllByRecursion P (xs ++ y ∷ [])
-all_push_one P [] y all py = (py, tt)
-all_push_one P (z ∷ xs) y all py = (all.0, all_push_one P xs y all.1 py)
 
 apart_push : (ps : List PartyPass) (new : PartyPass) → Apart ps → find (of_party new.party) ps ≡ None → list_all (λ (p : PartyPass). not (p.bucket == new.bucket)) ps ≡ true → Apart (ps ++ new ∷ [])
 apart_push [] new apart none free = (tt, tt)
@@ -54,7 +39,7 @@ apart_push (p ∷ ps) new apart none free =
     if_case (λ o. o ≡ None → Apart ((p ∷ ps) ++ new ∷ [])) (p.party == new.party) (Some p) (find (of_party new.party) ps)
     (λ e n. absurd (let f : ◌≡◌ {A = Option PartyPass} (Some p) None = n in cc))
     (λ e n. (
-      all_push_one (DiffersFrom p) ps new apart.0 (
+      all_push (DiffersFrom p) ps new apart.0 (
         λ h. (let a : (p.party == new.party) ≡ true = eq-eqb p.party new.party (sym h) in let c : true ≡ false = sym a ∙ e in absurd cc),
         λ h. (let a : (p.bucket == new.bucket) ≡ true = eq-eqb p.bucket new.bucket (sym h) in let c : false ≡ true = ap not (sym a) ∙ parts.0 in absurd cc),
       ),
@@ -149,86 +134,18 @@ same_push bucket es y n = record {
 
 module _ (tables : Tables) where
   module _ (w : World) (q : ℕ) where
-    abbrev G : StepReply × World → Type 0
-    G o = Goes w q o
-
-    nothing : (r : StepReply) → G (r, w)
-    nothing r = record { entries = Stay refl; passes = As_they_are refl }
-
     counts : (k : ℕ) (x : WorldEntry) (n : ℕ) → At w.entries k x → EntriesGo w q (slice_set w.entries k (record x { count = n }))
     counts k x n at = Change k x (record x { count = n }) at refl refl refl (λ l. l) (λ l. inl l) refl
 
-    take_goes : (bucket : ℕ) (wanted : Option (List ℕ)) → is_none (pass_of w q) ≡ true → is_free w bucket ≡ true → G (take_bucket w q bucket wanted)
-    unfolding take_bucket
-    take_goes bucket wanted idle free = record { entries = Stay refl; passes = One_more _ refl idle free refl }
-
-    add_goes : (k : ℕ) (pass : PartyPass) (x : WorldEntry) → pass_of w q ≡ Some pass → At w.entries k x → G (add w pass (suc k) x)
-    unfolding add
-    add_goes k pass x p at =
-        if_case G (x.count == 0) _ _ (λ e. record { entries = Stay refl; passes = Next pass (finds_dying pass (suc k)) p refl refl refl })
-        (λ e. if_case G (nat_lt x.count w.limits.holders) _ _
-        (λ r. record { entries = counts k x (x.count + 1) at; passes = Next pass (decides (looks_at pass (suc k))) p refl refl refl })
-        (λ r. record { entries = Stay refl; passes = Next pass (decides (looks_at pass (suc k))) p refl refl refl }))
-
-    link_goes : (pass : PartyPass) (room : Bool) (text : List ℕ) → pass_of w q ≡ Some pass → pass.wanted ≡ Some text → G (link w pass room text)
-    unfolding link
-    link_goes pass room text p wanted =
-        if_case G (nat_lt (last_of w pass.bucket) w.limits.serials) _ _
-        (λ e. if_case G room _ _
-        (λ r. record { entries = Add_one pass _ p refl wanted refl; passes = Next pass (decides (looks_at pass (length w.entries + 1))) p refl refl refl })
-        (λ r. record { entries = Stay refl; passes = Next pass (decides pass) p refl refl refl }))
-        (λ e. record { entries = Stay refl; passes = Next pass (decides pass) p refl refl refl })
-
-    clone_goes : (k : ℕ) (x : WorldEntry) → At w.entries k x → G (clone w (suc k) x)
-    unfolding clone
-    clone_goes k x at = if_case G (nat_lt x.count w.limits.holders) _ _ (λ r. record { entries = counts k x (x.count + 1) at; passes = As_they_are refl }) (λ r. nothing _)
-
-    give_goes : (k : ℕ) (x : WorldEntry) → At w.entries k x → G (give w (suc k) x)
-    unfolding give
-    give_goes k x at = record { entries = counts k x (x.count - 1) at; passes = As_they_are refl }
-
-    unlink_goes : (k : ℕ) (pass : PartyPass) (x : WorldEntry) → pass_of w q ≡ Some pass → At w.entries k x → x.bucket ≡ pass.bucket → G (unlink w pass (suc k) x)
-    unfolding unlink
-    unlink_goes k pass x p at b =
-        if_case G (x.count == 0) _ _
-        (λ e. record { entries = Change k x (record x { place = place.UnlinkedBy pass.party }) at refl refl refl (λ l. false_is_true l) (λ l. inr (pass, p, b)) refl; passes = As_they_are refl })
-        (λ e. record { entries = Stay refl; passes = Next pass (looks_at pass (suc k)) p refl refl refl })
-
-    pub goes : (s : Step) → G (step tables w q s)
-    goes (TakeIntern t) =
-        guard_case G (is_none (pass_of w q) && _ && _) _ _ (nothing _) (λ ok.
-        let parts = and_parts (is_none (pass_of w q) && is_dynamic tables (string_bytes t)) _ ok in
-        take_goes _ _ (and_parts (is_none (pass_of w q)) (is_dynamic tables (string_bytes t)) parts.0).0 parts.1)
-    goes (TakeSweep bucket) =
-        guard_case G (is_none (pass_of w q) && nat_lt bucket (length w.lasts) && _) _ _ (nothing _) (λ ok.
-        let parts = and_parts (is_none (pass_of w q) && nat_lt bucket (length w.lasts)) _ ok in
-        take_goes _ _ (and_parts (is_none (pass_of w q)) (nat_lt bucket (length w.lasts)) parts.0).0 parts.1)
-    goes (Add zero) = bind_case G (pass_of w q) _ _ (nothing _) (λ pass p. nothing _)
-    goes (Add (suc k)) =
-        bind_case G (pass_of w q) _ _ (nothing _) (λ pass p.
-        bind_case G (slice_get w.entries k) _ _ (nothing _) (λ x at.
-        guard_case G (is_linked_in pass.bucket x && wants pass x.text) _ _ (nothing _) (λ ok. add_goes k pass x p at)))
-    goes (Link room) =
-        bind_case G (pass_of w q) _ _ (nothing _) (λ pass p.
-        bind_case G pass.wanted _ _ (nothing _) (λ text t.
-        guard_case G (all_found_dying w pass text) _ _ (nothing _) (λ ok. link_goes pass room text p t)))
-    goes (Clone zero) = nothing _
-    goes (Clone (suc k)) = bind_case G (slice_get w.entries k) _ _ (nothing _) (λ x at. guard_case G (has w.bag x.ticket) _ _ (nothing _) (λ ok. clone_goes k x at))
-    goes (Give zero) = nothing _
-    goes (Give (suc k)) = bind_case G (slice_get w.entries k) _ _ (nothing _) (λ x at. guard_case G (has w.bag x.ticket) _ _ (nothing _) (λ ok. give_goes k x at))
-    goes (Unlink zero) = bind_case G (pass_of w q) _ _ (nothing _) (λ pass p. nothing _)
-    goes (Unlink (suc k)) =
-        bind_case G (pass_of w q) _ _ (nothing _) (λ pass p.
-        bind_case G (slice_get w.entries k) _ _ (nothing _) (λ x at.
-        guard_case G (is_linked_in pass.bucket x) _ _ (nothing _) (λ ok. unlink_goes k pass x p at (eqb-true x.bucket pass.bucket (and_parts (is_linked x.place) (x.bucket == pass.bucket) ok).1))))
-    goes (Free zero) = nothing _
-    goes (Free (suc k)) =
-        bind_case G (slice_get w.entries k) _ _ (nothing _) (λ x at.
-        guard_case G (is_unlinked_by q x.place) _ _ (nothing _) (λ ok.
-        record { entries = Change k x (record x { place = place.Freed }) at refl refl refl (λ l. false_is_true l) (λ l. absurd (not_both q x.place l ok)) refl; passes = As_they_are refl }))
-    goes Leave =
-        bind_case G (pass_of w q) _ _ (nothing _) (λ pass p.
-        guard_case G (is_none pass.wanted && all_looked_at w pass) _ _ (nothing _) (λ ok. record { entries = Stay refl; passes = One_less refl }))
+    entries_go : {s : Step} {o : StepReply × World} → Outcome tables w q s o → EntriesGo w q o.1.entries
+    entries_go (did.Added l wanted some room) = counts l.k l.entry (l.entry.count + 1) l.at
+    entries_go (did.Linked m left) = Add_one m.pass _ m.found refl m.wanted refl
+    entries_go (did.Cloned h room) = counts h.k h.entry (h.entry.count + 1) h.at
+    entries_go (did.Given h) = counts h.k h.entry (h.entry.count - 1) h.at
+    entries_go (did.Unlinked l none) =
+        Change l.k l.entry (record l.entry { place = place.UnlinkedBy l.pass.party }) l.at refl refl refl (λ h. false_is_true h) (λ h. inr (l.pass, l.found, l.inside)) refl
+    entries_go (did.Freed k x at own) = Change k x (record x { place = place.Freed }) at refl refl refl (λ l. false_is_true l) (λ l. absurd (not_both q x.place l own)) refl
+    entries_go other = Stay refl
 
   -- ---- what every reached world keeps besides
 
@@ -237,13 +154,13 @@ module _ (tables : Tables) where
     right_pass pass text p wanted = (find-all (of_party q) (SoundPass tables (length w.lasts) w.entries) w.passes pass p held.sound.each).right text wanted
 
     still_apart : (ps : List PartyPass) → PassesGo w q ps → Apart ps
-    still_apart ps (As_they_are e) = subst Apart (sym e) held.apart
-    still_apart ps (One_more new same idle free e) =
+    still_apart ps (did.As_they_are e) = subst Apart (sym e) held.apart
+    still_apart ps (did.One_more new same idle free e) =
         subst Apart (sym e) (apart_push w.passes new held.apart (none_is (find (of_party new.party) w.passes) (ap (λ (p : ℕ). is_none (pass_of w p)) same ∙ idle)) free)
-    still_apart ps (Next old new p same bucket e) =
+    still_apart ps (did.Next old new p same bucket e) =
         let is : new.party ≡ q = same ∙ eqb-true old.party q (find_passes (of_party q) w.passes old p) in
         subst Apart (sym e) (apart_replaced w.passes old new held.apart (ap (λ (p : ℕ). find (of_party p) w.passes) is ∙ p) same bucket)
-    still_apart ps (One_less e) = subst Apart (sym e) (apart_without w.passes q held.apart)
+    still_apart ps (did.One_less e) = subst Apart (sym e) (apart_without w.passes q held.apart)
 
     still_placed : (es : List WorldEntry) → EntriesGo w q es → (k : ℕ) (x : WorldEntry) → At es k x → x.bucket ≡ bucket_of tables (length w.lasts) x.text
     still_placed es (Stay e) k x at = held.placed k x (subst (λ (v : List WorldEntry). At v k x) e at)
@@ -256,11 +173,11 @@ module _ (tables : Tables) where
       | inr (i, f) ↦ ap (λ (v : WorldEntry). v.bucket) f ∙ bucket ∙ right_pass pass y.text p wanted ∙ ap (λ (v : WorldEntry). bucket_of tables (length w.lasts) v.text) (sym f)
     ]
 
-  -- an entry of the text that a pass wants stands in the pass's bucket
   -- each pass holds one of the world's buckets
   pub all_within : (w : World) → SoundWorld tables w → AreWithin w
   all_within w held at pass there = (all_at (SoundPass tables (length w.lasts) w.entries) w.passes at pass there held.sound.each).below
 
+  -- an entry of the text that a pass wants stands in the pass's bucket
   pub placed_in : (w : World) → SoundWorld tables w → (party : ℕ) (pass found : PartyPass) (text : List ℕ) → pass_of w party ≡ Some found → pass ≡ found → pass.wanted ≡ Some text
       → (k : ℕ) (x : WorldEntry) → At w.entries k x → x.text ≡ text → x.bucket ≡ pass.bucket
   placed_in w held party pass found text there same wanted k x at is =
@@ -269,12 +186,12 @@ module _ (tables : Tables) where
 
   pub held_by : (w : World) → SoundWorld tables w → (e : Event) (mid : World) → step tables w e.party e.does ≡ (e.reply, mid) → SoundWorld tables mid
   held_by w held e mid does =
-      let g : Goes w e.party (e.reply, mid) = subst (Goes w e.party) does (goes w e.party e.does) in
-      let same : length mid.lasts ≡ length w.lasts = subst (λ (o : StepReply × World). length o.1.lasts ≡ length w.lasts) does (keeps tables w held.sound e.party e.does).buckets in
+      let by = outcome_of tables w e mid does in
+      let kept = keeps tables w held.sound e.party by in
       record {
-        sound = sound_by tables w held.sound e mid does;
-        apart = still_apart w held e.party mid.passes g.passes;
-        placed = λ k x at. still_placed w held e.party mid.entries g.entries k x at ∙ ap (λ (n : ℕ). bucket_of tables n x.text) (sym same);
+        sound = kept.sound;
+        apart = still_apart w held e.party mid.passes (passes_go tables w e.party by);
+        placed = λ k x at. still_placed w held e.party mid.entries (entries_go w e.party by) k x at ∙ ap (λ (n : ℕ). bucket_of tables n x.text) (sym kept.buckets);
       }
 
   pub held_all : (w : World) → SoundWorld tables w → (events : List Event) (v : World) → Leads tables w events v → SoundWorld tables v
@@ -296,4 +213,4 @@ module _ (tables : Tables) where
         subst (SameIn pass.bucket w.entries) (sym e) (same_push pass.bucket w.entries y (λ inside. n (alone w.passes q party own pass held.apart p found (sym bucket ∙ inside))))
 
     pub others_leave : (s : Step) → SameIn pass.bucket w.entries (step tables w q s).1.entries
-    others_leave s = others_same (step tables w q s).1.entries (goes w q s).entries
+    others_leave s = others_same (step tables w q s).1.entries (entries_go w q (outcome tables w q s))
