@@ -1,13 +1,14 @@
 -- What a call says of the table that C holds.
-use Rattle.std.specs.Prelude.{◌≡◌, ℕ, ◌⊎◌, ◌<◌, ◌≤◌, ◌+◌, ◌-◌, ◌^◌, ◌++◌, ⊤, List, drop, length, min, Option, None, Some, Result}
+use Rattle.std.specs.Prelude.{◌≡◌, ℕ, ◌⊎◌, ◌<◌, ◌≤◌, ◌+◌, ◌-◌, ◌^◌, ◌++◌, ⊤, true, List, drop, length, min, Option, None, Some, Result}
 use Rattle.std.specs.List.{sum_by}
 use Rattle.std.specs.Str.{IsUtf8}
 use Rattle.string_cache_core.specs.Kept.{Kept, map_of}
 use Rattle.string_cache_core.specs.Memory.{IsMemory}
+use Rattle.string_cache_core.specs.Outcomes.{Given}
 use Rattle.string_cache_core.specs.Table.{Interns, Clones, IsHeld}
 use Rattle.string_cache_core.specs.Tables.{empty_tables}
 use Rattle.text_forms.specs.declared.faults.Fault.{Fault}
-use Rattle.string_cache_c.specs.Numbers.{IsReply, too_small}
+use Rattle.string_cache_c.specs.Numbers.{IsReply, not_held, too_small}
 use Rattle.string_cache_c.specs.declared.numbered_table.NumberedTable.{NumberedTable}
 
 -- ---- the table in the handle
@@ -35,6 +36,12 @@ InternsText old text number before after new =
 abbrev pub ClonesWord : Kept → ℕ → ℕ → Kept → Type 0
 ClonesWord old word number new =
     IsHeld empty_tables (map_of old) word → (reply : Result ℕ Fault) × Clones empty_tables old.limits (map_of old) word reply (map_of new) × IsReply reply number word word
+
+-- one holder less of the word; or it isn't held, and nothing changes
+abbrev pub GivesWord : Kept → ℕ → ℕ → Kept → Type 0
+GivesWord old word number new =
+    ((number ≡ 0) × Given empty_tables old word true new)
+    ⊎ ((number ≡ not_held) × ¬ (IsHeld empty_tables (map_of old) word) × (new ≡ old))
 
 -- The text stands at the front of the room where it has place, and its length is told in both cases.
 abbrev pub CopiesText : List ℕ → ℕ → List ℕ → List ℕ → ℕ → Type 0

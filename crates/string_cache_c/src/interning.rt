@@ -1,13 +1,13 @@
 //! Words come and go.
 
-ghost use Rattle.std.specs.Prelude.{◌≡◌, ◌≢◌, ◌∷◌, ◌++◌, ◌<◌, ◌≤◌, ◌⊎◌, ℕ, List, None, IsSome, length};
+ghost use Rattle.std.specs.Prelude.{◌≡◌, ◌≢◌, ◌∷◌, ◌<◌, ◌≤◌, ◌⊎◌, ℕ, List, None, IsSome, length};
 ghost use Rattle.std.specs.Str.{IsUtf8};
 ghost use Rattle.string_cache_core.specs.Kept.{map_of, tickets_of};
-ghost use Rattle.string_cache_core.specs.Order.{ComesLast, GoesFrom};
-ghost use Rattle.string_cache_core.specs.Table.{AreHeld, Gives, GivesOnce, HasOneTextEach, HasWord, IsHeld, IsTextOf, KeepsWord};
+ghost use Rattle.string_cache_core.specs.Order.{ComesLast};
+ghost use Rattle.string_cache_core.specs.Table.{AreHeld, GivesOnce, HasOneTextEach, HasWord, IsHeld, IsTextOf, KeepsWord};
 ghost use Rattle.string_cache_core.specs.Tables.{empty_tables};
 ghost use Rattle.string_cache_core.specs.Word.{inline_word};
-ghost use Rattle.string_cache_c.specs.Calls.{ClonesWord, IfOpen, InternsText, Within};
+ghost use Rattle.string_cache_c.specs.Calls.{ClonesWord, GivesWord, IfOpen, InternsText, Within};
 ghost use Rattle.string_cache_c.specs.Numbers.{closed, not_held, not_utf8};
 
 use crate::handle::ScTable;
@@ -93,12 +93,7 @@ pub extern "C" fn sc_table_clone(t: &mut ScTable, word: u64) -> u32
 #[unsafe(no_mangle)]
 pub extern "C" fn sc_table_give(t: &mut ScTable, word: u64) -> u32
     ensures none { t.old.seat.value ≡ None → result ≡ closed }
-    ensures limits { Within t.old.seat.value t.new.seat.value (λ old new. new.limits ≡ old.limits) }
-    ensures gives { Within t.old.seat.value t.new.seat.value (λ old new. IsHeld empty_tables (map_of old) word → (result ≡ 0) × Gives empty_tables old.limits (map_of old) word (map_of new)) }
-    ensures unheld { Within t.old.seat.value t.new.seat.value (λ old new. ¬ (IsHeld empty_tables (map_of old) word) → result ≡ not_held) }
-    ensures listed { Within t.old.seat.value t.new.seat.value (λ old new. (before after : List ℕ) → AreHeld empty_tables (map_of old) (before ++ word ∷ after) → AreHeld empty_tables (map_of new) (before ++ after)) }
-    ensures keeps { Within t.old.seat.value t.new.seat.value (λ old new. (other : ℕ) → (other ≢ word) ⊎ IsHeld empty_tables (map_of new) other → KeepsWord empty_tables (map_of old) (map_of new) other) }
-    ensures order { Within t.old.seat.value t.new.seat.value (λ old new. GoesFrom old word new) }
+    ensures given { Within t.old.seat.value t.new.seat.value (λ old new. GivesWord old word result new) }
     ensures number { (result ≡ 0) ⊎ (result ≡ not_held) ⊎ (result ≡ closed) }
     ensures err { result ≢ 0 → t.new.seat.value ≡ t.old.seat.value }
 {

@@ -1,14 +1,14 @@
 //! The table that C has, of the empty static type, with a number for each outcome.
 
-ghost use Rattle.std.specs.Prelude.{◌≡◌, ◌≢◌, ◌∷◌, ◌++◌, ◌<◌, ◌≤◌, ◌⊎◌, ◌↔◌, ℕ, List, None, Some, slice_get, length};
+ghost use Rattle.std.specs.Prelude.{◌≡◌, ◌≢◌, ◌∷◌, ◌<◌, ◌≤◌, ◌⊎◌, ◌↔◌, ℕ, List, None, Some, slice_get, length};
 ghost use Rattle.std.specs.Str.{IsUtf8};
 ghost use Rattle.string_cache_core.specs.Kept.{Pair, map_of, tickets_of};
 ghost use Rattle.string_cache_core.specs.Map.{HasHolders, IsHeldTicket};
-ghost use Rattle.string_cache_core.specs.Order.{ComesLast, GoesFrom};
-ghost use Rattle.string_cache_core.specs.Table.{AreHeld, Gives, GivesOnce, HasOneTextEach, HasWord, IsHeld, IsTextOf, KeepsWord};
+ghost use Rattle.string_cache_core.specs.Order.{ComesLast};
+ghost use Rattle.string_cache_core.specs.Table.{AreHeld, GivesOnce, HasOneTextEach, HasWord, IsHeld, IsTextOf, KeepsWord};
 ghost use Rattle.string_cache_core.specs.Tables.{empty_tables};
 ghost use Rattle.string_cache_core.specs.Word.{inline_word};
-ghost use Rattle.string_cache_c.specs.Calls.{ClonesWord, CopiesText, InternsText, TellsMemory};
+ghost use Rattle.string_cache_c.specs.Calls.{ClonesWord, CopiesText, GivesWord, InternsText, TellsMemory};
 ghost use Rattle.string_cache_c.specs.Numbers.{not_held, not_utf8};
 
 use crate::copies::copy_text;
@@ -98,12 +98,7 @@ impl NumberedTable {
 
     /// As `Table::give`, of a word that is held.
     pub fn give(&mut self, word: u64) -> u32
-        ensures limits { self.new.table.limits ≡ self.old.table.limits }
-        ensures gives { IsHeld empty_tables (map_of self.old.table) word → (result ≡ 0) × Gives empty_tables self.old.table.limits (map_of self.old.table) word (map_of self.new.table) }
-        ensures unheld { ¬ (IsHeld empty_tables (map_of self.old.table) word) → result ≡ not_held }
-        ensures listed { (before after : List ℕ) → AreHeld empty_tables (map_of self.old.table) (before ++ word ∷ after) → AreHeld empty_tables (map_of self.new.table) (before ++ after) }
-        ensures keeps { (other : ℕ) → (other ≢ word) ⊎ IsHeld empty_tables (map_of self.new.table) other → KeepsWord empty_tables (map_of self.old.table) (map_of self.new.table) other }
-        ensures order { GoesFrom self.old.table word self.new.table }
+        ensures given { GivesWord self.old.table word result self.new.table }
         ensures number { (result ≡ 0) ⊎ (result ≡ not_held) }
         ensures err { result ≢ 0 → self.new ≡ self.old }
     {

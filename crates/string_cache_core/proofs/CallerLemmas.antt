@@ -1,11 +1,13 @@
 -- What callers of a table cite beside its contracts.
-use Rattle.std.proofs.Common.{◌≡◌, sym, subst, refl, ℕ, inl, inr, List, [], ◌∷◌, ◌++◌, length, nat_lt, false}
+use Rattle.std.proofs.Common.{◌≡◌, sym, subst, refl, ℕ, inl, inr, List, [], ◌∷◌, ◌++◌, length, nat_lt, true, false, true≢false}
 use Rattle.std.specs.Str.{IsUtf8}
 use Rattle.std.proofs.lemmas.Bool.{le-ltb}
 use Rattle.text_forms.specs.declared.static_sets.TextForm.{TextForm}
 use Rattle.text_forms.specs.declared.static_sets.TextForm.TheVariants.{Inline}
 use Rattle.text_forms.specs.Map.{InternMap}
-use Rattle.string_cache_core.specs.Table.{AreHeld, HasWord, HasWordBy, IsHeld, IsTextOf}
+use Rattle.string_cache_core.specs.Kept.{Kept, map_of}
+use Rattle.string_cache_core.specs.Outcomes.{Given}
+use Rattle.string_cache_core.specs.Table.{AreHeld, Gives, HasWord, HasWordBy, IsHeld, IsTextOf}
 use Rattle.text_forms.specs.Tables.{Tables, fixed_word, form_of_text}
 use Rattle.text_forms.specs.Word.{IsInlineText, IsInlineWord, inline_word}
 use Rattle.string_cache_core.proofs.calls.Keep.{listed-held}
@@ -35,4 +37,11 @@ pub owned-lent : (t : Tables) (m : InternMap) (text : List ℕ) (word : ℕ) →
 owned-lent t m text word utf8 owned other = elim (has t m text word utf8 owned) [
   | inl i ↦ absurd (other (text, i.0, sym i.1))
   | inr lent ↦ lent
+]
+
+-- giving a word that is held is the map's call
+pub held-given : (t : Tables) (old : Kept) (word : ℕ) (new : Kept) → Given t old word true new → Gives t old.limits (map_of old) word (map_of new)
+held-given t old word new done = elim done.gives [
+  | inl x ↦ x.0
+  | inr x ↦ absurd (true≢false x.1)
 ]

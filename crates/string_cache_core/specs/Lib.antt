@@ -10,6 +10,7 @@ pub use Rattle.text_forms.specs.Map
 pub mod Memory
 pub mod Name
 pub mod Order
+pub mod Outcomes
 pub use Rattle.text_forms.specs.Packed
 pub use Rattle.text_forms.specs.Parts
 pub use Rattle.text_forms.specs.Pass

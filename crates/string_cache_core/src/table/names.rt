@@ -1,14 +1,15 @@
 //! A table for one kind of names.
 
-ghost use Rattle.std.specs.Prelude.{◌≡◌, ◌≢◌, ◌-◌, ◌<◌, ◌≤◌, ℕ, [], ◌∷◌, ◌++◌, ◌⊎◌, ◌↔◌, length, IfErr, IfOk, IfSome, IsSome, IsTrue, List, MatchOption, OnErr};
+ghost use Rattle.std.specs.Prelude.{◌≡◌, ◌-◌, ◌<◌, ◌≤◌, ℕ, [], ◌∷◌, ◌↔◌, length, IfErr, IfOk, IfSome, IsSome, List, MatchOption, OnErr};
 ghost use Rattle.std.specs.Str.{IsUtf8};
 ghost use Rattle.text_forms.specs.Faults.{IsInternFault};
 ghost use Rattle.text_forms.specs.declared.faults.Fault.TheVariants.{FullCount, Memory};
 ghost use Rattle.text_forms.specs.Layout.{holder_bound, serial_bound, usual_buckets};
 ghost use Rattle.text_forms.specs.Map.{empty_map};
 ghost use Rattle.text_forms.specs.Word.{inline_word};
-ghost use Rattle.string_cache_core.specs.Order.{ComesLast, GoesFrom};
-ghost use Rattle.string_cache_core.specs.Table.{AreBothHeld, AreHeld, ClonesIfHeld, GivesIfHeld, GivesOnce, HasOneTextEach, HasWord, Interns, IsHeld, IsTextOf, IsWordOf, KeepsWord};
+ghost use Rattle.string_cache_core.specs.Order.{ComesLast};
+ghost use Rattle.string_cache_core.specs.Outcomes.{Given};
+ghost use Rattle.string_cache_core.specs.Table.{AreBothHeld, AreHeld, ClonesIfHeld, GivesOnce, HasOneTextEach, HasWord, Interns, IsHeld, IsTextOf, IsWordOf, KeepsWord};
 
 use super::{Name, Table, WordText};
 use std::alloc::Global;
@@ -145,13 +146,7 @@ impl<K, S: StaticTables> Names<K, S> {
 
     /// One holder less of a name that is held: `true`. For any other `false`, and nothing changes.
     pub fn release(&mut self, name: Name<K>) -> bool
-        ensures limits { self.new.table.limits ≡ self.old.table.limits }
-        ensures held { IsTrue result ↔ IsHeld S.tables (map_of self.old.table) name.word }
-        ensures gives { GivesIfHeld S.tables self.old.table.limits (map_of self.old.table) name.word result (map_of self.new.table) }
-        ensures listed { (before after : List ℕ) → AreHeld S.tables (map_of self.old.table) (before ++ name.word ∷ after) → AreHeld S.tables (map_of self.new.table) (before ++ after) }
-        ensures keeps { (other : ℕ) → (other ≢ name.word) ⊎ IsHeld S.tables (map_of self.new.table) other → KeepsWord S.tables (map_of self.old.table) (map_of self.new.table) other }
-        ensures apart { HasOneTextEach S.tables (map_of self.new.table) }
-        ensures order { GoesFrom self.old.table name.word self.new.table }
+        ensures { Given S.tables self.old.table name.word result self.new.table }
     {
         self.table.release(name.word)
     }

@@ -1,9 +1,9 @@
 //! Holders that come and go by their words.
 
-ghost use Rattle.std.specs.Prelude.{IsTrue, ◌≡◌, ◌≢◌, ℕ, [], ◌∷◌, ◌++◌, ◌⊎◌, ◌↔◌, IfErr, IfOk, IfSome, IsSome, OnErr, List};
+ghost use Rattle.std.specs.Prelude.{◌≡◌, ℕ, [], ◌∷◌, ◌↔◌, IfErr, IfOk, IfSome, IsSome, OnErr, List, true};
 ghost use Rattle.text_forms.specs.declared.faults.Fault.TheVariants.{FullCount};
-ghost use Rattle.string_cache_core.specs.Order.{GoesFrom};
-ghost use Rattle.string_cache_core.specs.Table.{AreBothHeld, AreHeld, Clones, ClonesIfHeld, Gives, GivesIfHeld, HasOneTextEach, IsHeld, IsWordOf, KeepsWord};
+ghost use Rattle.string_cache_core.specs.Outcomes.{Given};
+ghost use Rattle.string_cache_core.specs.Table.{AreBothHeld, AreHeld, Clones, ClonesIfHeld, HasOneTextEach, IsHeld, IsWordOf, KeepsWord};
 
 use super::{Table, is_fixed};
 use text_forms::Fault;
@@ -75,12 +75,7 @@ impl<S: StaticTables> Table<S> {
     /// serial, so that the ticket never comes again.
     pub fn give(&mut self, word: u64)
         requires { IsHeld S.tables (map_of self.old) word }
-        ensures limits { self.new.limits ≡ self.old.limits }
-        ensures gives { Gives S.tables self.old.limits (map_of self.old) word (map_of self.new) }
-        ensures listed { (before after : List ℕ) → AreHeld S.tables (map_of self.old) (before ++ word ∷ after) → AreHeld S.tables (map_of self.new) (before ++ after) }
-        ensures keeps { (other : ℕ) → (other ≢ word) ⊎ IsHeld S.tables (map_of self.new) other → KeepsWord S.tables (map_of self.old) (map_of self.new) other }
-        ensures apart { HasOneTextEach S.tables (map_of self.new) }
-        ensures order { GoesFrom self.old word self.new }
+        ensures given { Given S.tables self.old word true self.new }
         // As a caller's proof finds it by itself.
         ensures left { (other : ℕ) → AreBothHeld S.tables (map_of self.old) other word → IsHeld S.tables (map_of self.new) other }
         ensures right { (other : ℕ) → AreBothHeld S.tables (map_of self.old) word other → IsHeld S.tables (map_of self.new) other }
@@ -90,13 +85,7 @@ impl<S: StaticTables> Table<S> {
 
     /// One holder less of a word, as `give` says, where it is held: `true`. For any other number `false`, and nothing changes.
     pub fn release(&mut self, word: u64) -> bool
-        ensures limits { self.new.limits ≡ self.old.limits }
-        ensures held { IsTrue result ↔ IsHeld S.tables (map_of self.old) word }
-        ensures gives { GivesIfHeld S.tables self.old.limits (map_of self.old) word result (map_of self.new) }
-        ensures listed { (before after : List ℕ) → AreHeld S.tables (map_of self.old) (before ++ word ∷ after) → AreHeld S.tables (map_of self.new) (before ++ after) }
-        ensures keeps { (other : ℕ) → (other ≢ word) ⊎ IsHeld S.tables (map_of self.new) other → KeepsWord S.tables (map_of self.old) (map_of self.new) other }
-        ensures apart { HasOneTextEach S.tables (map_of self.new) }
-        ensures order { GoesFrom self.old word self.new }
+        ensures { Given S.tables self.old word result self.new }
     {
         self.is_sound(); // before and after, as `keeps` and `apart` say
         let Some(at) = self.place_of(word) else {
