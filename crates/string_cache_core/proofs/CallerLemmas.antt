@@ -1,15 +1,17 @@
 -- What callers of a table cite beside its contracts.
-use Rattle.std.proofs.Common.{◌≡◌, sym, subst, refl, ℕ, inl, inr, List, [], ◌∷◌, ◌++◌, length, nat_lt, true, false, true≢false}
+use Rattle.std.proofs.Common.{◌≡◌, sym, subst, refl, ℕ, inl, inr, List, [], ◌∷◌, ◌++◌, length, nat_lt, true, false, true≢false, Result, Ok, Err}
 use Rattle.std.specs.Str.{IsUtf8}
 use Rattle.std.proofs.lemmas.Bool.{le-ltb}
+use Rattle.text_forms.specs.declared.faults.Fault.{Fault}
 use Rattle.text_forms.specs.declared.static_sets.TextForm.{TextForm}
 use Rattle.text_forms.specs.declared.static_sets.TextForm.TheVariants.{Inline}
 use Rattle.text_forms.specs.Map.{InternMap}
 use Rattle.string_cache_core.specs.Kept.{Kept, map_of}
-use Rattle.string_cache_core.specs.Outcomes.{Given}
-use Rattle.string_cache_core.specs.Table.{AreHeld, Gives, HasWord, HasWordBy, IsHeld, IsTextOf}
+use Rattle.string_cache_core.specs.Outcomes.{Cloned, Given}
+use Rattle.string_cache_core.specs.Table.{AreHeld, Clones, Gives, HasWord, HasWordBy, IsHeld, IsTextOf, in_some}
 use Rattle.text_forms.specs.Tables.{Tables, fixed_word, form_of_text}
 use Rattle.text_forms.specs.Word.{IsInlineText, IsInlineWord, inline_word}
+use Rattle.string_cache_core.proofs.calls.IfHeld.{cloned-refused, cloned-some}
 use Rattle.string_cache_core.proofs.calls.Keep.{listed-held}
 use Rattle.string_cache_core.proofs.calls.WordsApart.{has}
 
@@ -45,3 +47,8 @@ held-given t old word new done = elim done.gives [
   | inl x ↦ x.0
   | inr x ↦ absurd (true≢false x.1)
 ]
+
+-- so is cloning it
+pub held-cloned : (t : Tables) (old : Kept) (word : ℕ) (result : Result ℕ Fault) (new : Kept) → Cloned t old word (in_some result) new → Clones t old.limits (map_of old) word result (map_of new)
+held-cloned t old word (Ok clone) new done = cloned-some t old.limits (map_of old) word (map_of new) clone done.clones
+held-cloned t old word (Err fault) new done = cloned-refused t old.limits (map_of old) word (map_of new) fault done.clones

@@ -1,5 +1,5 @@
 -- What calls say of other words, in words that are opaque, so that a caller's proof finds it by itself.
-use Rattle.std.proofs.Common.{◌≡◌, sym, subst, refl, arith, ℕ, ◌+◌, inl, inr, List, [], ◌∷◌, ◌++◌}
+use Rattle.std.proofs.Common.{◌≡◌, sym, subst, refl, arith, ℕ, inl, inr, List, [], ◌∷◌, ◌++◌}
 use Rattle.std.specs.Prelude.{◌==◌, ◌↔◌}
 use Rattle.std.specs.Str.{IsUtf8}
 use Rattle.std.proofs.lemmas.Bool.{cases_Bool, eqb-true}

@@ -1,16 +1,65 @@
 -- What a call of a table leaves, from the call of its map.
-use Rattle.std.proofs.Common.{◌≡◌, ◌≢◌, ◌∙◌, sym, ◌⊎◌, ℕ, inl, inr, Bool, List, ◌∷◌, ◌++◌, IsTrue}
-use Rattle.std.specs.Prelude.{◌↔◌}
+use Rattle.std.proofs.Common.{◌≡◌, ◌≢◌, ◌∙◌, refl, sym, ◌⊎◌, ℕ, inl, inr, Bool, List, ◌∷◌, ◌++◌, IsTrue, None, Result, Ok, Err}
+use Rattle.std.specs.Prelude.{◌↔◌, IfOk, IfSome, IsSome}
 use Rattle.std.proofs.lemmas.Bool.{false≢true}
 use Rattle.text_forms.specs.Bounds.{Bounds}
+use Rattle.text_forms.specs.declared.faults.Fault.{Fault}
 use Rattle.text_forms.specs.Map.{InternMap}
-use Rattle.string_cache_core.specs.Kept.{Kept, map_of, IsSoundMap}
+use Rattle.string_cache_core.specs.Kept.{Kept, map_of, tickets_of, IsSoundMap}
 use Rattle.string_cache_core.specs.Order.{GoesFrom}
-use Rattle.string_cache_core.specs.Outcomes.{Given}
-use Rattle.string_cache_core.specs.Table.{AreHeld, Gives, GivesIfHeld, IsHeld, KeepsWord}
+use Rattle.string_cache_core.specs.Outcomes.{Cloned, Given}
+use Rattle.string_cache_core.specs.Table.{AreHeld, Clones, Gives, GivesIfHeld, IsHeld, KeepsWord, in_some}
 use Rattle.text_forms.specs.Tables.{Tables}
-use Rattle.string_cache_core.proofs.calls.Keep.{gives-keeps, gives-listed, grows-keeps, grows-same, listed-held}
+use Rattle.string_cache_core.proofs.calls.Keep.{cloned-listed, cloned-word, clones-grow, gives-keeps, gives-listed, grows-keeps, grows-same, listed-held}
 use Rattle.string_cache_core.proofs.calls.WordsApart.{one-text-each}
+
+-- ---- cloning
+
+clones-held : (t : Tables) (limits : Bounds) (m : InternMap) (word own : ℕ) (new : InternMap) → Clones t limits m word (Ok own) new → IsHeld t m word
+unfolding IsHeld
+clones-held t limits m word own new (inl x) = inl x.0
+clones-held t limits m word own new (inr x) = inr x.1.0
+
+module _ (t : Tables) (old : Kept) (word : ℕ) (new : Kept) (sound : IsSoundMap t (map_of old)) where
+  some-held : (outcome : Result ℕ Fault) → Clones t old.limits (map_of old) word outcome (map_of new) → IfOk (in_some outcome) (λ clone. IsSome clone ↔ IsHeld t (map_of old) word)
+  some-held (Ok own) h = (λ _. clones-held t old.limits (map_of old) word own (map_of new) h, λ _. refl)
+  some-held (Err fault) h = tt
+
+  some-same : (outcome : Result ℕ Fault) → Clones t old.limits (map_of old) word outcome (map_of new) → IfOk (in_some outcome) (λ clone. IfSome clone (λ own. own ≡ word))
+  some-same (Ok own) h = cloned-word t old.limits (map_of old) (map_of new) word (Ok own) h
+  some-same (Err fault) h = tt
+
+  some-listed : (outcome : Result ℕ Fault) → Clones t old.limits (map_of old) word outcome (map_of new) → (words : List ℕ) → AreHeld t (map_of old) words
+      → IfOk (in_some outcome) (λ clone. IfSome clone (λ own. AreHeld t (map_of new) (own ∷ words)))
+  some-listed (Ok own) h words all = cloned-listed t old.limits (map_of old) (map_of new) word (Ok own) h sound words all
+  some-listed (Err fault) h words all = tt
+
+  -- what the map's call leaves
+  pub cloned-done : IsSoundMap t (map_of new) → (outcome : Result ℕ Fault) → new.limits ≡ old.limits → Clones t old.limits (map_of old) word outcome (map_of new)
+      → tickets_of new.pairs ≡ tickets_of old.pairs → Cloned t old word (in_some outcome) new
+  cloned-done now outcome limits clones order = record {
+    limits = limits;
+    held = some-held outcome clones;
+    clones = inl (outcome, clones, refl);
+    same = some-same outcome clones;
+    listed = some-listed outcome clones;
+    keeps = λ other. grows-keeps t (map_of old) (map_of new) other (clones-grow t old.limits (map_of old) (map_of new) word outcome other clones);
+    apart = one-text-each t (map_of new) now;
+    order = order;
+  }
+
+-- nothing changes where the word isn't held
+pub cloned-none : (t : Tables) (old : Kept) (word : ℕ) → IsSoundMap t (map_of old) → ¬ (IsHeld t (map_of old) word) → Cloned t old word (Ok None) old
+cloned-none t old word sound not = record {
+  limits = refl;
+  held = (λ some. absurd (false≢true some), λ held. absurd (not held));
+  clones = inr (not, refl, refl);
+  same = tt;
+  listed = λ words all. tt;
+  keeps = λ other. grows-keeps t (map_of old) (map_of old) other (grows-same (map_of old) (map_of old) other refl);
+  apart = one-text-each t (map_of old) sound;
+  order = refl;
+}
 
 -- ---- giving
 

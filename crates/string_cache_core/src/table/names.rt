@@ -8,8 +8,8 @@ ghost use Rattle.text_forms.specs.Layout.{holder_bound, serial_bound, usual_buck
 ghost use Rattle.text_forms.specs.Map.{empty_map};
 ghost use Rattle.text_forms.specs.Word.{inline_word};
 ghost use Rattle.string_cache_core.specs.Order.{ComesLast};
-ghost use Rattle.string_cache_core.specs.Outcomes.{Given};
-ghost use Rattle.string_cache_core.specs.Table.{AreBothHeld, AreHeld, ClonesIfHeld, GivesOnce, HasOneTextEach, HasWord, Interns, IsHeld, IsTextOf, IsWordOf, KeepsWord};
+ghost use Rattle.string_cache_core.specs.Outcomes.{Cloned, Given};
+ghost use Rattle.string_cache_core.specs.Table.{AreBothHeld, AreHeld, GivesOnce, HasOneTextEach, HasWord, Interns, IsHeld, IsTextOf, IsWordOf, KeepsWord};
 
 use super::{Name, Table, WordText};
 use std::alloc::Global;
@@ -26,7 +26,7 @@ pub struct Names<K, S: StaticTables = EmptyStaticAtomSet> {
 }
 
 impl<K, S: StaticTables> Names<K, S> {
-    ghost use Rattle.string_cache_core.specs.Kept.{map_of, tickets_of};
+    ghost use Rattle.string_cache_core.specs.Kept.{map_of};
     ghost use Rattle.string_cache_core.specs.Name.{word_in, word_in_some};
     ghost use Rattle.string_cache_core.specs.WordText.{text_in};
 
@@ -126,14 +126,7 @@ impl<K, S: StaticTables> Names<K, S> {
     ///
     /// `FullCount` as from `Table::clone_held`. A refusal changes nothing.
     pub fn clone_held(&mut self, name: Name<K>) -> Result<Option<Name<K>>, Fault>
-        ensures limits { self.new.table.limits ≡ self.old.table.limits }
-        ensures held { IfOk result (λ clone. IsSome clone ↔ IsHeld S.tables (map_of self.old.table) name.word) }
-        ensures clones { ClonesIfHeld S.tables self.old.table.limits (map_of self.old.table) name.word (word_in_some result) (map_of self.new.table) }
-        ensures word { IfOk result (λ clone. IfSome clone (λ clone. clone.word ≡ name.word)) }
-        ensures listed { (words : List ℕ) → AreHeld S.tables (map_of self.old.table) words → IfOk result (λ clone. IfSome clone (λ clone. AreHeld S.tables (map_of self.new.table) (clone.word ∷ words))) }
-        ensures keeps { (other : ℕ) → KeepsWord S.tables (map_of self.old.table) (map_of self.new.table) other }
-        ensures apart { HasOneTextEach S.tables (map_of self.new.table) }
-        ensures order { tickets_of self.new.table.pairs ≡ tickets_of self.old.table.pairs }
+        ensures cloned { Cloned S.tables self.old.table name.word (word_in_some result) self.new.table }
         ensures fault { IfErr result (λ fault. fault ≡ FullCount) }
         ensures err { OnErr result (self.new.table ≡ self.old.table) }
     {

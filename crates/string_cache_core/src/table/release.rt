@@ -1,31 +1,26 @@
 //! Holders that come and go by their words.
 
-ghost use Rattle.std.specs.Prelude.{◌≡◌, ℕ, [], ◌∷◌, ◌↔◌, IfErr, IfOk, IfSome, IsSome, OnErr, List, true};
+ghost use Rattle.std.specs.Prelude.{◌≡◌, ℕ, [], IfErr, IfOk, OnErr, List, true};
 ghost use Rattle.text_forms.specs.declared.faults.Fault.TheVariants.{FullCount};
-ghost use Rattle.string_cache_core.specs.Outcomes.{Given};
-ghost use Rattle.string_cache_core.specs.Table.{AreBothHeld, AreHeld, Clones, ClonesIfHeld, HasOneTextEach, IsHeld, IsWordOf, KeepsWord};
+ghost use Rattle.string_cache_core.specs.Outcomes.{Cloned, Given};
+ghost use Rattle.string_cache_core.specs.Table.{AreBothHeld, IsHeld, IsWordOf, in_some};
 
 use super::{Table, is_fixed};
 use text_forms::Fault;
 use text_forms::static_sets::StaticTables;
 
 impl<S: StaticTables> Table<S> {
-    ghost use Rattle.string_cache_core.specs.Kept.{map_of, tickets_of};
+    ghost use Rattle.string_cache_core.specs.Kept.{map_of};
 
     /// One holder more of a word that is held. An inline word and a static word have no number of holders: nothing changes.
     ///
     /// `FullCount` where the ticket's text has as many holders as the limits allow. A refusal changes nothing.
     pub fn clone_word(&mut self, word: u64) -> Result<u64, Fault>
         requires { IsHeld S.tables (map_of self.old) word }
-        ensures limits { self.new.limits ≡ self.old.limits }
-        ensures clones { Clones S.tables self.old.limits (map_of self.old) word result (map_of self.new) }
+        ensures cloned { Cloned S.tables self.old word (in_some result) self.new }
+        // Some of it once more, as a caller's proof finds it by itself.
         ensures word { IfOk result (λ clone. clone ≡ word) }
         ensures held { IfOk result (λ clone. IsHeld S.tables (map_of self.new) clone) }
-        ensures listed { (words : List ℕ) → AreHeld S.tables (map_of self.old) words → IfOk result (λ clone. AreHeld S.tables (map_of self.new) (clone ∷ words)) }
-        ensures keeps { (other : ℕ) → KeepsWord S.tables (map_of self.old) (map_of self.new) other }
-        ensures apart { HasOneTextEach S.tables (map_of self.new) }
-        ensures order { tickets_of self.new.pairs ≡ tickets_of self.old.pairs }
-        // The same once more, as a caller's proof finds it by itself.
         ensures owned { (other : ℕ) (text : List ℕ) → IsWordOf S.tables (map_of self.old) text other → IsWordOf S.tables (map_of self.new) text other }
         ensures still { (other : ℕ) → IsHeld S.tables (map_of self.old) other → IsHeld S.tables (map_of self.new) other }
         ensures both { IfOk result (λ clone. (other : ℕ) → IsHeld S.tables (map_of self.old) other → AreBothHeld S.tables (map_of self.new) clone other) }
@@ -44,14 +39,7 @@ impl<S: StaticTables> Table<S> {
     /// `FullCount` where the ticket's text has as many holders as the limits allow. A refusal changes nothing.
     #[tactic(auto, unfolding(crate::specs::Table::IsHeld))]
     pub fn clone_held(&mut self, word: u64) -> Result<Option<u64>, Fault>
-        ensures limits { self.new.limits ≡ self.old.limits }
-        ensures held { IfOk result (λ clone. IsSome clone ↔ IsHeld S.tables (map_of self.old) word) }
-        ensures clones { ClonesIfHeld S.tables self.old.limits (map_of self.old) word result (map_of self.new) }
-        ensures word { IfOk result (λ clone. IfSome clone (λ clone. clone ≡ word)) }
-        ensures listed { (words : List ℕ) → AreHeld S.tables (map_of self.old) words → IfOk result (λ clone. IfSome clone (λ clone. AreHeld S.tables (map_of self.new) (clone ∷ words))) }
-        ensures keeps { (other : ℕ) → KeepsWord S.tables (map_of self.old) (map_of self.new) other }
-        ensures apart { HasOneTextEach S.tables (map_of self.new) }
-        ensures order { tickets_of self.new.pairs ≡ tickets_of self.old.pairs }
+        ensures cloned { Cloned S.tables self.old word result self.new }
         ensures fault { IfErr result (λ fault. fault ≡ FullCount) }
         ensures err { OnErr result (self.new ≡ self.old) }
     {

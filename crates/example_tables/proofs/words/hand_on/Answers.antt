@@ -7,4 +7,4 @@ use Rattle.example_tables.proofs.words.hand_on.Goals as goal
 pub returns-clause-text : goal.returns-clause-text
 returns-clause-text g c = λ text has.
     let held : IsHeld g.S.StaticTables.tables (map_of c.give.new.self) c.args.word = search rules in
-    (c.give.ensures.given.keeps c.args.word (inr held)).owned text ((c.in_ok-next.ensures.keeps c.args.word).owned text has)
+    (c.give.ensures.given.keeps c.args.word (inr held)).owned text ((c.in_ok-next.ensures.cloned.keeps c.args.word).owned text has)

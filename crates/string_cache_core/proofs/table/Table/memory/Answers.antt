@@ -1,4 +1,4 @@
-use Rattle.std.proofs.Common.{◌<◌, ◌^◌, ◌∙◌, arith, length}
+use Rattle.std.proofs.Common.{◌<◌, ◌^◌, arith, length}
 use Rattle.std.specs.Prelude.{string_bytes}
 use Rattle.std.proofs.lemmas.List.{length-map}
 use Rattle.string_cache_core.specs.Kept.{Pair, pairs_of}
