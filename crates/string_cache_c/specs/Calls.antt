@@ -4,11 +4,11 @@ use Rattle.std.specs.List.{sum_by}
 use Rattle.std.specs.Str.{IsUtf8}
 use Rattle.string_cache_core.specs.Kept.{Kept, map_of}
 use Rattle.string_cache_core.specs.Memory.{IsMemory}
-use Rattle.string_cache_core.specs.Outcomes.{Cloned, Given}
-use Rattle.string_cache_core.specs.Table.{Interns, IsHeld, in_some}
+use Rattle.string_cache_core.specs.Outcomes.{Cloned, Given, Interned}
+use Rattle.string_cache_core.specs.Table.{IsHeld, in_some}
 use Rattle.string_cache_core.specs.Tables.{empty_tables}
 use Rattle.text_forms.specs.declared.faults.Fault.{Fault}
-use Rattle.string_cache_c.specs.Numbers.{IsReply, not_held, too_small}
+use Rattle.string_cache_c.specs.Numbers.{IsReply, not_held, not_utf8, too_small}
 use Rattle.string_cache_c.specs.declared.numbered_table.NumberedTable.{NumberedTable}
 
 -- ---- the table in the handle
@@ -27,10 +27,11 @@ Within (Some old) (Some new) P = P old.table new.table
 
 -- ---- the calls
 
--- interning the text, which has to be UTF-8
+-- interning the text; or it isn't UTF-8, and nothing changes
 abbrev pub InternsText : Kept → List ℕ → ℕ → ℕ → ℕ → Kept → Type 0
 InternsText old text number before after new =
-    IsUtf8 text → (reply : Result ℕ Fault) × Interns empty_tables old.limits (map_of old) text reply (map_of new) × IsReply reply number before after
+    (IsUtf8 text × (reply : Result ℕ Fault) × Interned empty_tables old text reply new × IsReply reply number before after)
+    ⊎ ((number ≡ not_utf8) × ¬ (IsUtf8 text) × (after ≡ before) × (new ≡ old))
 
 -- one holder more of the word; or it isn't held, and nothing changes
 abbrev pub ClonesWord : Kept → ℕ → ℕ → Kept → Type 0

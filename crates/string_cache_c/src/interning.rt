@@ -1,12 +1,10 @@
 //! Words come and go.
 
-ghost use Rattle.std.specs.Prelude.{◌≡◌, ◌≢◌, ◌∷◌, ◌<◌, ◌≤◌, ◌⊎◌, ℕ, List, None, IsSome, length};
+ghost use Rattle.std.specs.Prelude.{◌≡◌, ◌≢◌, ◌≤◌, ◌⊎◌, ℕ, None, IsSome};
 ghost use Rattle.std.specs.Str.{IsUtf8};
 ghost use Rattle.string_cache_core.specs.Kept.{map_of};
-ghost use Rattle.string_cache_core.specs.Order.{ComesLast};
-ghost use Rattle.string_cache_core.specs.Table.{AreHeld, GivesOnce, HasOneTextEach, HasWord, IsHeld, IsTextOf, KeepsWord};
+ghost use Rattle.string_cache_core.specs.Table.{HasWord, IsHeld};
 ghost use Rattle.string_cache_core.specs.Tables.{empty_tables};
-ghost use Rattle.string_cache_core.specs.Word.{inline_word};
 ghost use Rattle.string_cache_c.specs.Calls.{ClonesWord, GivesWord, IfOpen, InternsText, Within};
 ghost use Rattle.string_cache_c.specs.Numbers.{closed, not_held, not_utf8};
 
@@ -21,18 +19,7 @@ use crate::numbers::CLOSED;
 #[unsafe(no_mangle)]
 pub extern "C" fn sc_table_intern(t: &mut ScTable, text: &[u8], word: &mut u64) -> u32
     ensures none { t.old.seat.value ≡ None → result ≡ closed }
-    ensures utf8 { IsSome t.old.seat.value → ¬ (IsUtf8 text.now) → result ≡ not_utf8 }
-    ensures limits { Within t.old.seat.value t.new.seat.value (λ old new. new.limits ≡ old.limits) }
-    ensures interns { Within t.old.seat.value t.new.seat.value (λ old new. InternsText old text.now result word.old word.new new) }
-    ensures word { Within t.old.seat.value t.new.seat.value (λ old new. result ≡ 0 → HasWord empty_tables (map_of new) text.now word.new) }
-    ensures short { Within t.old.seat.value t.new.seat.value (λ old new. result ≡ 0 → length text.now ≤ 7 → word.new ≡ inline_word text.now) }
-    ensures lends { Within t.old.seat.value t.new.seat.value (λ old new. result ≡ 0 → 7 < length text.now → IsTextOf empty_tables (map_of new) word.new text.now) }
-    ensures held { Within t.old.seat.value t.new.seat.value (λ old new. result ≡ 0 → IsHeld empty_tables (map_of new) word.new) }
-    ensures listed { Within t.old.seat.value t.new.seat.value (λ old new. (words : List ℕ) → AreHeld empty_tables (map_of old) words → result ≡ 0 → AreHeld empty_tables (map_of new) (word.new ∷ words)) }
-    ensures keeps { Within t.old.seat.value t.new.seat.value (λ old new. (other : ℕ) → KeepsWord empty_tables (map_of old) (map_of new) other) }
-    ensures apart { Within t.old.seat.value t.new.seat.value (λ old new. IsUtf8 text.now → HasOneTextEach empty_tables (map_of new)) }
-    ensures once { Within t.old.seat.value t.new.seat.value (λ old new. IsUtf8 text.now → GivesOnce (map_of old) (map_of new)) }
-    ensures order { Within t.old.seat.value t.new.seat.value (λ old new. result ≡ 0 → ComesLast old word.new new) }
+    ensures interned { Within t.old.seat.value t.new.seat.value (λ old new. InternsText old text.now result word.old word.new new) }
     ensures number { (result ≤ 3) ⊎ (result ≡ not_utf8) ⊎ (result ≡ closed) }
     ensures err { result ≢ 0 → (t.new.seat.value ≡ t.old.seat.value) × (word.new ≡ word.old) }
 {

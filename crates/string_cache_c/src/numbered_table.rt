@@ -1,13 +1,11 @@
 //! The table that C has, of the empty static type, with a number for each outcome.
 
-ghost use Rattle.std.specs.Prelude.{◌≡◌, ◌≢◌, ◌∷◌, ◌<◌, ◌≤◌, ◌⊎◌, ◌↔◌, ℕ, List, None, Some, slice_get, length};
+ghost use Rattle.std.specs.Prelude.{◌≡◌, ◌≢◌, ◌<◌, ◌≤◌, ◌⊎◌, ℕ, List, None, Some, slice_get};
 ghost use Rattle.std.specs.Str.{IsUtf8};
 ghost use Rattle.string_cache_core.specs.Kept.{Pair, map_of};
 ghost use Rattle.string_cache_core.specs.Map.{HasHolders, IsHeldTicket};
-ghost use Rattle.string_cache_core.specs.Order.{ComesLast};
-ghost use Rattle.string_cache_core.specs.Table.{AreHeld, GivesOnce, HasOneTextEach, HasWord, IsHeld, IsTextOf, KeepsWord};
+ghost use Rattle.string_cache_core.specs.Table.{HasWord, IsHeld};
 ghost use Rattle.string_cache_core.specs.Tables.{empty_tables};
-ghost use Rattle.string_cache_core.specs.Word.{inline_word};
 ghost use Rattle.string_cache_c.specs.Calls.{ClonesWord, CopiesText, GivesWord, InternsText, TellsMemory};
 ghost use Rattle.string_cache_c.specs.Numbers.{not_held, not_utf8};
 
@@ -27,18 +25,7 @@ pub struct NumberedTable {
 impl NumberedTable {
     /// As `Table::intern`. The word is written where the number is 0.
     pub fn intern(&mut self, text: &[u8], word: &mut u64) -> u32
-        ensures utf8 { ¬ (IsUtf8 text.now) → result ≡ not_utf8 }
-        ensures limits { self.new.table.limits ≡ self.old.table.limits }
-        ensures interns { InternsText self.old.table text.now result word.old word.new self.new.table }
-        ensures word { result ≡ 0 → HasWord empty_tables (map_of self.new.table) text.now word.new }
-        ensures short { result ≡ 0 → length text.now ≤ 7 → word.new ≡ inline_word text.now }
-        ensures lends { result ≡ 0 → 7 < length text.now → IsTextOf empty_tables (map_of self.new.table) word.new text.now }
-        ensures held { result ≡ 0 → IsHeld empty_tables (map_of self.new.table) word.new }
-        ensures listed { (words : List ℕ) → AreHeld empty_tables (map_of self.old.table) words → result ≡ 0 → AreHeld empty_tables (map_of self.new.table) (word.new ∷ words) }
-        ensures keeps { (other : ℕ) → KeepsWord empty_tables (map_of self.old.table) (map_of self.new.table) other }
-        ensures apart { IsUtf8 text.now → HasOneTextEach empty_tables (map_of self.new.table) }
-        ensures once { IsUtf8 text.now → GivesOnce (map_of self.old.table) (map_of self.new.table) }
-        ensures order { result ≡ 0 → ComesLast self.old.table word.new self.new.table }
+        ensures interned { InternsText self.old.table text.now result word.old word.new self.new.table }
         ensures number { (result ≤ 3) ⊎ (result ≡ not_utf8) }
         ensures err { result ≢ 0 → (self.new ≡ self.old) × (word.new ≡ word.old) }
     {

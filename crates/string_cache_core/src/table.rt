@@ -1,6 +1,6 @@
 //! The table of texts for one thread.
 
-ghost use Rattle.std.specs.Prelude.{IsTrue, ◌≡◌, ℕ, [], ◌∷◌, ◌++◌, ◌+◌, ◌-◌, ◌^◌, ◌%◌, ◌<◌, ◌≤◌, ◌⊎◌, OnOk, OnErr, IfOk, IfErr, IfSome, IsSome, MatchOption, Option, None, Some, slice_get, length, List, ◌↔◌};
+ghost use Rattle.std.specs.Prelude.{IsTrue, ◌≡◌, ℕ, [], ◌∷◌, ◌++◌, ◌+◌, ◌-◌, ◌^◌, ◌%◌, ◌<◌, ◌≤◌, OnOk, OnErr, IfOk, IfErr, MatchOption, Option, None, Some, slice_get, length, List, ◌↔◌};
 ghost use Rattle.text_forms.specs.Faults.{IsInternFault};
 ghost use Rattle.text_forms.specs.declared.faults.Fault.TheVariants.{FullCount, Memory};
 ghost use Rattle.string_cache_core.specs.Calls.{Answers, AnswersAll};
@@ -8,9 +8,10 @@ ghost use Rattle.std.specs.List.{swap_remove};
 ghost use Rattle.text_forms.specs.Layout.{holder_bound, serial_bound, usual_buckets};
 ghost use Rattle.text_forms.specs.Map.{Holding, IsHeldTicket, Intern, MapReply, MayReply, empty_map, with_held, with_last};
 ghost use Rattle.string_cache_core.specs.Order.{ComesLast, GoesFrom};
-ghost use Rattle.string_cache_core.specs.Table.{Adds, Interns, Gives, AreBothHeld, AreHeld, GivesOnce, HasOneTextEach, HasWord, IsFixedWord, IsHeld, IsTextOf, IsWordOf, KeepsWord, as_word};
+ghost use Rattle.string_cache_core.specs.Outcomes.{Interned};
+ghost use Rattle.string_cache_core.specs.Table.{Adds, Interns, Gives, AreBothHeld, GivesOnce, HasOneTextEach, IsFixedWord, IsHeld, IsWordOf, as_word};
 ghost use Rattle.text_forms.specs.Tables.{bucket_of, form_of_text, fixed_word};
-ghost use Rattle.text_forms.specs.Word.{inline_word, ticket_of};
+ghost use Rattle.text_forms.specs.Word.{ticket_of};
 ghost use Rattle.text_forms.specs.declared.static_sets.TextForm.TheVariants.{Dynamic};
 
 mod call;
@@ -112,18 +113,8 @@ impl<S: StaticTables> Table<S> {
     /// `FullCount` where the text has as many holders as the limits allow, `TicketsSpent` where a text that isn't held finds
     /// no serial left in its bucket, and `Memory` where it finds no memory. A refusal changes nothing.
     pub fn intern(&mut self, text: &str) -> Result<u64, Fault>
-        ensures limits { self.new.limits ≡ self.old.limits }
-        ensures interns { Interns S.tables self.old.limits (map_of self.old) text.now result (map_of self.new) }
-        ensures word { IfOk result (λ word. HasWord S.tables (map_of self.new) text.now word) }
-        ensures short { IfOk result (λ word. length text.now ≤ 7 → word ≡ inline_word text.now) }
-        ensures lends { IfOk result (λ word. 7 < length text.now → IsTextOf S.tables (map_of self.new) word text.now) }
-        ensures held { IfOk result (λ word. IsHeld S.tables (map_of self.new) word) }
-        ensures listed { (words : List ℕ) → AreHeld S.tables (map_of self.old) words → IfOk result (λ word. AreHeld S.tables (map_of self.new) (word ∷ words)) }
-        ensures keeps { (other : ℕ) → KeepsWord S.tables (map_of self.old) (map_of self.new) other }
-        ensures apart { HasOneTextEach S.tables (map_of self.new) }
-        ensures once { GivesOnce (map_of self.old) (map_of self.new) }
-        ensures order { IfOk result (λ word. ComesLast self.old word self.new) }
-        // The same once more, as a caller's proof finds it by itself.
+        ensures interned { Interned S.tables self.old text.now result self.new }
+        // Some of it once more, as a caller's proof finds it by itself.
         ensures own { IfOk result (λ word. IsWordOf S.tables (map_of self.new) text.now word) }
         ensures same { IfOk result (λ word. (other : ℕ) (also : List ℕ) → IsWordOf S.tables (map_of self.old) also other → (word ≡ other) ↔ (text.now ≡ also)) }
         ensures owned { (other : ℕ) (also : List ℕ) → IsWordOf S.tables (map_of self.old) also other → IsWordOf S.tables (map_of self.new) also other }

@@ -1,17 +1,79 @@
 -- What a call of a table leaves, from the call of its map.
-use Rattle.std.proofs.Common.{◌≡◌, ◌≢◌, ◌∙◌, refl, sym, ◌⊎◌, ℕ, inl, inr, Bool, List, ◌∷◌, ◌++◌, IsTrue, None, Result, Ok, Err}
+use Rattle.std.proofs.Common.{◌≡◌, ◌≢◌, ◌∙◌, refl, sym, ◌⊎◌, ℕ, ◌<◌, ◌≤◌, inl, inr, Bool, List, length, ◌∷◌, ◌++◌, IsTrue, None, Result, Ok, Err}
 use Rattle.std.specs.Prelude.{◌↔◌, IfOk, IfSome, IsSome}
+use Rattle.std.specs.Str.{IsUtf8}
 use Rattle.std.proofs.lemmas.Bool.{false≢true}
 use Rattle.text_forms.specs.Bounds.{Bounds}
 use Rattle.text_forms.specs.declared.faults.Fault.{Fault}
 use Rattle.text_forms.specs.Map.{InternMap}
 use Rattle.string_cache_core.specs.Kept.{Kept, map_of, tickets_of, IsSoundMap}
-use Rattle.string_cache_core.specs.Order.{GoesFrom}
-use Rattle.string_cache_core.specs.Outcomes.{Cloned, Given}
-use Rattle.string_cache_core.specs.Table.{AreHeld, Clones, Gives, GivesIfHeld, IsHeld, KeepsWord, in_some}
+use Rattle.string_cache_core.specs.Order.{ComesLast, GoesFrom}
+use Rattle.string_cache_core.specs.Outcomes.{Cloned, Given, Interned}
+use Rattle.string_cache_core.specs.Table.{AreBothHeld, AreHeld, Clones, Gives, GivesIfHeld, HasWord, Interns, IsHeld, IsTextOf, IsWordOf, KeepsWord, in_some}
 use Rattle.text_forms.specs.Tables.{Tables}
-use Rattle.string_cache_core.proofs.calls.Keep.{cloned-listed, cloned-word, clones-grow, gives-keeps, gives-listed, grows-keeps, grows-same, listed-held}
+use Rattle.text_forms.specs.Word.{inline_word}
+use Rattle.string_cache_core.proofs.calls.Found.{both-held, own-word, same-word}
+use Rattle.string_cache_core.proofs.calls.Keep.{cloned-listed, cloned-word, clones-grow, gives-keeps, gives-listed, grows-keeps, grows-same, held-given, interned-listed, interned-owned, interns-fresh, interns-grow, listed-held, owned-held, owned-long, owned-short}
 use Rattle.string_cache_core.proofs.calls.WordsApart.{one-text-each}
+
+-- ---- interning
+
+module _ (t : Tables) (old : Kept) (text : List ℕ) (new : Kept) (utf8 : IsUtf8 text) where
+  interned-word : (reply : Result ℕ Fault) → Interns t old.limits (map_of old) text reply (map_of new) → IfOk reply (λ word. HasWord t (map_of new) text word)
+  interned-word (Ok word) h = interned-owned t old.limits (map_of old) (map_of new) text word utf8 h
+  interned-word (Err fault) h = tt
+
+  interned-short : (reply : Result ℕ Fault) → Interns t old.limits (map_of old) text reply (map_of new) → IfOk reply (λ word. length text ≤ 7 → word ≡ inline_word text)
+  interned-short (Ok word) h = owned-short t (map_of new) text word (interned-word (Ok word) h)
+  interned-short (Err fault) h = tt
+
+  interned-lends : (reply : Result ℕ Fault) → Interns t old.limits (map_of old) text reply (map_of new) → IfOk reply (λ word. 7 < length text → IsTextOf t (map_of new) word text)
+  interned-lends (Ok word) h = owned-long t (map_of new) text word utf8 (interned-word (Ok word) h)
+  interned-lends (Err fault) h = tt
+
+  interned-held : (reply : Result ℕ Fault) → Interns t old.limits (map_of old) text reply (map_of new) → IfOk reply (λ word. IsHeld t (map_of new) word)
+  interned-held (Ok word) h = owned-held t (map_of new) text word utf8 (interned-word (Ok word) h)
+  interned-held (Err fault) h = tt
+
+  more-listed : (reply : Result ℕ Fault) → Interns t old.limits (map_of old) text reply (map_of new) → IsSoundMap t (map_of old) → IsSoundMap t (map_of new) → (words : List ℕ) → AreHeld t (map_of old) words
+      → IfOk reply (λ word. AreHeld t (map_of new) (word ∷ words))
+  more-listed (Ok word) h sound now words all = interned-listed t old.limits (map_of old) (map_of new) text word utf8 h sound now words all
+  more-listed (Err fault) h sound now words all = tt
+
+  -- what the map's call leaves
+  pub interned-done : IsSoundMap t (map_of old) → IsSoundMap t (map_of new) → (reply : Result ℕ Fault) → new.limits ≡ old.limits → Interns t old.limits (map_of old) text reply (map_of new)
+      → IfOk reply (λ word. ComesLast old word new) → Interned t old text reply new
+  interned-done sound now reply limits interns order = record {
+    limits = limits;
+    interns = interns;
+    word = interned-word reply interns;
+    short = interned-short reply interns;
+    lends = interned-lends reply interns;
+    held = interned-held reply interns;
+    listed = more-listed reply interns sound now;
+    keeps = λ other. grows-keeps t (map_of old) (map_of new) other (interns-grow t old.limits (map_of old) (map_of new) text reply other interns);
+    apart = one-text-each t (map_of new) now;
+    once = record {
+      given = held-given t (map_of new) now;
+      fresh = λ ticket. interns-fresh t old.limits (map_of old) (map_of new) text reply ticket now interns;
+    };
+    order = order;
+  }
+
+-- the same about one or two other words
+module _ (t : Tables) (old : Kept) (text : List ℕ) (new : Kept) (utf8 : IsUtf8 text) where
+  pub interned-own : (reply : Result ℕ Fault) → Interned t old text reply new → IfOk reply (λ word. IsWordOf t (map_of new) text word)
+  interned-own (Ok word) done = own-word t (map_of new) text word utf8 done.word
+  interned-own (Err fault) done = tt
+
+  pub interned-same : (reply : Result ℕ Fault) → Interned t old text reply new
+      → IfOk reply (λ word. (other : ℕ) (also : List ℕ) → IsWordOf t (map_of old) also other → (word ≡ other) ↔ (text ≡ also))
+  interned-same (Ok word) done = same-word t (map_of old) (map_of new) done.keeps done.apart text word utf8 done.word
+  interned-same (Err fault) done = tt
+
+  pub interned-both : (reply : Result ℕ Fault) → Interned t old text reply new → IsSoundMap t (map_of old) → IfOk reply (λ word. (other : ℕ) → IsHeld t (map_of old) other → AreBothHeld t (map_of new) word other)
+  interned-both (Ok word) done sound = both-held t (map_of old) (map_of new) word sound done.listed
+  interned-both (Err fault) done sound = tt
 
 -- ---- cloning
 

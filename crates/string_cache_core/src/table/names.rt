@@ -1,15 +1,13 @@
 //! A table for one kind of names.
 
-ghost use Rattle.std.specs.Prelude.{◌≡◌, ◌-◌, ◌<◌, ◌≤◌, ℕ, [], ◌∷◌, ◌↔◌, length, IfErr, IfOk, IfSome, IsSome, List, MatchOption, OnErr};
+ghost use Rattle.std.specs.Prelude.{◌≡◌, ◌-◌, ℕ, [], ◌↔◌, IfErr, IfOk, IfSome, IsSome, List, MatchOption, OnErr};
 ghost use Rattle.std.specs.Str.{IsUtf8};
 ghost use Rattle.text_forms.specs.Faults.{IsInternFault};
 ghost use Rattle.text_forms.specs.declared.faults.Fault.TheVariants.{FullCount, Memory};
 ghost use Rattle.text_forms.specs.Layout.{holder_bound, serial_bound, usual_buckets};
 ghost use Rattle.text_forms.specs.Map.{empty_map};
-ghost use Rattle.text_forms.specs.Word.{inline_word};
-ghost use Rattle.string_cache_core.specs.Order.{ComesLast};
-ghost use Rattle.string_cache_core.specs.Outcomes.{Cloned, Given};
-ghost use Rattle.string_cache_core.specs.Table.{AreBothHeld, AreHeld, GivesOnce, HasOneTextEach, HasWord, Interns, IsHeld, IsTextOf, IsWordOf, KeepsWord};
+ghost use Rattle.string_cache_core.specs.Outcomes.{Cloned, Given, Interned};
+ghost use Rattle.string_cache_core.specs.Table.{AreBothHeld, HasWord, IsHeld, IsWordOf};
 
 use super::{Name, Table, WordText};
 use std::alloc::Global;
@@ -60,18 +58,8 @@ impl<K, S: StaticTables> Names<K, S> {
     ///
     /// `FullCount`, `TicketsSpent` and `Memory` come as there. A refusal changes nothing.
     pub fn intern(&mut self, text: &str) -> Result<Name<K>, Fault>
-        ensures limits { self.new.table.limits ≡ self.old.table.limits }
-        ensures interns { Interns S.tables self.old.table.limits (map_of self.old.table) text.now (word_in result) (map_of self.new.table) }
-        ensures word { IfOk result (λ name. HasWord S.tables (map_of self.new.table) text.now name.word) }
-        ensures short { IfOk result (λ name. length text.now ≤ 7 → name.word ≡ inline_word text.now) }
-        ensures lends { IfOk result (λ name. 7 < length text.now → IsTextOf S.tables (map_of self.new.table) name.word text.now) }
-        ensures held { IfOk result (λ name. IsHeld S.tables (map_of self.new.table) name.word) }
-        ensures listed { (words : List ℕ) → AreHeld S.tables (map_of self.old.table) words → IfOk result (λ name. AreHeld S.tables (map_of self.new.table) (name.word ∷ words)) }
-        ensures keeps { (other : ℕ) → KeepsWord S.tables (map_of self.old.table) (map_of self.new.table) other }
-        ensures apart { HasOneTextEach S.tables (map_of self.new.table) }
-        ensures once { GivesOnce (map_of self.old.table) (map_of self.new.table) }
-        ensures order { IfOk result (λ name. ComesLast self.old.table name.word self.new.table) }
-        // The same once more, as a caller's proof finds it by itself.
+        ensures interned { Interned S.tables self.old.table text.now (word_in result) self.new.table }
+        // Some of it once more, as a caller's proof finds it by itself.
         ensures own { IfOk result (λ name. IsWordOf S.tables (map_of self.new.table) text.now name.word) }
         ensures same { IfOk result (λ name. (other : ℕ) (also : List ℕ) → IsWordOf S.tables (map_of self.old.table) also other → (name.word ≡ other) ↔ (text.now ≡ also)) }
         ensures owned { (other : ℕ) (also : List ℕ) → IsWordOf S.tables (map_of self.old.table) also other → IsWordOf S.tables (map_of self.new.table) also other }
