@@ -1,5 +1,5 @@
 -- Lines that are written piece by piece.
-use Rattle.std.proofs.Common.{◌≡◌, ℕ, ◌+◌, ◌<◌, List, [], ◌∷◌, ◌++◌, length, drop, get_or, Option, sym, ap, ◌∙◌, append_assoc, append-nil}
+use Rattle.std.proofs.Common.{◌≡◌, ℕ, ◌+◌, ◌<◌, List, [], ◌∷◌, ◌++◌, length, drop, get_or, Option, sym, subst, ap, ◌∙◌, append_assoc, append-nil}
 use Rattle.std.specs.List.{flat_map}
 use Rattle.std.specs.Io.KnownBytes.{Appends}
 use Rattle.std.proofs.lemmas.List.{drop_more}
@@ -37,6 +37,12 @@ module _ {old new : Option (List ℕ)} {all pending rest : List ℕ} (p : Writte
   -- what was written is a beginning, also with a beginning of what is pending
   pub lines_begun : (new' : Option (List ℕ)) → AppendsBeginning new new' pending → AppendsBeginning old new' all
   lines_begun new' more = beginning_then old new new' p.written pending rest all p.appended more p.whole
+
+  -- where none is to come, what is pending is the last of them
+  pub all_written : (new' : Option (List ℕ)) → rest ≡ [] → Appends new new' pending → Appends old new' all
+  all_written new' none more =
+      subst (Appends old new') (sym (p.whole ∙ ap (λ v. (p.written ++ pending) ++ v) none ∙ append-nil (p.written ++ pending)))
+      (appends_then old new new' p.written pending p.appended more)
 
 -- the lines from a place on
 pub line_at : (counts : List (AtomValue × ℕ)) (i : ℕ) (item : AtomValue × ℕ) → i < length counts → item ≡ get_or counts i item

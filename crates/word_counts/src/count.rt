@@ -15,11 +15,12 @@ pub use merge::MANY;
 #[doc(hidden)]
 pub use parts::sections;
 use std::sync::Wait;
+use std::thread;
 use std::thread::Threads;
 use string_cache::dynamic_set::Set;
 use string_cache::{Atom, StaticTables};
 use text_streams::faults::AppFault;
-use workers::counts_by_workers;
+use workers::counts_in;
 
 /// Lets the workers of `count` in to their pieces, numbered from 1, and out of them.
 pub trait Gate: Sync {
@@ -64,5 +65,13 @@ pub fn count<'s, R: Threads + Wait + Sync, Static: StaticTables + Send + Sync, G
     ensures law { IfOk result (λ counts. AreWordCounts (words text.now) (counted_texts counts.items)) }
     ensures fault { IfErr result IsCountFault }
 {
-    counts_by_workers(rt, set, gate, text, n)
+    thread::scope(
+        thread::scope_env::<'s>(),
+        rt,
+        move |scope| -> Result<WordCounts<'_, Static>, AppFault>
+            requires { 1 ≤ n }
+            ensures counts { IfOk result (λ counts. counted_texts counts.items ≡ word_counts (words text.entry.now)) }
+            ensures fault { IfErr result IsCountFault }
+        { counts_in(scope, rt, set, gate, text, n) },
+    )
 }

@@ -14,7 +14,6 @@ use super::tally::{Tally, add, into_pairs};
 use super::{Gate, WordCounts};
 use std::collections::{HashMap, VecDeque};
 use std::sync::Wait;
-use std::thread;
 use std::thread::{Promise, Scope, Threads};
 use string_cache::dynamic_set::Set;
 use string_cache::{Atom, Fault, StaticTables};
@@ -136,7 +135,7 @@ fn counts_of_each<
 }
 
 /// The counts of the words of the text, by `n` workers of the scope.
-fn counts_in<'x, 'e: 'x, R: Threads + Wait + Sync, Static: StaticTables + Send + Sync, G: Gate>(
+pub fn counts_in<'x, 'e: 'x, R: Threads + Wait + Sync, Static: StaticTables + Send + Sync, G: Gate>(
     scope: &Scope<'x, &'e ()>,
     rt: &'e R,
     set: &'e Set<Static>,
@@ -152,27 +151,4 @@ fn counts_in<'x, 'e: 'x, R: Threads + Wait + Sync, Static: StaticTables + Send +
     let lists = counts_of_each(scope, rt, set, gate, &parts)?;
     let counts = merge_all(rt, set.allocator(), lists)?;
     Ok(counts)
-}
-
-/// The counts of the words of the text, by `n` workers.
-pub fn counts_by_workers<'e, R: Threads + Wait + Sync, Static: StaticTables + Send + Sync, G: Gate>(
-    rt: &'e R,
-    set: &'e Set<Static>,
-    gate: &'e G,
-    text: &'e str,
-    n: u32,
-) -> Result<WordCounts<'e, Static>, AppFault>
-    requires { 1 ≤ n }
-    ensures counts { IfOk result (λ counts. counted_texts counts.items ≡ word_counts (words text.now)) }
-    ensures fault { IfErr result IsCountFault }
-{
-    thread::scope(
-        thread::scope_env::<'e>(),
-        rt,
-        move |scope| -> Result<WordCounts<'_, Static>, AppFault>
-            requires { 1 ≤ n }
-            ensures counts { IfOk result (λ counts. counted_texts counts.items ≡ word_counts (words text.entry.now)) }
-            ensures fault { IfErr result IsCountFault }
-        { counts_in(scope, rt, set, gate, text, n) },
-    )
 }
