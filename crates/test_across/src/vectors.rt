@@ -4,13 +4,14 @@ mod limits;
 mod long;
 mod odd;
 
-use crate::begun::{interned, new_set};
+use crate::begun::new_set;
 use std::alloc::{AllocError, Global};
 use std::sync::Wait;
 use string_cache::dynamic_set::Set;
 use string_cache::static_sets::StaticAtomSet;
 use string_cache::trivial_impls::PrecomputedHash;
 use string_cache::{Atom, EmptyStaticAtomSet, Fault};
+use test_calls::interned;
 use test_samples::One;
 
 /// The static type of a row.

@@ -1,6 +1,6 @@
 //! What no contract says: words and texts that come from outside, and sets that threads share.
 
-use crate::samples::{One, are_one, empty_set, has_text, has_word, intern};
+use crate::samples::{intern, new_set};
 use std::process::Abort;
 use std::sync::Wait;
 use std::thread;
@@ -8,6 +8,8 @@ use string_cache::dynamic_set::Set;
 use string_cache::static_sets::EmptyStaticAtomSet;
 use string_cache::word::ticket_word;
 use string_cache::{Atom, DefaultAtom, Fault};
+use test_calls::{are_one, has_text, has_word};
+use test_samples::One;
 
 /// Compiles only for what threads may share and send.
 fn crosses<T: Send + Sync>(_value: &T) {}
@@ -44,7 +46,7 @@ const INLINE: [(&str, u64); 6] = [
 
 #[test]
 fn inline_atoms(rt: HostRuntime) {
-    let set = empty_set(&rt, rt.alloc());
+    let set = new_set(&rt, rt.alloc());
     for (text, word) in INLINE {
         assert!(rt; has_inline_word(&rt, &set, text, word), "of {text:?}");
     }
@@ -64,7 +66,7 @@ fn has_ticket<R: Wait + Abort>(
 
 #[test]
 fn dynamic_atoms(rt: HostRuntime) {
-    let set = empty_set(&rt, rt.alloc());
+    let set = new_set(&rt, rt.alloc());
     // Held to the end, so that its entry is found again.
     let _held = intern(&rt, &set, "abcdefgh");
     // The low 12 bits of f1 are the bucket: of 0x86f9a2c5, 0x06a47210 and 0xb9737e77.
@@ -80,8 +82,8 @@ fn dynamic_atoms(rt: HostRuntime) {
 
 #[test]
 fn atoms_of_two_sets(rt: HostRuntime) {
-    let one = empty_set(&rt, rt.alloc());
-    let other = empty_set(&rt, rt.alloc());
+    let one = new_set(&rt, rt.alloc());
+    let other = new_set(&rt, rt.alloc());
     assert!(rt; are_equal(&rt, (&one, "abcdefgh"), (&other, "abcdefgh")));
     assert!(rt; !are_equal(&rt, (&one, "abcdefgh"), (&other, "interned")));
 }
@@ -115,7 +117,7 @@ fn is_sentence(atom: &Atom<'_, One>) -> bool {
 
 #[test]
 fn static_atoms(rt: HostRuntime) {
-    let set = empty_set(&rt, rt.alloc());
+    let set = new_set(&rt, rt.alloc());
     assert!(rt; is_sentence(&intern(&rt, &set, "sentence")));
     assert!(rt; is_sentence(&Atom::try_static("sentence").expect(&rt, "a static text")));
     assert!(rt; is_sentence(&Atom::pack_static(0).expect(&rt, "a static text")));
@@ -150,7 +152,7 @@ fn is_shared(left: &DefaultAtom<'_>, right: &DefaultAtom<'_>) -> bool {
 
 #[test]
 fn shared_by_threads(rt: HostRuntime) {
-    let set = empty_set(&rt, rt.alloc());
+    let set = new_set(&rt, rt.alloc());
     crosses(&set);
     let (shared, handle) = (&set, &rt);
     let (left, right) = thread::join(

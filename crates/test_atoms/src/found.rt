@@ -1,7 +1,7 @@
 //! Texts that are looked up, and not interned. By OpenSSL's SipHash the bucket of "interned" is 0x210, and of "forgotten" and "magnitude"
 //! 0x72f.
 
-use crate::samples::{One, are_one, empty_set, has_text, has_word, intern, links};
+use crate::samples::{intern, new_set};
 use std::alloc::Global;
 use std::process::Abort;
 use std::sync::Wait;
@@ -9,6 +9,8 @@ use string_cache::dynamic_set::Set;
 use string_cache::static_sets::{EmptyStaticAtomSet, StaticAtomSet};
 use string_cache::word::{Buckets, Limits, ticket_word};
 use string_cache::{Atom, DefaultAtom, Fault};
+use test_calls::{are_one, has_text, has_word, links};
+use test_samples::One;
 
 /// What is found of a text.
 fn look_up<'s, R: Wait + Abort, Static: StaticAtomSet>(
@@ -45,7 +47,7 @@ const FIXED: [(&str, u64); 4] = [("", 1), ("\0", 0x11), ("foo", 0x6f6f_6631), ("
 
 #[test]
 fn fixed_texts_are_found(rt: HostRuntime) {
-    let set = empty_set::<One>(&rt, rt.alloc());
+    let set = new_set::<One>(&rt, rt.alloc());
     for (text, word) in &FIXED {
         assert!(rt; is_found(&rt, &set, text, *word), "of {text:?}");
     }
@@ -55,7 +57,7 @@ fn fixed_texts_are_found(rt: HostRuntime) {
 /// Of two texts of one bucket, and of one of another bucket.
 #[test]
 fn held_texts_alone_are_found(rt: HostRuntime) {
-    let set = empty_set(&rt, rt.alloc());
+    let set = new_set(&rt, rt.alloc());
     let forgotten = intern(&rt, &set, "forgotten");
     assert!(rt; is_absent(&rt, &set, "magnitude"));
     assert!(rt; is_absent(&rt, &set, "interned"));

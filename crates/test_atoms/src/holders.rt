@@ -1,6 +1,6 @@
 //! Holders up to their limit, and what is left of them.
 
-use crate::samples::{are_one, empty_set, has_text, has_word, intern, links};
+use crate::samples::{intern, new_set};
 use std::alloc::Global;
 use std::process::Abort;
 use std::sync::Wait;
@@ -8,6 +8,7 @@ use string_cache::dynamic_set::Set;
 use string_cache::static_sets::EmptyStaticAtomSet;
 use string_cache::word::{Limits, ticket_word};
 use string_cache::{Atom, DefaultAtom, Fault};
+use test_calls::{are_one, has_text, has_word, links};
 
 fn limits_of(rt: &impl Abort, holders: u64, serials: u64) -> Limits {
     Limits::new(holders, serials).expect(rt, "limits")
@@ -74,7 +75,7 @@ fn one_serial(rt: HostRuntime) {
 
 #[test]
 fn limits_of_a_set(rt: HostRuntime) {
-    let set = empty_set::<EmptyStaticAtomSet>(&rt, rt.alloc());
+    let set = new_set::<EmptyStaticAtomSet>(&rt, rt.alloc());
     assert!(rt; set.limits() == Limits::greatest());
     let set = limited_set(&rt, rt.alloc(), 2, 9);
     assert!(rt; set.limits() == limits_of(&rt, 2, 9));
@@ -83,7 +84,7 @@ fn limits_of_a_set(rt: HostRuntime) {
 /// Interned and cloned in turn.
 #[test]
 fn two_thousand_holders(rt: HostRuntime) {
-    let set = empty_set(&rt, rt.alloc());
+    let set = new_set(&rt, rt.alloc());
     let first = intern(&rt, &set, "interned");
     let mut atoms = Vec::new(rt.alloc());
     for _ in 0..1000 {

@@ -1,12 +1,13 @@
 //! Atoms where any text or any bytes are asked for, and atoms in structs that are written as JSON.
 
-use crate::samples::{One, empty_set, intern};
+use crate::samples::{intern, new_set};
 use serde::Serialize;
 use std::convert::{AsSlice, AsStr};
 use std::process::Abort;
 use std::sync::Wait;
 use string_cache::Atom;
 use string_cache::dynamic_set::Set;
+use test_samples::One;
 
 fn is_lent<T: AsStr>(value: &T, text: &str) -> bool {
     value.as_str() == text
@@ -21,7 +22,7 @@ const TEXTS: [&str; 4] = ["", "été", "sentence", "tokenised"];
 
 #[test]
 fn texts_are_lent(rt: HostRuntime) {
-    let set = empty_set::<One>(&rt, rt.alloc());
+    let set = new_set::<One>(&rt, rt.alloc());
     for text in &TEXTS {
         let atom = intern(&rt, &set, text);
         assert!(rt; is_lent(&atom, text), "of {text:?}");
@@ -75,7 +76,7 @@ const PRICES: [(&str, &str, &str); 3] = [
 
 #[test]
 fn prices_are_written(rt: HostRuntime) {
-    let set = empty_set::<One>(&rt, rt.alloc());
+    let set = new_set::<One>(&rt, rt.alloc());
     for (name, kind, json) in &PRICES {
         assert!(rt; is_written(&rt, &set, name, kind, json), "of {name:?}");
     }

@@ -1,6 +1,6 @@
 //! What atoms tell and print, with values that come from outside, and atoms of JSON texts.
 
-use crate::samples::{One, are_one, empty_set, intern};
+use crate::samples::{intern, new_set};
 use serde_json::Value;
 use std::alloc::{AllocError, Global};
 use std::borrow::CowStr;
@@ -11,6 +11,8 @@ use string_cache::dynamic_set::Set;
 use string_cache::static_sets::{EmptyStaticAtomSet, StaticAtomSet};
 use string_cache::trivial_impls::PrecomputedHash;
 use string_cache::{Atom, DefaultAtom, Fault};
+use test_calls::are_one;
+use test_samples::One;
 
 /// The hash of anything that has one.
 fn precomputed_of<T: PrecomputedHash>(value: &T) -> u32 {
@@ -49,13 +51,13 @@ fn check_text(rt: &impl Abort, text: &str, wanted: &str) {
 
 #[test]
 fn text_of_a_zero_byte(rt: HostRuntime) {
-    let set = empty_set::<EmptyStaticAtomSet>(&rt, rt.alloc());
+    let set = new_set::<EmptyStaticAtomSet>(&rt, rt.alloc());
     check_differ(&rt, &intern(&rt, &set, "\0"), &intern(&rt, &set, ""));
 }
 
 #[test]
 fn upper_case_of_a_static_text(rt: HostRuntime) {
-    let set = empty_set::<One>(&rt, rt.alloc());
+    let set = new_set::<One>(&rt, rt.alloc());
     let atom = intern(&rt, &set, "sentence");
     let upper = atom.to_ascii_uppercase_in(&rt, &set).expect(&rt, "an atom");
     check_equal(&rt, &upper, &intern(&rt, &set, "SENTENCE"));
@@ -93,7 +95,7 @@ const STYLES: [(&str, &str); 5] = [
 
 #[test]
 fn widths_and_precisions(rt: HostRuntime) {
-    let set = empty_set(&rt, rt.alloc());
+    let set = new_set(&rt, rt.alloc());
     for (text, wanted) in STYLES {
         let (of_atom, of_text) = both_styled(&rt, &set, text).expect(&rt, "an answer");
         check_text(&rt, &of_atom, wanted);
@@ -104,7 +106,7 @@ fn widths_and_precisions(rt: HostRuntime) {
 /// Neither on the whole nor on the text within it.
 #[test]
 fn no_width_acts_on_debug(rt: HostRuntime) {
-    let set = empty_set::<EmptyStaticAtomSet>(&rt, rt.alloc());
+    let set = new_set::<EmptyStaticAtomSet>(&rt, rt.alloc());
     let atom = intern(&rt, &set, "foo");
     let printed = format!(in rt.alloc(); "{atom:>40?}|{atom:.1?}|{atom:#?}").expect(&rt, "a text");
     let wanted = "Atom('foo' type=inline)|Atom('foo' type=inline)|Atom('foo' type=inline)";
@@ -146,7 +148,7 @@ const JSON_TEXTS: [(&str, &str); 5] = [
 
 #[test]
 fn json_texts(rt: HostRuntime) {
-    let set = empty_set(&rt, rt.alloc());
+    let set = new_set(&rt, rt.alloc());
     for (text, json) in JSON_TEXTS {
         check_json(&rt, &set, text, json);
     }
@@ -166,7 +168,7 @@ fn check_interned<R: Wait + Abort>(
 #[test]
 fn atoms_of_one_text(rt: HostRuntime) {
     let alloc = rt.alloc();
-    let set = empty_set(&rt, alloc);
+    let set = new_set(&rt, alloc);
     let text = String::from_str(alloc, "interned").expect(&rt, "a text");
     check_interned(
         &rt,
@@ -194,7 +196,7 @@ const NO_TEXTS: [&str; 6] = ["null", "true", "7", "[]", "{}", "[\"interned\"]"];
 
 #[test]
 fn json_without_text(rt: HostRuntime) {
-    let set = empty_set(&rt, rt.alloc());
+    let set = new_set(&rt, rt.alloc());
     for json in NO_TEXTS {
         check_refused(&rt, &set, json);
     }

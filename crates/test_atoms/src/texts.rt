@@ -1,6 +1,6 @@
 //! Orders, hashes and cases with values that come from outside, and atoms as keys of maps.
 
-use crate::samples::{One, are_one, empty_set, has_text, has_word, intern};
+use crate::samples::{intern, new_set};
 use std::alloc::Global;
 use std::borrow::CowStr;
 use std::cmp::Ordering;
@@ -10,6 +10,8 @@ use std::sync::Wait;
 use string_cache::dynamic_set::Set;
 use string_cache::static_sets::{EmptyStaticAtomSet, StaticAtomSet};
 use string_cache::{Atom, DefaultAtom};
+use test_calls::{are_one, has_text, has_word};
+use test_samples::One;
 
 #[test]
 fn default_atom(rt: HostRuntime) {
@@ -32,7 +34,7 @@ const HASHES: [(&str, u64); 4] = [
 
 #[test]
 fn hash_numbers(rt: HostRuntime) {
-    let set = empty_set(&rt, rt.alloc());
+    let set = new_set(&rt, rt.alloc());
     for (text, number) in HASHES {
         assert!(rt; hash_of_text(&rt, &set, text) == number, "of {text:?}");
     }
@@ -66,7 +68,7 @@ const ORDERS: [(&str, &str, Ordering); 6] = [
 
 #[test]
 fn orders(rt: HostRuntime) {
-    let set = empty_set(&rt, rt.alloc());
+    let set = new_set(&rt, rt.alloc());
     for (left, right, wanted) in ORDERS {
         check_order(&rt, &set, (left, right), wanted);
     }
@@ -100,7 +102,7 @@ const EQUALITIES: [(&str, &str, bool, bool); 5] = [
 
 #[test]
 fn without_case(rt: HostRuntime) {
-    let set = empty_set(&rt, rt.alloc());
+    let set = new_set(&rt, rt.alloc());
     for (left, right, equal, without_case) in EQUALITIES {
         assert!(rt; have_equalities(&rt, &set, left, right, (equal, without_case)));
     }
@@ -126,7 +128,7 @@ fn is_cloned<R: Wait + Abort>(rt: &R, set: &Set<One>, text: &str) -> bool {
 
 #[test]
 fn clones(rt: HostRuntime) {
-    let set = empty_set(&rt, rt.alloc());
+    let set = new_set(&rt, rt.alloc());
     for text in ["foo", "sentence", "interned"] {
         assert!(rt; is_cloned(&rt, &set, text), "of {text:?}");
     }
@@ -156,7 +158,7 @@ fn intern_cow<'s, R: Wait + Abort>(
 
 #[test]
 fn owned_texts(rt: HostRuntime) {
-    let set = empty_set(&rt, rt.alloc());
+    let set = new_set(&rt, rt.alloc());
     let atom = intern(&rt, &set, "interned");
     assert!(rt; is_same(&atom, &intern_owned(&rt, &set, "interned")));
     assert!(rt; is_same(&atom, &intern_cow(&rt, &set, CowStr::Borrowed("interned"))));
@@ -214,7 +216,7 @@ const CASES: [(&str, &str, &str); 5] = [
 
 #[test]
 fn cases(rt: HostRuntime) {
-    let set = empty_set(&rt, rt.alloc());
+    let set = new_set(&rt, rt.alloc());
     for (text, upper, lower) in CASES {
         assert!(rt; has_cases(&rt, &set, text, upper, lower));
     }
@@ -224,7 +226,7 @@ fn cases(rt: HostRuntime) {
 
 #[test]
 fn cases_of_a_static_text(rt: HostRuntime) {
-    let set = empty_set::<One>(&rt, rt.alloc());
+    let set = new_set::<One>(&rt, rt.alloc());
     let upper = upper_of(&rt, &set, &intern(&rt, &set, "sentence"));
     assert!(rt; has_text(&upper, "SENTENCE") && upper.is_dynamic());
     let lower = lower_of(&rt, &set, &upper);
@@ -290,7 +292,7 @@ fn count_words<'s, R: Wait + Abort>(
 
 #[test]
 fn keys_of_maps(rt: HostRuntime) {
-    let set = empty_set(&rt, rt.alloc());
+    let set = new_set(&rt, rt.alloc());
     let mut counts = HashMap::new(rt.alloc());
     let mut sorted = BTreeMap::new(rt.alloc());
     let text = "interned sentence a interned b a interned";
@@ -328,7 +330,7 @@ fn check_upper<R: Wait + Abort>(rt: &R, set: &Set<EmptyStaticAtomSet>, atom: &De
 /// A text of 300,000 bytes, not all of them ASCII, interned, put into another case, and there and back as JSON.
 #[test]
 fn long_text(rt: HostRuntime) {
-    let set = empty_set(&rt, rt.alloc());
+    let set = new_set(&rt, rt.alloc());
     let text = repeated(&rt, rt.alloc(), "aé", 100_000);
     let atom = intern(&rt, &set, &text);
     assert!(rt; has_length(&atom, 300_000));

@@ -12,38 +12,35 @@ use string_cache::steps::{Step, StepReply, World};
 use string_cache::table::Table;
 use string_cache::word::{Limits, static_word};
 use string_cache::{Atom, Fault};
+use test_calls::{has_text, interned, links};
 
 // These say nothing of what they do, so that each test is proved in a moment. They take any static type, since the borrow checker doesn't
 // cover a function in which a set, an atom or a table of a packed type stands by name.
 
-fn set_of<S: StaticTables>(rt: &impl Abort, alloc: Global) -> Set<S> {
+fn new_set<Static: StaticTables>(rt: &impl Abort, alloc: Global) -> Set<Static> {
     Set::new(alloc).expect(rt, "a set")
 }
 
-fn intern<'s, R: Wait + Abort, S: StaticTables>(
+fn intern<'s, R: Wait + Abort, Static: StaticTables>(
     rt: &R,
-    set: &'s Set<S>,
+    set: &'s Set<Static>,
     text: &str,
-) -> Atom<'s, S> {
-    Atom::from_str_in(rt, set, text).expect(rt, "an atom")
-}
-
-fn has_text<S: StaticTables>(atom: &Atom<'_, S>, text: &str) -> bool {
-    atom.as_str() == text
+) -> Atom<'s, Static> {
+    interned(rt, set, text).expect(rt, "an atom")
 }
 
 /// Whether an atom of the text is static, and links nothing in a set of its own.
 fn is_static<S: StaticTables>(rt: &(impl Wait + Abort), alloc: Global, text: &str) -> bool {
-    let set = set_of::<S>(rt, alloc);
+    let set = new_set::<S>(rt, alloc);
     let atom = intern(rt, &set, text);
-    atom.is_static() && has_text(&atom, text) && set.linked(rt) == 0
+    atom.is_static() && has_text(&atom, text) && links(rt, &set, 0)
 }
 
 /// Whether an atom of the text is dynamic, and the one that its set links.
 fn is_linked<S: StaticTables>(rt: &(impl Wait + Abort), alloc: Global, text: &str) -> bool {
-    let set = set_of::<S>(rt, alloc);
+    let set = new_set::<S>(rt, alloc);
     let atom = intern(rt, &set, text);
-    atom.is_dynamic() && has_text(&atom, text) && set.linked(rt) == 1
+    atom.is_dynamic() && has_text(&atom, text) && links(rt, &set, 1)
 }
 
 #[test]

@@ -3,7 +3,6 @@
 
 use crate::samples::{
     DefaultSet, atom_of, bucket_numbers, check_atom, check_linked, drop_under_locks, hash_of,
-    look_up,
 };
 use std::alloc::Global;
 use std::process::Abort;
@@ -13,6 +12,7 @@ use string_cache::DefaultAtom;
 use string_cache::dynamic_set::Set;
 use string_cache::static_sets::EmptyStaticAtomSet;
 use string_cache::word::{Buckets, Limits};
+use test_calls::look_up;
 
 fn set_of(rt: &impl Abort, alloc: Global, buckets: Buckets) -> DefaultSet {
     Set::with_buckets(alloc, Limits::greatest(), buckets).expect(rt, "a set")

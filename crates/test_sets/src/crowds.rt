@@ -1,8 +1,6 @@
 //! Texts of one bucket, and many workers at them.
 
-use crate::samples::{
-    DefaultSet, atom_of, bucket_numbers, check_linked, cloned, default_set, hash_of, interned,
-};
+use crate::samples::{DefaultSet, atom_of, bucket_numbers, check_linked, default_set, hash_of};
 use std::alloc::{AllocError, Global};
 use std::process::Abort;
 use std::sync::Wait;
@@ -13,6 +11,7 @@ use string_cache::static_sets::EmptyStaticAtomSet;
 use string_cache::table::Table;
 use string_cache::word::{Buckets, Limits};
 use string_cache::{Atom, DefaultAtom, Fault};
+use test_calls::{cloned, interned};
 
 /// This many texts: `w0000000`, `w0000001` and so on.
 fn numbers(alloc: Global, count: usize) -> Result<Vec<String>, AllocError> {

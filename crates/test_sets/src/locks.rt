@@ -1,9 +1,7 @@
 //! Buckets' locks that are held meanwhile, and what stays linked. By OpenSSL's SipHash the bucket of "afterwards" is 0, of
 //! "geometric" 0xfff, and of "forgotten" and "magnitude" 0x72f.
 
-use crate::samples::{
-    DefaultSet, atom_of, check_atom, check_linked, cloned, default_set, interned, lock_of, look_up,
-};
+use crate::samples::{DefaultSet, atom_of, check_atom, check_linked, default_set, lock_of};
 use serde_json::Value;
 use std::process::Abort;
 use std::sync::atomic::{AtomicBool, Ordering};
@@ -14,6 +12,7 @@ use string_cache::dynamic_set::{Bucket, Set};
 use string_cache::static_sets::{EmptyStaticAtomSet, StaticTables};
 use string_cache::word::ticket_word;
 use string_cache::{Atom, DefaultAtom, Fault};
+use test_calls::{cloned, interned, look_up};
 use test_samples::One;
 
 /// Whether each lock is free but this one's, or each, where there is no such bucket.

@@ -1,6 +1,6 @@
 //! More holders, entries and serials of one bucket than 16 bits count.
 
-use crate::samples::{DefaultSet, atom_of, cloned, hash_of, interned, lock_of, look_up};
+use crate::samples::{DefaultSet, atom_of, hash_of, lock_of};
 use std::alloc::Global;
 use std::process::Abort;
 use std::sync::Wait;
@@ -9,6 +9,7 @@ use string_cache::dynamic_set::{Bucket, Set, Share};
 use string_cache::static_sets::EmptyStaticAtomSet;
 use string_cache::word::{Buckets, Limits};
 use string_cache::{DefaultAtom, Fault};
+use test_calls::{cloned, interned, look_up};
 
 const MANY: u32 = 70_000;
 

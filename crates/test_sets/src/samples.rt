@@ -1,5 +1,4 @@
-//! What tests of this crate share: hashes, numbers of buckets, and sets. Those calls of a set say nothing of what they do, so that
-//! each test is proved in a moment.
+//! What tests of this crate share: hashes, numbers of buckets, and sets.
 
 ghost use Rattle.std.specs.Prelude.{◌≡◌};
 ghost use Rattle.string_cache_core.specs.Tables.{entry_hash};
@@ -8,11 +7,12 @@ use std::alloc::{AllocError, Global};
 use std::process::Abort;
 use std::sync::{MutexGuard, Wait};
 use std::test::Fail;
+use string_cache::DefaultAtom;
 use string_cache::dynamic_set::{Bucket, Set};
 use string_cache::phf::hash;
-use string_cache::static_sets::{EmptyStaticAtomSet, StaticAtomSet, StaticTables};
+use string_cache::static_sets::{EmptyStaticAtomSet, StaticAtomSet};
 use string_cache::word::Buckets;
-use string_cache::{Atom, DefaultAtom, Fault};
+use test_calls::interned;
 
 /// A set without static texts.
 pub type DefaultSet = Set<EmptyStaticAtomSet>;
@@ -36,32 +36,6 @@ pub fn bucket_numbers(alloc: Global) -> Result<Vec<Buckets>, Fail> {
 
 pub fn default_set(rt: &impl Abort, alloc: Global) -> DefaultSet {
     Set::new(alloc).expect(rt, "a set")
-}
-
-/// The atom of a text, unless it is refused.
-pub fn interned<'s, R: Wait, Static: StaticTables>(
-    rt: &R,
-    set: &'s Set<Static>,
-    text: &str,
-) -> Result<Atom<'s, Static>, Fault> {
-    Atom::from_str_in(rt, set, text)
-}
-
-/// The atom of a text that the set has, unless it is refused.
-pub fn look_up<'s, R: Wait, Static: StaticTables>(
-    rt: &R,
-    set: &'s Set<Static>,
-    text: &str,
-) -> Result<Option<Atom<'s, Static>>, Fault> {
-    Atom::get_in(rt, set, text)
-}
-
-/// A clone of an atom, unless it is refused.
-pub fn cloned<'s, R: Wait, Static: StaticTables>(
-    rt: &R,
-    atom: &Atom<'s, Static>,
-) -> Result<Atom<'s, Static>, Fault> {
-    atom.clone_atom(rt)
 }
 
 pub fn atom_of<'s, R: Wait + Abort>(rt: &R, set: &'s DefaultSet, text: &str) -> DefaultAtom<'s> {

@@ -1,12 +1,13 @@
 //! Threads at work on one set, and on one atom.
 
-use crate::samples::{DefaultSet, atom_of, check_linked, cloned, default_set, interned};
+use crate::samples::{DefaultSet, atom_of, check_linked, default_set};
 use std::sync::Wait;
 use std::sync::atomic::{AtomicU64, Ordering};
 use std::thread;
 use string_cache::dynamic_set::Set;
 use string_cache::word::Limits;
 use string_cache::{DefaultAtom, Fault};
+use test_calls::{cloned, interned};
 
 /// Interns, clones and drops each of the texts, again and again. Whether each atom had its text.
 fn turn_over<R: Wait>(rt: &R, set: &DefaultSet) -> Result<bool, Fault> {

@@ -1,7 +1,7 @@
 //! Entries that are visited, and the bytes that they take. By OpenSSL's SipHash the bucket of "afterwards" is 0, of "forgotten" and
 //! "magnitude" 0x72f, of "geometric" 0xfff, and of "interned" 0x210.
 
-use crate::samples::{DefaultSet, atom_of, check_linked, cloned, default_set, interned, lock_of};
+use crate::samples::{DefaultSet, atom_of, check_linked, default_set, lock_of};
 use std::alloc::Global;
 use std::fmt::Write;
 use std::process::Abort;
@@ -9,6 +9,7 @@ use std::sync::Wait;
 use string_cache::dynamic_set::Set;
 use string_cache::word::{Buckets, Limits};
 use string_cache::{DefaultAtom, Fault};
+use test_calls::{cloned, interned};
 
 /// The texts of the entries that are linked, each with the number of its holders.
 fn visited<R: Wait>(rt: &R, set: &DefaultSet) -> String {

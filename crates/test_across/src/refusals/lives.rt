@@ -1,6 +1,5 @@
 //! The life of a text from its first atom to its last, in a set of one bucket whose texts have two holders at most.
 
-use crate::begun::{cloned, interned, look_up};
 use std::alloc::Global;
 use std::io::Print;
 use std::process::Abort;
@@ -8,6 +7,7 @@ use std::sync::Wait;
 use string_cache::dynamic_set::Set;
 use string_cache::word::{Buckets, Limits};
 use string_cache::{DefaultAtom, EmptyStaticAtomSet, Fault};
+use test_calls::{cloned, interned, look_up};
 use test_refusals::at_last;
 
 type OneBucket = Set<EmptyStaticAtomSet>;

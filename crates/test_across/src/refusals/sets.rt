@@ -1,6 +1,6 @@
 //! Sets and their atoms: a call that is made again gives the ticket that it would have given the first time.
 
-use crate::begun::{intern, interned, is_of, links, new_set};
+use crate::begun::{intern, new_set};
 use serde_json::Value;
 use std::alloc::Global;
 use std::borrow::CowStr;
@@ -10,6 +10,7 @@ use std::sync::Wait;
 use string_cache::dynamic_set::Set;
 use string_cache::word::{Buckets, Limits};
 use string_cache::{DefaultAtom, EmptyStaticAtomSet, Fault};
+use test_calls::{interned, is_of, links};
 use test_refusals::{End, at_last, begin, finish};
 
 /// The first ticket of "interned": its bucket is 0x210, the low bits of its SipHash by OpenSSL.

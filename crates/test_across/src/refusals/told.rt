@@ -1,6 +1,6 @@
 //! Calls whose bytes a set tells: `gate/refused.py` compares what each of these tests prints with what the call asked for.
 
-use crate::begun::{interned, new_set};
+use crate::begun::new_set;
 use std::alloc::Global;
 use std::io::Print;
 use std::process::Abort;
@@ -8,6 +8,7 @@ use std::sync::Wait;
 use string_cache::EmptyStaticAtomSet;
 use string_cache::dynamic_set::Set;
 use string_cache::word::{Buckets, Limits};
+use test_calls::interned;
 use test_refusals::{End, begin, finish};
 
 /// A set without static texts.

@@ -1,6 +1,6 @@
 //! Calls that ask for no memory: `gate/refused.py` refuses every request between the two lines, and wants that there is none.
 
-use crate::begun::{cloned, intern, interned, look_up, new_set, new_table, word_in};
+use crate::begun::{intern, new_set, new_table, word_in};
 use serde_json::Value;
 use std::alloc::Global;
 use std::cmp::Ordering;
@@ -11,6 +11,7 @@ use string_cache::static_sets::StaticAtomSet;
 use string_cache::table::Table;
 use string_cache::word::{Buckets, Limits};
 use string_cache::{Atom, DefaultAtom, EmptyStaticAtomSet, Fault};
+use test_calls::{cloned, interned, look_up};
 use test_refusals::{End, begin, finish};
 use test_samples::One;
 

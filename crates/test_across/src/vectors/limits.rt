@@ -1,12 +1,13 @@
 //! Sets with small limits, and no other thread.
 
-use crate::begun::{self, cloned, intern, is_of, links};
+use crate::begun::intern;
 use std::alloc::Global;
 use std::process::Abort;
 use std::sync::Wait;
 use string_cache::dynamic_set::Set;
 use string_cache::word::Limits;
 use string_cache::{DefaultAtom, EmptyStaticAtomSet, Fault};
+use test_calls::{cloned, is_of, links};
 
 /// The first ticket of "interned", and how far apart two tickets are that a bucket gives one after the other.
 const FIRST: u64 = 0x1_0840;
@@ -25,7 +26,7 @@ fn interned<'s, R: Wait>(
     set: &'s Set<EmptyStaticAtomSet>,
     word: u64,
 ) -> Option<DefaultAtom<'s>> {
-    let atom = begun::interned(rt, set, "interned").ok()?;
+    let atom = test_calls::interned(rt, set, "interned").ok()?;
     if atom.unsafe_data() != word {
         return None;
     }
@@ -34,7 +35,7 @@ fn interned<'s, R: Wait>(
 
 /// Why "interned" is refused.
 fn refused<R: Wait>(rt: &R, set: &Set<EmptyStaticAtomSet>) -> Option<Fault> {
-    begun::interned(rt, set, "interned").err()
+    test_calls::interned(rt, set, "interned").err()
 }
 
 /// Why the text of the atom is refused, handed in as a JSON value and in small letters.

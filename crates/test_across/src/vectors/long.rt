@@ -1,12 +1,13 @@
 //! Texts of hundreds of kilobytes, and of two megabytes beyond ASCII. OpenSSL's SipHash tells their hashes.
 
-use crate::begun::{intern, is_of, new_set, new_table};
+use crate::begun::{intern, new_set, new_table};
 use serde_json::Value;
 use std::alloc::{AllocError, Global};
 use std::sync::Wait;
 use string_cache::dynamic_set::Set;
 use string_cache::table::Table;
 use string_cache::{Atom, DefaultAtom, EmptyStaticAtomSet, Fault};
+use test_calls::is_of;
 
 /// A text of 2,097,160 bytes: letters of one, two, three and four bytes.
 fn long_text(alloc: Global) -> Result<String, AllocError> {
