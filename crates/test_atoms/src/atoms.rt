@@ -47,8 +47,8 @@ const INLINE: [(&str, u64); 6] = [
 #[test]
 fn inline_atoms(rt: HostRuntime) {
     let set = new_set(&rt, rt.alloc());
-    for (text, word) in INLINE {
-        assert!(rt; has_inline_word(&rt, &set, text, word), "of {text:?}");
+    for (text, word) in &INLINE {
+        assert!(rt; has_inline_word(&rt, &set, text, *word), "of {text:?}");
     }
     assert!(rt; !are_equal(&rt, (&set, "\0"), (&set, "")));
 }
@@ -115,13 +115,23 @@ fn is_sentence(atom: &Atom<'_, One>) -> bool {
     atom.is_static() && has_word(atom, 2) && has_text(atom, "sentence")
 }
 
+/// Whether each call that gives the atom of the static text does.
+fn are_sentences<R: Wait + Abort>(rt: &R, set: &Set<One>) -> bool {
+    is_sentence(&intern(rt, set, "sentence"))
+        && Atom::try_static("sentence").is_some_and(|atom| is_sentence(&atom))
+        && Atom::pack_static(0).is_some_and(|atom| is_sentence(&atom))
+}
+
+/// Whether the text is dynamic.
+fn is_dynamic<R: Wait + Abort>(rt: &R, set: &Set<One>, text: &str) -> bool {
+    intern(rt, set, text).is_dynamic()
+}
+
 #[test]
 fn static_atoms(rt: HostRuntime) {
     let set = new_set(&rt, rt.alloc());
-    assert!(rt; is_sentence(&intern(&rt, &set, "sentence")));
-    assert!(rt; is_sentence(&Atom::try_static("sentence").expect(&rt, "a static text")));
-    assert!(rt; is_sentence(&Atom::pack_static(0).expect(&rt, "a static text")));
-    assert!(rt; intern(&rt, &set, "sentencf").is_dynamic());
+    assert!(rt; are_sentences(&rt, &set));
+    assert!(rt; is_dynamic(&rt, &set, "sentencf"));
 }
 
 #[test]

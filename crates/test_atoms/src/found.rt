@@ -1,7 +1,7 @@
 //! Texts that are looked up, and not interned. By OpenSSL's SipHash the bucket of "interned" is 0x210, and of "forgotten" and "magnitude"
 //! 0x72f.
 
-use crate::samples::{intern, new_set};
+use crate::samples::{intern, new_set, word_of};
 use std::alloc::Global;
 use std::process::Abort;
 use std::sync::Wait;
@@ -123,7 +123,7 @@ fn look_up_spends_no_ticket(rt: HostRuntime) {
     for _ in 0..3 {
         assert!(rt; is_absent(&rt, &set, "interned") && links(&rt, &set, 0));
     }
-    assert!(rt; has_word(&intern(&rt, &set, "interned"), ticket_word(1, 0x210)));
+    assert!(rt; word_of(&rt, &set, "interned") == ticket_word(1, 0x210));
     assert!(rt; is_absent(&rt, &set, "interned"));
 }
 

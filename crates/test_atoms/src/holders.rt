@@ -1,6 +1,6 @@
 //! Holders up to their limit, and what is left of them.
 
-use crate::samples::{intern, new_set};
+use crate::samples::{intern, new_set, word_of};
 use std::alloc::Global;
 use std::process::Abort;
 use std::sync::Wait;
@@ -62,15 +62,15 @@ fn two_holders(rt: HostRuntime) {
     assert!(rt; links(&rt, &set, 1) && has_text(&three, "interned"));
     drop(three);
     assert!(rt; links(&rt, &set, 0));
-    assert!(rt; has_word(&intern(&rt, &set, "interned"), ticket_word(2, 0x210)));
+    assert!(rt; word_of(&rt, &set, "interned") == ticket_word(2, 0x210));
 }
 
 #[test]
 fn one_serial(rt: HostRuntime) {
     let set = limited_set(&rt, rt.alloc(), 9, 1);
-    assert!(rt; has_word(&intern(&rt, &set, "interned"), ticket_word(1, 0x210)));
+    assert!(rt; word_of(&rt, &set, "interned") == ticket_word(1, 0x210));
     assert!(rt; matches!(refusal(&rt, &set), Some(Fault::TicketsSpent)));
-    assert!(rt; has_word(&intern(&rt, &set, "abc"), 0x6362_6131));
+    assert!(rt; word_of(&rt, &set, "abc") == 0x6362_6131);
 }
 
 #[test]

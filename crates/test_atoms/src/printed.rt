@@ -96,7 +96,7 @@ const STYLES: [(&str, &str); 5] = [
 #[test]
 fn widths_and_precisions(rt: HostRuntime) {
     let set = new_set(&rt, rt.alloc());
-    for (text, wanted) in STYLES {
+    for (text, wanted) in &STYLES {
         let (of_atom, of_text) = both_styled(&rt, &set, text).expect(&rt, "an answer");
         check_text(&rt, &of_atom, wanted);
         check_text(&rt, &of_text, wanted);
@@ -149,7 +149,7 @@ const JSON_TEXTS: [(&str, &str); 5] = [
 #[test]
 fn json_texts(rt: HostRuntime) {
     let set = new_set(&rt, rt.alloc());
-    for (text, json) in JSON_TEXTS {
+    for (text, json) in &JSON_TEXTS {
         check_json(&rt, &set, text, json);
     }
 }
@@ -197,7 +197,7 @@ const NO_TEXTS: [&str; 6] = ["null", "true", "7", "[]", "{}", "[\"interned\"]"];
 #[test]
 fn json_without_text(rt: HostRuntime) {
     let set = new_set(&rt, rt.alloc());
-    for json in NO_TEXTS {
+    for json in &NO_TEXTS {
         check_refused(&rt, &set, json);
     }
 }

@@ -13,6 +13,15 @@ pub fn new_set<Static: StaticTables>(rt: &impl Abort, alloc: Global) -> Set<Stat
     Set::new(alloc).expect(rt, "a set")
 }
 
+/// The word of a text's atom, which goes at once.
+pub fn word_of<R: Wait + Abort, Static: StaticTables>(
+    rt: &R,
+    set: &Set<Static>,
+    text: &str,
+) -> u64 {
+    intern(rt, set, text).unsafe_data()
+}
+
 /// The atom of a text.
 pub fn intern<'s, R: Wait + Abort, Static: StaticTables>(
     rt: &R,

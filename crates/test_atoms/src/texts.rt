@@ -35,8 +35,8 @@ const HASHES: [(&str, u64); 4] = [
 #[test]
 fn hash_numbers(rt: HostRuntime) {
     let set = new_set(&rt, rt.alloc());
-    for (text, number) in HASHES {
-        assert!(rt; hash_of_text(&rt, &set, text) == number, "of {text:?}");
+    for (text, number) in &HASHES {
+        assert!(rt; hash_of_text(&rt, &set, text) == *number, "of {text:?}");
     }
 }
 
@@ -69,8 +69,8 @@ const ORDERS: [(&str, &str, Ordering); 6] = [
 #[test]
 fn orders(rt: HostRuntime) {
     let set = new_set(&rt, rt.alloc());
-    for (left, right, wanted) in ORDERS {
-        check_order(&rt, &set, (left, right), wanted);
+    for (left, right, wanted) in &ORDERS {
+        check_order(&rt, &set, (left, right), *wanted);
     }
 }
 
@@ -103,14 +103,29 @@ const EQUALITIES: [(&str, &str, bool, bool); 5] = [
 #[test]
 fn without_case(rt: HostRuntime) {
     let set = new_set(&rt, rt.alloc());
-    for (left, right, equal, without_case) in EQUALITIES {
-        assert!(rt; have_equalities(&rt, &set, left, right, (equal, without_case)));
+    for (left, right, equal, without_case) in &EQUALITIES {
+        assert!(rt; have_equalities(&rt, &set, left, right, (*equal, *without_case)));
     }
+}
+
+/// Texts, and whether the atom of "Foo" equals them: as they are, and without case.
+const EQUAL_TEXTS: [(&str, bool, bool); 4] = [
+    ("Foo", true, true),
+    ("fOO", false, true),
+    ("foo", false, true),
+    ("fo", false, false),
+];
+
+#[test]
+fn without_case_of_a_text(rt: HostRuntime) {
+    let set = new_set(&rt, rt.alloc());
     let atom = intern(&rt, &set, "Foo");
-    assert!(rt; equals_text(&atom, "Foo", true, true));
-    assert!(rt; equals_text(&atom, "fOO", false, true));
-    assert!(rt; equals_text(&atom, "foo", false, true));
-    assert!(rt; equals_text(&atom, "fo", false, false));
+    for (text, equal, without_case) in &EQUAL_TEXTS {
+        assert!(rt;
+            equals_text(&atom, text, *equal, *without_case),
+            "of {text:?}"
+        );
+    }
 }
 
 /// Whether the clone has the atom's word, and this text.
@@ -156,14 +171,24 @@ fn intern_cow<'s, R: Wait + Abort>(
     Atom::from_cow_in(rt, set, text).expect(rt, "an atom")
 }
 
+/// Whether each call that takes a text which may be owned gives the atom.
+fn is_of_each_owner<R: Wait + Abort>(
+    rt: &R,
+    set: &Set<EmptyStaticAtomSet>,
+    atom: &DefaultAtom<'_>,
+    text: &str,
+) -> bool {
+    let owned = String::from_str(set.allocator(), text).expect(rt, "a text");
+    is_same(atom, &intern_owned(rt, set, text))
+        && is_same(atom, &intern_cow(rt, set, CowStr::Borrowed(text)))
+        && is_same(atom, &intern_cow(rt, set, CowStr::Owned(owned)))
+}
+
 #[test]
 fn owned_texts(rt: HostRuntime) {
     let set = new_set(&rt, rt.alloc());
     let atom = intern(&rt, &set, "interned");
-    assert!(rt; is_same(&atom, &intern_owned(&rt, &set, "interned")));
-    assert!(rt; is_same(&atom, &intern_cow(&rt, &set, CowStr::Borrowed("interned"))));
-    let text = String::from_str(rt.alloc(), "interned").expect(&rt, "a text");
-    assert!(rt; is_same(&atom, &intern_cow(&rt, &set, CowStr::Owned(text))));
+    assert!(rt; is_of_each_owner(&rt, &set, &atom, "interned"));
 }
 
 fn upper_of<'s, R: Wait + Abort, Static: StaticAtomSet>(
@@ -217,7 +242,7 @@ const CASES: [(&str, &str, &str); 5] = [
 #[test]
 fn cases(rt: HostRuntime) {
     let set = new_set(&rt, rt.alloc());
-    for (text, upper, lower) in CASES {
+    for (text, upper, lower) in &CASES {
         assert!(rt; has_cases(&rt, &set, text, upper, lower));
     }
     assert!(rt; has_long_cases(&rt, &set, 64));
