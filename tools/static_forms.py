@@ -7,6 +7,7 @@ MOST_INLINE = 7  # bytes
 MOST_PRODUCT = 4_000_000  # names times bytes that the checker takes in one static
 MOST_PAIRS = 1_000_000  # and in a static of the test, beside the words
 MANY = 250  # names from which on the checker needs to be told that `get` gives listed tables
+WRITER = ", which `tools/static_type.py` wrote.\n"  # the end of a module's first line
 
 
 class Refused(Exception):
@@ -238,9 +239,9 @@ class Module:
 
 # ---- listed texts
 
-LISTED_HEAD = "//! A static type over generated tables.\n"
+LISTED_HEAD = "//! A static type over generated tables"
 
-LISTED = LISTED_HEAD + '''
+LISTED = LISTED_HEAD + WRITER + '''
 ghost use Rattle.std.specs.Prelude.{{[], ◌∷◌, codes}};
 
 {imports}
@@ -364,10 +365,10 @@ class Listed(Module):
 
 # ---- packed texts
 
-PACKED_HEAD = "//! A packed static type over generated tables.\n"
+PACKED_HEAD = "//! A packed static type over generated tables"
 MOST_PACKED = 140_000  # bytes of all names with their line feeds: of one literal
 
-PACKED = PACKED_HEAD + '''
+PACKED = PACKED_HEAD + WRITER + '''
 {imports}
 
 /// The pairs of displacements.

@@ -10,12 +10,12 @@ use Rattle.std.proofs.lemmas.List.{length_push}
 use Rattle.std.proofs.lemmas.List.Sums.{sum_by_push}
 use denote.Ref.{Bor}
 use Rattle.commands.specs.TimesSeen.{count_of, CountsOneMore}
-use Rattle.text_streams.specs.Streams.{AppendsBeginning}
+use Rattle.text_streams.specs.Streams.{AppendsBeginning, Moves}
 use Rattle.word_counts.specs.Words.{char_words, times_seen}
 use Rattle.commands.specs.WordLines.{seen_line, lines_after, word_lines}
 use Rattle.text_streams.proofs.StreamLemmas.{appends_nothing, keeps_same}
 use Rattle.word_counts.proofs.WordLemmas.{WordComes, no_words}
-use Rattle.commands.proofs.WrittenLines.{Written, all_written, line_pends, lines_begun, pending_written}
+use Rattle.commands.proofs.WrittenLines.{Written, all_written, line_pends, lines_begun, moved}
 
 -- the lines of the words `seen` are written or pending, and the words of rest are to come
 pub record Progress {S : Type 0} (old new : Option (List ℕ)) (text rest pending : List ℕ) (counts : HashMap (Bor (List ℕ)) ℕ S) : Type 0 where
@@ -41,9 +41,9 @@ module _ {S : Type 0} {old new : Option (List ℕ)} {text rest pending : List �
         (ap (lines_after p.seen) comes.first) (line ∙ ap (λ k. pending ++ seen_line w k) (p.counted w));
   }
 
-  -- what is pending is written
-  pub flushed : (new' : Option (List ℕ)) → Appends new new' pending → Progress old new' text rest [] counts
-  flushed new' more = record { seen = p.seen; left = p.left; spells = p.spells; counted = p.counted; few = p.few; lines = pending_written p.lines new' more }
+  -- a beginning of what is pending is written
+  pub flushed : {new' : Option (List ℕ)} {left : List ℕ} → Moves new new' pending left → Progress old new' text rest left counts
+  flushed m = record { seen = p.seen; left = p.left; spells = p.spells; counted = p.counted; few = p.few; lines = moved p.lines m }
 
   -- what was written is a beginning, also with a beginning of what is pending
   pub begun : (new' : Option (List ℕ)) → AppendsBeginning new new' pending → AppendsBeginning old new' (word_lines text)

@@ -5,7 +5,7 @@ use Rattle.std.specs.Io.KnownBytes.{Appends}
 use Rattle.std.proofs.lemmas.List.{drop_more}
 use Rattle.string_cache.specs.AtomValue.{AtomValue}
 use Rattle.commands.specs.CountLines.{count_line}
-use Rattle.text_streams.specs.Streams.{AppendsBeginning}
+use Rattle.text_streams.specs.Streams.{AppendsBeginning, Moves}
 use Rattle.word_counts.specs.WordCounts.{counted_texts}
 use Rattle.text_streams.proofs.StreamLemmas.{appends_then, beginning_then}
 
@@ -26,12 +26,12 @@ module _ {old new : Option (List ℕ)} {all pending rest : List ℕ} (p : Writte
         ∙ ap (λ v. v ++ rest') (append_assoc p.written pending line ∙ ap (λ v. p.written ++ v) (sym pends));
   }
 
-  -- what is pending is written
-  pub pending_written : (new' : Option (List ℕ)) → Appends new new' pending → Written old new' all [] rest
-  pending_written new' more = record {
-    written = p.written ++ pending;
-    appended = appends_then old new new' p.written pending p.appended more;
-    whole = p.whole ∙ ap (λ v. v ++ rest) (sym (append-nil (p.written ++ pending)));
+  -- a beginning of what is pending is written
+  pub moved : {new' : Option (List ℕ)} {left : List ℕ} → Moves new new' pending left → Written old new' all left rest
+  moved {new'} {left} m = record {
+    written = p.written ++ m.0;
+    appended = appends_then old new new' p.written m.0 p.appended m.2;
+    whole = p.whole ∙ ap (λ v. v ++ rest) (ap (λ v. p.written ++ v) m.1 ∙ sym (append_assoc p.written m.0 left));
   }
 
   -- what was written is a beginning, also with a beginning of what is pending

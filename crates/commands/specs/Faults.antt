@@ -35,8 +35,8 @@ abbrev pub IsUnwrittenFault : AppFault → Type 0
 IsUnwrittenFault fault = IsOf (record memory { reads = Unit {0}; texts = Unit {0}; scripts = Unit {0}; interns = λ fault. ⊥ }) fault
 
 -- of anything but a write
-abbrev pub IsOfNoWrite : AppFault → Type 0
-IsOfNoWrite fault = fault ≢ Write
+abbrev pub IsNotWrite : AppFault → Type 0
+IsNotWrite fault = fault ≢ Write
 
 -- from counting words and writing lines of them
 abbrev pub IsWritingCountsFault : AppFault → Type 0

@@ -17,7 +17,7 @@ use string_cache::dynamic_set::Set;
 use string_cache::word::Limits;
 use string_cache::{Atom, EmptyStaticAtomSet, StaticTables};
 use text_streams::faults::AppFault;
-use text_streams::streams::{PIECE, Sink, Source, read_text, write_whole};
+use text_streams::streams::{Sink, Source, read_text, write_full, write_whole};
 use word_counts::count::MANY;
 pub use word_counts::count::{Gate, Open, WordCounts, count};
 
@@ -43,10 +43,7 @@ fn write_lines<Static: StaticTables, K: Sink>(
     let mut pending = String::new(alloc);
     for (atom, n) in counts {
         append_count(&mut pending, atom.as_str(), *n)?;
-        if pending.len() >= PIECE {
-            write_whole(writer, pending.as_bytes())?;
-            pending.clear();
-        }
+        write_full(writer, &mut pending)?;
     }
     write_whole(writer, pending.as_bytes())
 }

@@ -4,7 +4,7 @@ ghost use Rattle.std.specs.Prelude.{◌≡◌, ◌++◌, false, true, string_byt
 ghost use Rattle.table_generator.specs.Generated.{texts_of, TellsTables};
 ghost use Rattle.replay_script.specs.Script.{script_lines};
 ghost use Rattle.table_generator.specs.declared.tables.GenFault.{GenFault};
-ghost use Rattle.commands.specs.Faults.{IsCheckFault, IsGenerateFault, IsMakingFault, IsOfNoWrite};
+ghost use Rattle.commands.specs.Faults.{IsCheckFault, IsGenerateFault, IsMakingFault, IsNotWrite};
 ghost use Rattle.commands.specs.TableCommands.{IsTableOutput, IsAnswer};
 ghost use Rattle.commands.specs.Told.{Tells};
 
@@ -53,7 +53,7 @@ pub fn generate_command<S: Source, K: Sink>(
     requires reader { S.has_failed reader.old ≡ false }
     requires writer { K.has_failed writer.old ≡ false }
     ensures told { Tells S.remaining S.has_ended S.has_failed K.contents K.has_failed
-        (IsTableOutput key bound) IsOfNoWrite IsGenerateFault reader.old reader.new writer.old writer.new result }
+        (IsTableOutput key bound) IsNotWrite IsGenerateFault reader.old reader.new writer.old writer.new result }
     ensures refused { (g : GenFault) → result ≡ Err (AppFault.Gen g) → S.has_ended reader.new ≡ true
         × IfSome (S.remaining reader.old) (λ bytes. TellsTables (script_lines bytes) key bound (Err g)) }
 {
@@ -86,7 +86,7 @@ pub fn check_command<S: Source, K: Sink>(
     requires reader { S.has_failed reader.old ≡ false }
     requires writer { K.has_failed writer.old ≡ false }
     ensures { Tells S.remaining S.has_ended S.has_failed K.contents K.has_failed
-        IsAnswer IsOfNoWrite IsCheckFault reader.old reader.new writer.old writer.new result }
+        IsAnswer IsNotWrite IsCheckFault reader.old reader.new writer.old writer.new result }
 {
     let text = read_text(alloc, reader)?;
     let answer = answer_of(alloc, &text)?;

@@ -4,7 +4,7 @@ ghost use Rattle.std.specs.Prelude.{◌≡◌, ℕ, List, false, true, string_by
 ghost use Rattle.string_cache.specs.Tables.{empty_tables};
 ghost use Rattle.replay_script.specs.Replay.{IsReplay};
 ghost use Rattle.replay_script.specs.Script.{script_lines, IsFirstBadLine};
-ghost use Rattle.commands.specs.Faults.{IsOfNoWrite, IsReplayFault};
+ghost use Rattle.commands.specs.Faults.{IsNotWrite, IsReplayFault};
 ghost use Rattle.commands.specs.Told.{Tells};
 
 use replay_script::replay_text;
@@ -26,7 +26,7 @@ pub fn replay<S: Source, K: Sink>(
     requires reader { S.has_failed reader.old ≡ false }
     requires writer { K.has_failed writer.old ≡ false }
     ensures told { Tells S.remaining S.has_ended S.has_failed K.contents K.has_failed
-        (IsReplay empty_tables) IsOfNoWrite IsReplayFault reader.old reader.new writer.old writer.new result }
+        (IsReplay empty_tables) IsNotWrite IsReplayFault reader.old reader.new writer.old writer.new result }
     ensures script { (n : ℕ) → result ≡ Err (AppFault.Script n) → S.has_ended reader.new ≡ true
         × IfSome (S.remaining reader.old) (λ bytes. IsFirstBadLine (script_lines bytes) n) }
     ensures ran { result ≡ Err AppFault.Write

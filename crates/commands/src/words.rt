@@ -19,7 +19,7 @@ use string_cache::table::Table;
 use string_cache::word::Limits;
 use string_cache::{Atom, EmptyStaticAtomSet, Fault, StaticTables};
 use text_streams::faults::AppFault;
-use text_streams::streams::{PIECE, Sink, Source, read_text, write_whole};
+use text_streams::streams::{Sink, Source, read_text, write_full, write_whole};
 
 /// What words are interned in, and kept by until its end.
 trait Interner {
@@ -108,10 +108,7 @@ fn write_words<I: Interner, K: Sink>(
         interner.intern(word)?;
         let n = count_word(&mut counts, word)?;
         append_line(&mut pending, word, n)?;
-        if pending.len() >= PIECE {
-            write_whole(writer, pending.as_bytes())?;
-            pending.clear();
-        }
+        write_full(writer, &mut pending)?;
     }
     write_whole(writer, pending.as_bytes())
 }

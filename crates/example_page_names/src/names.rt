@@ -1,4 +1,4 @@
-//! A packed static type over generated tables.
+//! A packed static type over generated tables, which `tools/static_type.py` wrote.
 
 #[cfg(test)]
 use string_cache::static_sets::{StaticTables, are_perfect};

@@ -1,4 +1,4 @@
-//! A static type over generated tables.
+//! A static type over generated tables, which `tools/static_type.py` wrote.
 
 ghost use Rattle.std.specs.Prelude.{[], ◌∷◌, codes};
 

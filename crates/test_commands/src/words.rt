@@ -130,6 +130,49 @@ fn more_than_one_piece(rt: HostRuntime) -> Result<(), Fail> {
     Ok(())
 }
 
+/// Takes all bytes, and notes how many come in each of the first two writes, and how many writes there are.
+#[derive(Drop)]
+struct Sizes {
+    writes: u64,
+    first: usize,
+    second: usize,
+}
+
+impl Sink for Sizes {
+    ghost contents = { λ _. None };
+
+    ghost has_failed = { λ _. false };
+
+    fn write(&mut self, buf: &[u8]) -> io::Result<usize> {
+        match self.writes {
+            0 => self.first = buf.len(),
+            1 => self.second = buf.len(),
+            _ => {}
+        }
+        self.writes = self.writes.saturating_add(1);
+        Ok(buf.len())
+    }
+
+    fn failed(&self) -> bool {
+        false
+    }
+}
+
+/// A piece is written once the lines have 65,536 bytes, as those of 1,024 words have here: each line has 64, in 60 characters.
+#[test]
+fn lines_come_in_pieces(rt: HostRuntime) -> Result<(), Fail> {
+    let (text, _) = numbered_words(rt.alloc(), "smörgåsbordsmörgåsbordbord", 3000)?;
+    let mut sizes = Sizes {
+        writes: 0,
+        first: 0,
+        second: 0,
+    };
+    words_alone(rt.alloc(), &mut Io::new(text.as_bytes()), &mut sizes)?;
+    assert!(rt; sizes.writes == 3);
+    assert!(rt; sizes.first == 65_536 && sizes.second == 65_536);
+    Ok(())
+}
+
 /// More than a megabyte of long words.
 #[test]
 fn large_text(rt: HostRuntime) -> Result<(), Fail> {

@@ -1,4 +1,4 @@
-//! A packed static type over generated tables.
+//! A packed static type over generated tables, which `tools/static_type.py` wrote.
 
 use string_cache::{Packed, PackedAtomSet, PackedStrSet};
 

@@ -5,7 +5,7 @@ ghost use Rattle.std.specs.Str.{IsUtf8};
 ghost use Rattle.std.specs.Io.{ReadsAtMost, WritesAtMost};
 ghost use Rattle.std.specs.Io.KnownBytes.{ReadConsumes, WriteAppends, Appends, Consumes, IsAtEnd};
 ghost use Rattle.text_streams.specs.Faults.{IsReadingFault, IsTextFault};
-ghost use Rattle.text_streams.specs.Streams.{took_none, write_refused, AppendsBeginning};
+ghost use Rattle.text_streams.specs.Streams.{took_none, write_refused, AppendsBeginning, Moves};
 
 use crate::faults::AppFault;
 use std::alloc::Global;
@@ -203,6 +203,23 @@ pub fn write_whole<K: Sink>(writer: &mut K, bytes: &[u8]) -> Result<(), AppFault
             return Err(AppFault::Write);
         }
         at += n;
+    }
+    Ok(())
+}
+
+/// Writes what is pending once it has the bytes of a piece, and then nothing is pending. `Write` where the writer failed, which then has a
+/// beginning of it.
+pub fn write_full<K: Sink>(writer: &mut K, pending: &mut String) -> Result<(), AppFault>
+    requires { K.has_failed writer.old ≡ false }
+    ensures ok { OnOk result (Moves (K.contents writer.old) (K.contents writer.new) (string_bytes pending.old) (string_bytes pending.new)) }
+    ensures sound { OnOk result (K.has_failed writer.new ≡ false) }
+    ensures err { OnErr result (AppendsBeginning (K.contents writer.old) (K.contents writer.new) (string_bytes pending.old)) }
+    ensures fault { IfErr result (λ e. e ≡ AppFault.Write) }
+    ensures failed { OnErr result (K.has_failed writer.new ≡ true) }
+{
+    if pending.len() >= PIECE {
+        write_whole(writer, pending.as_bytes())?;
+        pending.clear();
     }
     Ok(())
 }

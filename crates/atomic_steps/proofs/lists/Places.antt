@@ -3,7 +3,6 @@ use Rattle.std.proofs.Common.{◌≡◌, ℕ, ◌+◌, ◌<◌, ◌≤◌, inl, 
 use Rattle.std.specs.Prelude.{slice_get, slice_set, MatchOption, nat_lt, ◌==◌}
 use Rattle.std.specs.List.{find, position, position_or_len, remove}
 use Rattle.std.proofs.lemmas.Bool.{eqb-true, eq-eqb, cases_Bool, ltb-true, ltb-false}
-use Rattle.std.proofs.lemmas.Option.{slice_get_within}
 use Rattle.atomic_steps.specs.World.{PartyPass, World}
 use Rattle.atomic_steps.specs.Steps.{pass_of, entry_at, replaced, without_party}
 use Rattle.atomic_steps.specs.Places.{PassAt, EntryAt}
@@ -90,6 +89,3 @@ place_of w party =
     if_case (λ o. MatchOption o (pass_of w party ≡ None) (λ at. PassAt w party at)) (nat_lt i (length w.passes)) (Some i) None
     (λ inside. let at = is.0 (ltb-true i (length w.passes) inside) in record { pass = at.pass; found = at.found; there = at.there; own = at.own; replaces = at.replaces; removes = at.removes })
     (λ outside. is.1 (ltb-false i (length w.passes) outside))
-
-pub within : {X : Type 0} (xs : List X) (k : ℕ) (x : X) → slice_get xs k ≡ Some x → k < length xs
-within xs k x h = slice_get_within xs k x h

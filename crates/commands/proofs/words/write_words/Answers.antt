@@ -23,33 +23,24 @@ returns-in_err-n-clause-err g c = on_err _ (begun c.loop-word.invariant.1 _ (beg
 pub returns-in_err-append_line-clause-err : goal.returns-in_err-append_line-clause-err
 returns-in_err-append_line-clause-err g c = on_err _ (begun c.loop-word.invariant.1 _ (beginning_nothing _ _ _ (keeps_same _)))
 
-pub returns-in_err-write_whole-clause-err : goal.returns-in_err-write_whole-clause-err
-returns-in_err-write_whole-clause-err g c =
+pub returns-in_err-write_full-clause-err : goal.returns-in_err-write_full-clause-err
+returns-in_err-write_full-clause-err g c =
     let before = c.loop-word.invariant.1 in
     let comes = word_comes_off before.left _ c.in-Some.word.now _ before.spells c.in-Some.ensures.steps in
     let line = c.in_ok-append_line.ensures ∙ ap (λ n. string_bytes c.loop-word.pending ++ seen_line c.in-Some.word.now n) c.in_ok-n.ensures.before in
-    let next = next_word before {counts' = c.count_word.new.counts} comes c.in_ok-n.ensures.counted line in
-    on_err _ (begun next _ (rw c.as_bytes.ensures.value at c.in_err-write_whole.ensures.err))
-
-pub loop-word-preserved-then-len-ge-PIECE : goal.loop-word-preserved-then-len-ge-PIECE
-loop-word-preserved-then-len-ge-PIECE g c =
-    let before = c.loop-word.invariant.1 in
-    let comes = word_comes_off before.left _ c.in-Some.word.now _ before.spells c.in-Some.ensures.steps in
-    let line = c.in_ok-append_line.ensures ∙ ap (λ n. string_bytes c.loop-word.pending ++ seen_line c.in-Some.word.now n) c.in_ok-n.ensures.before in
-    let next = next_word before {counts' = c.count_word.new.counts} comes c.in_ok-n.ensures.counted line in
-    (c.in_ok-write_whole.ensures.sound, rw c.clear.ensures.bytes (flushed next _ (rw c.as_bytes.ensures.value at c.in_ok-write_whole.ensures.ok)))
+    on_err _ (begun (next_word before {counts' = c.count_word.new.counts} comes c.in_ok-n.ensures.counted line) _ c.in_err-write_full.ensures.err)
 
 pub loop-word-preserved : goal.loop-word-preserved
 loop-word-preserved g c =
     let before = c.loop-word.invariant.1 in
     let comes = word_comes_off before.left _ c.in-Some.word.now _ before.spells c.in-Some.ensures.steps in
     let line = c.in_ok-append_line.ensures ∙ ap (λ n. string_bytes c.loop-word.pending ++ seen_line c.in-Some.word.now n) c.in_ok-n.ensures.before in
-    (c.loop-word.invariant.0, next_word before {counts' = c.count_word.new.counts} comes c.in_ok-n.ensures.counted line)
+    (c.in_ok-write_full.ensures.sound, flushed (next_word before {counts' = c.count_word.new.counts} comes c.in_ok-n.ensures.counted line) c.in_ok-write_full.ensures.ok)
 
 pub returns-clause-ok : goal.returns-clause-ok
 returns-clause-ok g c =
-    on_ok_map _ (finished c.loop-word.invariant.1 _ c.in-None.ensures.steps.1) (rw c.as_bytes-2.ensures.value at c.write_whole-2.ensures.ok)
+    on_ok_map _ (finished c.loop-word.invariant.1 _ c.in-None.ensures.steps.1) (rw c.as_bytes.ensures.value at c.write_whole.ensures.ok)
 
 pub returns-clause-err : goal.returns-clause-err
 returns-clause-err g c =
-    on_err_map _ (begun c.loop-word.invariant.1 _) (rw c.as_bytes-2.ensures.value at c.write_whole-2.ensures.err)
+    on_err_map _ (begun c.loop-word.invariant.1 _) (rw c.as_bytes.ensures.value at c.write_whole.ensures.err)

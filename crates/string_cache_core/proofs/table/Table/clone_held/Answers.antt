@@ -1,6 +1,5 @@
 use Rattle.std.proofs.Common.{◌∙◌, inl, refl, sym, subst, ℕ, Ok, Result}
 use Rattle.std.proofs.lemmas.Bool.{false≢true}
-use Rattle.std.proofs.lemmas.Option.{slice_get_within}
 use Rattle.text_forms.specs.declared.faults.Fault.{Fault}
 use Rattle.string_cache_core.specs.Kept.{map_of}
 use Rattle.string_cache_core.specs.Outcomes.{Cloned}
@@ -9,9 +8,6 @@ use Rattle.string_cache_core.proofs.calls.HeldWords.{fixed-unless-ticket}
 use Rattle.string_cache_core.proofs.calls.Outcomes.{cloned-done, cloned-none}
 use Rattle.string_cache_core.proofs.calls.Replies.{as_held, cloned-ticket}
 use Rattle.string_cache_core.proofs.table.Table.clone_held.Goals as goal
-
-pub add_holder-outcome-requires : goal.add_holder-outcome-requires
-add_holder-outcome-requires g c = slice_get_within _ _ _ c.in-Some.ensures.found.there
 
 pub returns-then-is_fixed-clause-cloned : goal.returns-then-is_fixed-clause-cloned
 returns-then-is_fixed-clause-cloned g c =

@@ -1,12 +1,8 @@
 use Rattle.std.proofs.Common.{refl, inl, true}
-use Rattle.std.proofs.lemmas.Option.{slice_get_within}
 use Rattle.string_cache_core.specs.Kept.{map_of}
 use Rattle.string_cache_core.proofs.calls.IfHeld.{given-unless-ticket}
 use Rattle.string_cache_core.proofs.calls.Outcomes.{given-done}
 use Rattle.string_cache_core.proofs.table.Table.release.Goals as goal
-
-pub give_at-requires : goal.give_at-requires
-give_at-requires g c = slice_get_within _ _ _ c.in-Some.ensures.found.there
 
 pub returns : goal.returns
 returns g c =

@@ -1,15 +1,12 @@
 use Rattle.std.proofs.Common.{◌≡◌, ◌∙◌, ap, sym, subst, arith, ◌+◌}
 use Rattle.std.specs.Prelude.{slice_get, slice_set}
+use Rattle.std.proofs.lemmas.Option.{slice_get_within}
 use Rattle.atomic_steps.specs.Sound.{SoundTable}
 use Rattle.atomic_steps.specs.World.{WorldEntry, World}
 use Rattle.atomic_steps.specs.Steps.{with_one}
-use Rattle.atomic_steps.proofs.lists.Places.{within}
 use Rattle.atomic_steps.proofs.lists.Facts.{at_one}
 use Rattle.atomic_steps.proofs.rows.AtPlaces.{add_dying, add_full, add_added}
 use Rattle.atomic_steps.proofs.steps.state.State.add.Goals as goal
-
-pub decide_on-requires : goal.decide_on-requires
-decide_on-requires c = within _ _ _ c.in-Some.ensures.there
 
 pub returns-then-count-eq0-clause-ok : goal.returns-then-count-eq0-clause-ok
 returns-then-count-eq0-clause-ok c = λ tables.
@@ -31,7 +28,7 @@ pub add_share-ticket-requires-clause-entry : goal.add_share-ticket-requires-clau
 add_share-ticket-requires-clause-entry c =
     let p = c.in-Some.ensures in
     let e = c.in-Some-entry_place.ensures in
-    within _ _ e.entry (ap (λ (v : World). slice_get v.entries c.in-Some-entry_place.k) (c.in_ok-decide_on.ensures.ok p.pass p.there) ∙ e.there)
+    slice_get_within _ _ e.entry (ap (λ (v : World). slice_get v.entries c.in-Some-entry_place.k) (c.in_ok-decide_on.ensures.ok p.pass p.there) ∙ e.there)
 
 pub add_share-ticket-requires-clause-sound : goal.add_share-ticket-requires-clause-sound
 add_share-ticket-requires-clause-sound c =

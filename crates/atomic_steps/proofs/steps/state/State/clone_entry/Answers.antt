@@ -1,11 +1,7 @@
 use Rattle.std.proofs.Common.{◌∙◌, sym, arith}
 use Rattle.atomic_steps.proofs.worlds.Bag.{held_counts}
-use Rattle.atomic_steps.proofs.lists.Places.{within}
 use Rattle.atomic_steps.proofs.rows.AtEntries.{clone_full, clone_more}
 use Rattle.atomic_steps.proofs.steps.state.State.clone_entry.Goals as goal
-
-pub add_share-holders-requires-clause-entry : goal.add_share-holders-requires-clause-entry
-add_share-holders-requires-clause-entry c = within _ _ _ c.in-Some.ensures.there
 
 pub returns-then-count_at-holders : goal.returns-then-count_at-holders
 returns-then-count_at-holders c = λ tables party.

@@ -1,11 +1,7 @@
 use Rattle.std.proofs.Common.{◌∙◌, sym}
 use Rattle.atomic_steps.proofs.rows.AtEntries.{give_given}
 use Rattle.atomic_steps.proofs.worlds.Bag.{held_counts}
-use Rattle.atomic_steps.proofs.lists.Places.{within}
 use Rattle.atomic_steps.proofs.steps.state.State.give.Goals as goal
-
-pub give_share-left-requires-clause-entry : goal.give_share-left-requires-clause-entry
-give_share-left-requires-clause-entry c = within _ _ _ c.in-Some.ensures.there
 
 pub give_share-left-requires-clause-held : goal.give_share-left-requires-clause-held
 give_share-left-requires-clause-held c = λ entry there.

@@ -2,11 +2,7 @@ use Rattle.std.proofs.Common.{◌∙◌, ap, sym, List}
 use Rattle.atomic_steps.specs.World.{PartyPass}
 use Rattle.atomic_steps.specs.declared.steps.StepReply.TheVariants as reply
 use Rattle.atomic_steps.proofs.lists.Facts.{none_then, some_then, test_fails, test_holds, replied}
-use Rattle.atomic_steps.proofs.lists.Places.{within}
 use Rattle.atomic_steps.proofs.steps.state.State.leave.Goals as goal
-
-pub may_leave-requires-clause-pass : goal.may_leave-requires-clause-pass
-may_leave-requires-clause-pass c = within _ _ _ c.in-Some.ensures.there
 
 pub returns-in_default : goal.returns-in_default
 returns-in_default c = λ tables. none_then _ _ _ c.in_default.ensures
@@ -21,6 +17,3 @@ returns c = λ tables.
     let at = c.in-Some.ensures in
     some_then _ _ _ _ at.found ∙ test_holds _ _ _ (sym (c.may_leave.ensures at.pass at.there) ∙ c.if-not-may_leave.false)
     ∙ replied reply.Left _ _ (ap (λ (ps : List PartyPass). record c.args.self.now { passes = ps }) at.removes ∙ sym c.end_pass.ensures)
-
-pub end_pass-requires : goal.end_pass-requires
-end_pass-requires c = within _ _ _ c.in-Some.ensures.there

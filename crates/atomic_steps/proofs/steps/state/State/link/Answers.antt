@@ -2,7 +2,6 @@ use Rattle.std.proofs.Common.{◌≡◌, ◌∙◌, ap, sym, arith, ℕ, ◌+◌
 use Rattle.std.specs.Prelude.{is_some}
 use Rattle.atomic_steps.specs.World.{PartyPass}
 use Rattle.atomic_steps.proofs.worlds.Apart.{all_within, placed_in}
-use Rattle.atomic_steps.proofs.lists.Places.{within}
 use Rattle.atomic_steps.proofs.lists.Facts.{at_one}
 use Rattle.text_forms.specs.Tables.{empty_tables}
 use Rattle.atomic_steps.proofs.rows.AtPlaces.{link_no, link_spent, link_memory, link_linked, text_to_link}
@@ -13,9 +12,6 @@ returns-then-not-may_link-clause-ok g c = λ tables.
     let p = c.in-Some.ensures in
     link_no tables _ _ _ _ p (sym (c.may_link.ensures p.pass p.there) ∙ c.if-not-may_link.true)
 
-pub last_at-last-requires-clause-pass : goal.last_at-last-requires-clause-pass
-last_at-last-requires-clause-pass g c = within _ _ _ c.in-Some.ensures.there
-
 pub last_at-last-requires-clause-below : goal.last_at-last-requires-clause-below
 last_at-last-requires-clause-below g c = all_within g.S.StaticTables.tables c.args.self.now c.requires
 
@@ -24,15 +20,6 @@ may_link-requires-clause-below g c = all_within g.S.StaticTables.tables c.args.s
 
 pub link_entry-requires-clause-below : goal.link_entry-requires-clause-below
 link_entry-requires-clause-below g c = all_within g.S.StaticTables.tables c.args.self.now c.requires
-
-pub decide-requires : goal.decide-requires
-decide-requires g c = within _ _ _ c.in-Some.ensures.there
-
-pub decide-requires-then-not-room : goal.decide-requires-then-not-room
-decide-requires-then-not-room g c = within _ _ _ c.in-Some.ensures.there
-
-pub link_entry-requires-clause-pass : goal.link_entry-requires-clause-pass
-link_entry-requires-clause-pass g c = within _ _ _ c.in-Some.ensures.there
 
 pub link_entry-requires-clause-wanted : goal.link_entry-requires-clause-wanted
 link_entry-requires-clause-wanted g c = λ pass there.
@@ -65,9 +52,6 @@ returns-clause-ok g c = λ tables.
     link_linked tables _ _ _ _ p may
     (let last = c.last_at-last.ensures p.pass p.there in let limit = c.serials.ensures.value in omega (arith, last, limit, c.if-last-serials.false))
     c.if-not-room.false (c.last_at-last.result + 1) _ _ _ (ap (λ (n : ℕ). n + 1) (c.last_at-last.ensures p.pass p.there)) linked.0 linked.1 linked.2
-
-pub may_link-requires-clause-pass : goal.may_link-requires-clause-pass
-may_link-requires-clause-pass g c = within _ _ _ c.in-Some.ensures.there
 
 pub may_link-requires-clause-placed : goal.may_link-requires-clause-placed
 may_link-requires-clause-placed g c = λ pass text k entry there wanted at is.

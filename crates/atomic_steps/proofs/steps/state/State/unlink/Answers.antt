@@ -1,10 +1,6 @@
 use Rattle.std.proofs.Common.{◌∙◌, sym}
-use Rattle.atomic_steps.proofs.lists.Places.{within}
 use Rattle.atomic_steps.proofs.rows.AtPlaces.{unlink_zero, unlink_kept}
 use Rattle.atomic_steps.proofs.steps.state.State.unlink.Goals as goal
-
-pub look_at-requires : goal.look_at-requires
-look_at-requires c = within _ _ _ c.in-Some.ensures.there
 
 pub returns-then-count_at-eq0-clause-ok : goal.returns-then-count_at-eq0-clause-ok
 returns-then-count_at-eq0-clause-ok c = λ tables.
