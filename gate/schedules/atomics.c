@@ -25,14 +25,16 @@ static Place *place_at(u64 at) {
   fail("too many atomic places", at, 0);
 }
 
-// A thread that loads again what it loaded last waits for a change, and needn't be stopped there.
-static void step_begins(volatile u64 *place, Kind kind) {
+// Before a step on this place, which is a load by the instruction before `load`, or else changes it.
+//
+// A thread that loads again, by the same instruction, what it loaded last waits for a change, and needn't be stopped there.
+static void step_begins(volatile u64 *place, const void *load) {
   Thread *me = current();
-  if (kind == LOADS && me->has_loaded && me->loaded_at == (u64)place && me->loaded == *place) count_step();
-  else step_comes((u64)place, kind);
-  me->has_loaded = kind == LOADS;
+  if (load && me->loaded_by == load && me->loaded_at == (u64)place && me->loaded == *place) count_step();
+  else step_comes((u64)place, load ? LOADS : CHANGES);
+  me->loaded_by = load;
   me->loaded_at = (u64)place;
-  check_access((u64)place, 8, kind == CHANGES, 1);
+  check_access((u64)place, 8, !load, 1);
 }
 
 static void step_ends(volatile u64 *place, int reads, int writes, u64 found) {
@@ -45,7 +47,7 @@ static void step_ends(volatile u64 *place, int reads, int writes, u64 found) {
 }
 
 u64 __tsan_atomic64_load(volatile u64 *place, int order) {
-  step_begins(place, LOADS);
+  step_begins(place, __builtin_return_address(0));
   u64 found = *place;
   tell("loads", (u64)place, found, found);
   step_ends(place, 1, 0, found);
@@ -53,7 +55,7 @@ u64 __tsan_atomic64_load(volatile u64 *place, int order) {
 }
 
 void __tsan_atomic64_store(volatile u64 *place, u64 value, int order) {
-  step_begins(place, CHANGES);
+  step_begins(place, 0);
   tell("stores", (u64)place, *place, value);
   *place = value;
   step_ends(place, 0, 1, value);
@@ -67,12 +69,12 @@ static u64 change(volatile u64 *place, u64 found, u64 value, const char *what) {
 }
 
 u64 __tsan_atomic64_exchange(volatile u64 *place, u64 value, int order) {
-  step_begins(place, CHANGES);
+  step_begins(place, 0);
   return change(place, *place, value, "swaps");
 }
 
 u64 __tsan_atomic64_compare_exchange_val(volatile u64 *place, u64 wanted, u64 value, int order, int missed_order) {
-  step_begins(place, CHANGES);
+  step_begins(place, 0);
   u64 found = *place;
   if (found == wanted) return change(place, found, value, "exchanges");
   run.has_missed |= current()->in_call;
@@ -82,7 +84,7 @@ u64 __tsan_atomic64_compare_exchange_val(volatile u64 *place, u64 wanted, u64 va
 }
 
 u64 __tsan_atomic64_fetch_sub(volatile u64 *place, u64 value, int order) {
-  step_begins(place, CHANGES);
+  step_begins(place, 0);
   return change(place, *place, *place - value, "subtracts");
 }
 
@@ -92,7 +94,7 @@ static u64 tick(u64 clock) {
   Thread *me = current();
   if (!me->in_call) {
     me->in_call = 1;
-    me->has_loaded = 0;
+    me->loaded_by = 0;
     step_comes(clock, BEGINS);
     if (run.has_call_ended) run.group++;
     run.has_call_ended = 0;
@@ -109,7 +111,7 @@ static u64 tick(u64 clock) {
 u64 __tsan_atomic64_fetch_add(volatile u64 *place, u64 value, int order) {
   if (value == CLOCK_IS_HERE) run.call_clock = (u64)place;
   if ((u64)place == run.call_clock) return value == CLOCK_IS_HERE ? 0 : tick(run.call_clock);
-  step_begins(place, CHANGES);
+  step_begins(place, 0);
   return change(place, *place, *place + value, "adds");
 }
 

@@ -18,6 +18,7 @@ from printed import print_schedule
 GUARDS = (
     "addition_from_zero",
     "missed_exchange_tries_the_same_again",
+    "limit_is_not_looked_at_again",
     "last_drop_frees_where_the_lock_is_taken",
     "empty_bucket_links_without_a_second_look",
     "linked_looks_without_the_lock",

@@ -49,7 +49,7 @@ typedef struct {
   u64 waits_for; // an address to sleep at, or a thread to join
   int in_call;
   Step next;
-  int has_loaded; // its last step was a load, at this address, of this value
+  const void *loaded_by; // 0 unless its last step was a load, by the instruction before this, at this address, of this value
   u64 loaded_at, loaded;
   Clock clock;
   void *(*start)(void *);

@@ -166,7 +166,7 @@ int sched_pthread_attr_setstacksize(void *attributes, u64 bytes) { return 0; }
 
 int sched_sched_yield(void) {
   count_step();
-  current()->has_loaded = 0;
+  current()->loaded_by = 0;
   leave();
   return 0;
 }
@@ -184,7 +184,7 @@ static long sleep_at(u32 *word, u32 value) {
   run.has_slept |= me->in_call;
   me->state = SLEEPS;
   me->waits_for = (u64)word;
-  me->has_loaded = 0;
+  me->loaded_by = 0;
   leave();
   tell("wakes at", (u64)word, *word, *word);
   return 0;

@@ -1,5 +1,5 @@
 //! The shares of a cell.
-ghost use Rattle.std.specs.Prelude.{◌≡◌, true, ◌^◌, ◌<◌, IfErr, IfOk};
+ghost use Rattle.std.specs.Prelude.{◌≡◌, true, ◌^◌, ◌<◌, IfErr, IfOk, IfSome};
 
 use crate::cell_ref::{CellRef, Reading, Receipt};
 use crate::content::Content;
@@ -75,6 +75,25 @@ impl CellShare {
                 unreachable!()
             }
         }
+    }
+
+    /// One share more of the same cell, by a single try that waits for nothing. `None` where another step on the count came between, or the
+    /// cell has as many as it may have: then nothing has changed, and `add` tells which.
+    #[inline]
+    pub fn try_add(&self) -> Option<CellShare>
+        ensures { IfSome result (λ share. share.cell ≡ self.now.cell) }
+    {
+        let content = self.cell.get();
+        let (seen, _) = self.cell.load();
+        if seen == 0 || seen >= content.label.limit {
+            return None;
+        }
+        let (found, _, more) = self.cell.increment(seen);
+        if found == seen {
+            return Some(CellShare::of_ref(more));
+        }
+        more.done();
+        None
     }
 
     /// Takes the share off the count, and tells what that left.

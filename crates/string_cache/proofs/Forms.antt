@@ -1,10 +1,12 @@
 -- What the form of a text tells.
-use Rattle.std.proofs.Common.{◌≡◌, ℕ, ◌<◌, ◌≤◌, List, [], length, Bool, true, false, refl, sym, ◌∙◌, ap, subst, arith, if◌then◌else◌, nat_eq, nat_lt, IsTrue, ◌⊎◌, ⊎_elim}
+use Rattle.std.proofs.Common.{◌≡◌, ℕ, ◌<◌, ◌≤◌, List, [], length, Bool, true, false, refl, sym, ◌∙◌, ap, subst, arith, if◌then◌else◌, nat_eq, nat_lt, IsTrue, ◌⊎◌, ⊎_elim, Equal}
+use Rattle.std.proofs.lemmas.Cmp.{tied_itself}
 use Rattle.std.proofs.lemmas.Bool.Decides.{Decides-eqb, Decides-like, same_from_decides}
 use Rattle.std.proofs.lemmas.List.{get_or_default, get_or_past}
 use Rattle.std.proofs.lemmas.Slice.Eq.{bytes_eq-Decides}
 use Rattle.std.specs.List.{Contains}
-use Rattle.std.specs.Cmp.Lexicographic.{pointwise, same_text}
+use Rattle.std.specs.Cmp.Lexicographic.{nat_list_cmp_total, pointwise, same_text, slice_cmp}
+use Rattle.std.specs.Ordering.{nat_cmp}
 use Rattle.std.specs.Str.{bytes_eq}
 use Rattle.text_forms.specs.declared.static_sets.TextForm.{TextForm}
 use Rattle.text_forms.specs.declared.static_sets.TextForm.TheVariants.{Inline, Static, Dynamic}
@@ -56,3 +58,7 @@ words_tell s t a b =
     let word = nat_eq (inline_word s) (inline_word t) in
     let tells = Decides-like word (inline_word_same s t a b) (ap inline_word) (Decides-eqb (inline_word s) (inline_word t)) in
     same_from_decides word (pointwise nat_eq s t) tells (bytes_eq-Decides s t)
+
+-- equal texts are tied in the order
+pub equal_tied : (s t : List ℕ) → pointwise nat_eq s t ≡ true → Equal ≡ slice_cmp nat_cmp s t
+equal_tied s t equal = subst (λ u. Equal ≡ slice_cmp nat_cmp s u) (same_text s t (sym equal)) (sym (tied_itself nat_list_cmp_total s))

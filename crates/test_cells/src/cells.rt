@@ -132,6 +132,37 @@ fn replies(rt: HostRuntime) {
     assert!(rt; frees(owner));
 }
 
+/// A share more by a single try.
+fn tried(share: &CellShare) -> Option<ShareGuard> {
+    let share = share.try_add()?;
+    Some(ShareGuard { share })
+}
+
+/// Single tries on a cell of the text, at a limit of 3.
+fn tries<R: Wait + Abort>(rt: &R, alloc: Global, text: &str) -> Result<(), AllocError> {
+    let (owner, first) = make(alloc, 3, text)?;
+    let second = tried(&first.share).expect(rt, "a share");
+    assert!(rt; second.share.text() == text);
+    let third = tried(&second.share).expect(rt, "a share");
+    assert!(rt; tried(&first.share).is_none());
+    assert!(rt; matches!(reply_answer(owner.add(rt)), Answer::Full));
+    assert!(rt; !first.gives_last());
+    assert!(rt; !third.gives_last());
+    assert!(rt; second.gives_last());
+    assert!(rt; frees(owner));
+    Ok(())
+}
+
+/// While no other thread changes the count, a single try succeeds below the limit.
+#[test]
+fn single_tries(rt: HostRuntime) {
+    let alloc = rt.alloc();
+    let text = "interned ".repeat(alloc, 30_000).expect(&rt, "a text");
+    tries(&rt, alloc, "interned").expect(&rt, "an answer");
+    tries(&rt, alloc, "tokenised ü").expect(&rt, "an answer");
+    tries(&rt, alloc, &text).expect(&rt, "an answer");
+}
+
 /// No share is left once both were given back.
 #[test]
 fn both_are_given_back(rt: HostRuntime) {

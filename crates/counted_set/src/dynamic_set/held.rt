@@ -1,6 +1,6 @@
 //! A share with its set: what a dynamic atom holds.
 
-ghost use Rattle.std.specs.Prelude.{◌≡◌, IfErr, IfOk};
+ghost use Rattle.std.specs.Prelude.{◌≡◌, IfErr, IfOk, IfSome};
 ghost use Rattle.counted_cell.specs.Counting.{some_receipt};
 ghost use types.Logic.{sem};
 
@@ -87,8 +87,22 @@ impl<'s, Static: StaticTables> Held<'s, Static> {
         self.share.label().hash
     }
 
-    /// One share more of the same entry. It is refused for `FullCount` alone, where the entry has as many as it may have.
+    /// One share more of the same entry, by a single try that waits for nothing. `None` where another step on the count came between, or the
+    /// entry has as many as it may have: then nothing has changed, and `clone_share` tells which.
     #[inline]
+    pub fn try_clone_share(&self) -> Option<Held<'s, Static>>
+        ensures { IfSome result (λ held. held ≡ self.now) }
+    {
+        let share = self.share.try_add()?;
+        Some(Held {
+            share,
+            set: self.set,
+        })
+    }
+
+    /// One share more of the same entry. It is refused for `FullCount` alone, where the entry has as many as it may have.
+    #[cold]
+    #[inline(never)]
     pub fn clone_share<R: Wait>(&self, rt: &R) -> Result<Held<'s, Static>, Fault>
         ensures same { IfOk result (λ held. held ≡ self.now) }
         ensures full { IfErr result (λ fault. fault ≡ Fault.FullCount) }

@@ -58,7 +58,12 @@ impl<'s, Static: StaticTables> Ord for Atom<'s, Static> {
 
     ghost matches_eq = { λ a b. texts_ties a.text b.text };
 
+    /// Where the text isn't dynamic, an equal one is told without its bytes.
+    #[tactic(auto, using(crate::proofs::Forms::equal_tied))]
     fn cmp(&self, other: &Self) -> Ordering {
+        if !self.is_dynamic() && self == other {
+            return Ordering::Equal;
+        }
         self.as_str().cmp(other.as_str())
     }
 }
