@@ -18,6 +18,7 @@ import copies
 import find_tools  # has Python find the modules of gate/
 import refused_bodies
 import repository
+import stale
 from edits import BadEdit
 
 CRATE = """\
@@ -235,6 +236,27 @@ class Crate(unittest.TestCase):
         bodies.append(self.placed("5", "twice", ("(number) * 2", "(number) * 3")))
         found = [[str(body) for body in batch] for batch in batches.batches(bodies)]
         self.assertEqual(sorted(map(sorted, found)), [["2", "5"], ["3"], ["4"]])
+
+    def test_bodies_that_can_be_built_no_more_are_told(self):
+        folder = self.folder / "scheduled"
+        folder.mkdir()
+        paths = []
+        for name, old, new in (
+            ("well", "wide + 1", "wide + 2"),
+            ("beside", "wide + 1", "wide + 3"),
+            ("other", "next(number) * 2", "next(number) * 3"),
+            ("gone", "narrow + 1", "narrow + 2"),
+            ("unknown", "found += 1;", "fond += 1;"),
+        ):
+            paths.append(folder / f"{name}.edit")
+            paths[-1].write_text(f"scene: any\nfile: src/lib.rt\nold: {old}\nnew: {new}\n", encoding="utf-8")
+        with mock.patch("builtins.print") as said:
+            results = stale.look_at(paths, self.top)
+        self.assertEqual((results.count(True), results.count(False)), (3, 2))
+        told = said.call_args.args[0]
+        self.assertRegex(told, r"few/gone.edit: BAD EDIT: an 'old:' text stands 0 times")
+        self.assertRegex(told, r"few/unknown.edit: BAD EDIT: ")
+        self.assertNotRegex(told, "few/(well|beside|other).edit")
 
     def test_only_bodies_that_their_own_function_refuses_pass(self):
         counted = [("let mut found = 0;", "let mut seen = 0;"), ("found += 1;", "seen += 1;"), ("    found\n", "    seen\n")]

@@ -26,6 +26,11 @@ GUARDS = (
 )
 
 
+def unguarded(top):
+    """The files of the wrong bodies that the gate doesn't try."""
+    return [path for path in sorted(top.glob("crates/*/scheduled/*.edit")) if path.stem not in GUARDS]
+
+
 def search_body(program, scene, is_shown):
     """Whether an outcome of the scene is wrong, and what to say. Prints the steps of the first one, where that is asked for."""
     for how in searches_of(scene):

@@ -4,7 +4,8 @@
 usage: gate/schedules/schedules.py [--built] [WORD..]       with words: only the scenes whose names contain one of them
        gate/schedules/schedules.py --again SCENE SEARCH CHOICES
        gate/schedules/schedules.py --bodies [--jobs N] [WORD..]      tries the kept wrong bodies whose paths contain a word, or all
-       gate/schedules/schedules.py --gate [--jobs N]         tries all scenes, and the wrong bodies that guard the tester
+       gate/schedules/schedules.py --gate [--jobs N]         tries all scenes, and the wrong bodies that guard the tester, and looks
+                                                             whether the others can still be built
 
 With --built the program is the one that the last call built. SEARCH is a number of preemptions or `by-order`, with `+1` behind it
 where a request for memory is refused: a wrong outcome is printed with the command that runs its first schedule again.
@@ -22,11 +23,12 @@ sys.dont_write_bytecode = True
 sys.path.append(str(Path(__file__).resolve().parent.parent))
 
 import history_tests
-from bodies import GUARDS, try_bodies
+from bodies import GUARDS, try_bodies, unguarded
 from build import CantBuild, build
 from explore import MOST, Search, explore, search, searches_of
 from printed import print_schedule, print_wrong
 from scenes import BadScene, all_scenes
+from stale import look_at
 
 TOP = Path(__file__).resolve().parent.parent.parent
 PROGRAM = TOP / "crates" / "schedules" / "out" / "scheduled"
@@ -136,6 +138,7 @@ def tried(given, scenes):
     results = try_all(given.words, scenes, given.built)
     if given.gate:
         results += try_bodies(GUARDS, scenes, TOP, given.jobs)
+        results += look_at(unguarded(TOP), TOP)
     return results
 
 

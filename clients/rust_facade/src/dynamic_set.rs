@@ -2,6 +2,7 @@
 
 use interned_names::{Interner, Symbol};
 use std::collections::HashMap;
+use std::hash::{BuildHasherDefault, Hasher};
 use std::sync::{Arc, Mutex, MutexGuard, OnceLock, PoisonError, Weak};
 
 /// A text that atoms share. It is one holder of its symbol.
@@ -20,17 +21,36 @@ impl PartialEq for Entry {
 
 impl Eq for Entry {}
 
+/// Hashes a symbol, which is one word: a product has the bits of tickets, many of which are alike, in its upper half, and the map looks at the
+/// lower half first.
+#[derive(Default)]
+struct SymbolHasher(u64);
+
+impl Hasher for SymbolHasher {
+    fn write(&mut self, bytes: &[u8]) {
+        bytes.iter().for_each(|&byte| self.write_u64(self.0 ^ u64::from(byte)));
+    }
+
+    fn write_u64(&mut self, word: u64) {
+        self.0 = word.wrapping_mul(0x9e37_79b9_7f4a_7c15).rotate_left(32);
+    }
+
+    fn finish(&self) -> u64 {
+        self.0
+    }
+}
+
 /// The table, and of each symbol that is held the entry that atoms share, unless its last atom is just ending.
 struct Shared {
     names: Interner,
-    entries: HashMap<Symbol, Weak<Entry>>,
+    entries: HashMap<Symbol, Weak<Entry>, BuildHasherDefault<SymbolHasher>>,
 }
 
 /// Nobody else is in the table until what is answered ends. A thread that panicked there has left it whole: each call has changed all or
 /// nothing.
 fn shared() -> MutexGuard<'static, Shared> {
     static SHARED: OnceLock<Mutex<Shared>> = OnceLock::new();
-    let new = || Mutex::new(Shared { names: Interner::new().expect("a table"), entries: HashMap::new() });
+    let new = || Mutex::new(Shared { names: Interner::new().expect("a table"), entries: HashMap::default() });
     SHARED.get_or_init(new).lock().unwrap_or_else(PoisonError::into_inner)
 }
 
