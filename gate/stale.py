@@ -4,6 +4,7 @@ bodies, each of which is a build; that the others are still bodies takes what th
 Bodies of one crate that change different places share a look. One that a look refuses has a look to itself.
 """
 
+import re
 import tempfile
 from pathlib import Path
 
@@ -11,6 +12,7 @@ import batches
 from edits import BadEdit, edited, read_edit, replaced
 from repository import said_by
 
+ERROR = re.compile(r"^\S*src/\S+:\d+:\d+: error.*", re.MULTILINE)  # of the compiler: others speak of proofs
 SAID = 300  # how much is told of what the compiler said
 
 
@@ -45,8 +47,9 @@ def apart(bodies):
 def refused(bodies, folder):
     """What the compiler says against a crate with these bodies, in the folder of a copy, or nothing."""
     with replaced(batches.texts_with(bodies, folder)):
-        status, said = said_by(*batches.checker_of(folder), "--only", "", folder=folder)
-    return "" if status == 0 else said.strip() or f"status {status}"
+        said = said_by(*batches.checker_of(folder), "--only", "", folder=folder)[1]
+    errors = "\n".join(ERROR.findall(said))
+    return errors or ("" if "only=0" in said else f"the compiler came to no end: {said.strip()[-SAID:]}")
 
 
 def stale(bodies, folder):
@@ -78,6 +81,6 @@ def look_at(paths, top):
         copies = batches.copies_of(names, Path(room))
         for name in names:
             found = stale([body for body in bodies if body.crate == name], copies[name])
-            wrong += [f"{body}: BAD EDIT: {said[-SAID:]}" for body, said in found]
+            wrong += [f"{body}: BAD EDIT: {said[:SAID]}" for body, said in found]
     print("\n".join(f"stale {text}" for text in wrong) or f"stale: none of {len(paths)} bodies", flush=True)
     return [True] * (len(paths) - len(wrong)) + [False] * len(wrong)
