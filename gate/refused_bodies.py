@@ -74,9 +74,10 @@ def sum_of(crate):
 
 
 def cost(folder):
-    """About how many seconds the bodies in the folder of a crate take: some for each, and more for each check."""
+    """About how many seconds the bodies in the folder of a crate take: some for each, and more for each check, which reads the crates below."""
     functions = [body.function for body in bodies_of(folder)[0]]
-    return 6 * len(functions) + 20 * max(map(functions.count, functions), default=0)
+    below = len(stands_on(crates_listed(), folder.name))
+    return 5 * len(functions) + (20 + 5 * below) * max(map(functions.count, functions), default=0)
 
 
 def kept(crate_sum, body):

@@ -3,7 +3,6 @@
 ghost use Rattle.std.specs.Prelude.{◌≡◌, ◌+◌, ◌^◌, ◌<◌, [], ◌∷◌, ◌++◌, length, IfOk, IfErr, IfSome, Some, None};
 ghost use Rattle.std.specs.List.{AllByRecursion};
 ghost use Rattle.text_forms.specs.Tables.{entry_hash};
-ghost use Rattle.text_forms.specs.Faults.{IsInternFault};
 ghost use Rattle.counted_set.specs.Chain.{IsKept, IsRightOf};
 ghost use Rattle.counted_set.specs.Counted.{GivesShares, IsPass};
 ghost use Rattle.counted_set.specs.Find.{IsFind};
@@ -13,7 +12,7 @@ ghost use Rattle.counted_set.specs.PassLeft.{IsPassLeft};
 ghost use Rattle.counted_set.specs.Visits.{VisitsEach};
 ghost use Rattle.node_chain.specs.Walked.{at_start, passed_by};
 
-use super::counts::{CountReply, Counts, OwnCounts, Pass};
+use super::counts::{CountReply, Counts, Pass};
 use super::entries::Entries;
 use super::share::{Entry, Share};
 use super::visits::{memory_of, number_of, visit_each};
@@ -275,37 +274,6 @@ impl<Static: StaticTables> Bucket<Static> {
             Pass::Full => Err(Fault::FullCount),
             Pass::Absent => Ok(None),
         }
-    }
-
-    /// A share of the text's entry, if one is linked that isn't dying, by the counts that the entries have themselves.
-    pub(super) fn share_if_linked<R: Wait>(
-        &mut self,
-        rt: &R,
-        text: &str,
-        hash: u64,
-    ) -> Result<Option<Share>, Fault>
-        requires { hash ≡ entry_hash Static.tables text.now }
-        ensures text { IfOk result (λ found. IfSome found (λ s. s.text ≡ text.now)) }
-        ensures right { IfOk result (λ found. IfSome found (λ s. IsRightOf Static.tables self.old.bits s)) }
-        ensures refused { IfErr result (λ fault. fault ≡ Fault.FullCount) }
-    {
-        self.find(rt, text, hash, &mut OwnCounts)
-    }
-
-    /// A share of the text's entry, by the counts that the entries have themselves.
-    pub(super) fn share_of<R: Wait>(
-        &mut self,
-        rt: &R,
-        text: &str,
-        hash: u64,
-        limits: &Limits,
-    ) -> Result<Share, Fault>
-        requires { hash ≡ entry_hash Static.tables text.now }
-        ensures text { IfOk result (λ s. s.text ≡ text.now) }
-        ensures right { IfOk result (λ s. IsRightOf Static.tables self.old.bits s) }
-        ensures refused { IfErr result IsInternFault }
-    {
-        self.intern(rt, text, hash, limits, &mut OwnCounts)
     }
 }
 

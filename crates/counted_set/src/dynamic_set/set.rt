@@ -155,7 +155,7 @@ impl<Static: StaticTables> Set<Static> {
         ensures refused { IfErr result IsInternFault }
     {
         let mut bucket = self.buckets[usize::from(self.count.bucket_of(hash))].lock(rt);
-        let share = bucket.share_of(rt, text, hash, &self.limits)?;
+        let share = bucket.intern(rt, text, hash, &self.limits, &mut OwnCounts)?;
         Ok(Held::new(share, self))
     }
 
@@ -174,7 +174,7 @@ impl<Static: StaticTables> Set<Static> {
         ensures refused { IfErr result (λ fault. fault ≡ Fault.FullCount) }
     {
         let bucket = &self.buckets[usize::from(self.count.bucket_of(hash))];
-        match bucket.lock(rt).share_if_linked(rt, text, hash)? {
+        match bucket.lock(rt).find(rt, text, hash, &mut OwnCounts)? {
             Some(share) => Ok(Some(Held::new(share, self))),
             None => Ok(None),
         }
