@@ -9,17 +9,12 @@ usage: gate/refused_bodies_test.py
 import sys
 import tempfile
 import unittest
-from pathlib import Path
 from types import SimpleNamespace
-from unittest import mock
 
 import batches
-import copies
-import find_tools  # has Python find the modules of gate/
 import refused_bodies
-import repository
-import stale
 from edits import BadEdit
+from small_repository import InSmallRepository
 
 CRATE = """\
 //! What is edited.
@@ -187,26 +182,13 @@ class Lines(unittest.TestCase):
             self.assertEqual((goals, text[:22]), ([], "the check has 0 lines "))
 
 
-class Crate(unittest.TestCase):
+class Crate(InSmallRepository):
     """Bodies of a small crate."""
 
     def setUp(self):
-        room = tempfile.TemporaryDirectory(prefix="refused-test-")
-        self.addCleanup(room.cleanup)
-        self.top = Path(room.name)
-        self.folder = self.top / "crates" / "few"
         texts = {"src/lib.rt": CRATE, "proofs/same/Answers.antt": ANSWERS, "proofs/zeros/Invariants.antt": INVARIANTS}
-        for file, text in texts.items():
-            (self.folder / file).parent.mkdir(parents=True, exist_ok=True)
-            (self.folder / file).write_text(text, encoding="utf-8")
-        (self.top / "crates.txt").write_text("few: core\n", encoding="utf-8")
-        (self.top / "HANDLES").write_text("Handles allowed: Threads, Wait.\n", encoding="utf-8")
-        copies.crates.cache_clear()
-        self.addCleanup(copies.crates.cache_clear)
-        for module in (repository, copies, batches, refused_bodies):
-            held = mock.patch.object(module, "TOP", self.top)
-            held.start()
-            self.addCleanup(held.stop)
+        self.begin("few: core\n", {f"crates/few/{file}": text for file, text in texts.items()}, refused_bodies)
+        self.folder = self.top / "crates" / "few"
 
     def placed(self, label, function, *pairs):
         return batches.placed(label, self.folder, function, changes_of(*pairs))
@@ -236,27 +218,6 @@ class Crate(unittest.TestCase):
         bodies.append(self.placed("5", "twice", ("(number) * 2", "(number) * 3")))
         found = [[str(body) for body in batch] for batch in batches.batches(bodies)]
         self.assertEqual(sorted(map(sorted, found)), [["2", "5"], ["3"], ["4"]])
-
-    def test_bodies_that_can_be_built_no_more_are_told(self):
-        folder = self.folder / "scheduled"
-        folder.mkdir()
-        paths = []
-        for name, old, new in (
-            ("well", "wide + 1", "wide + 2"),
-            ("beside", "wide + 1", "wide + 3"),
-            ("other", "next(number) * 2", "next(number) * 3"),
-            ("gone", "narrow + 1", "narrow + 2"),
-            ("unknown", "found += 1;", "fond += 1;"),
-        ):
-            paths.append(folder / f"{name}.edit")
-            paths[-1].write_text(f"scene: any\nfile: src/lib.rt\nold: {old}\nnew: {new}\n", encoding="utf-8")
-        with mock.patch("builtins.print") as said:
-            results = stale.look_at(paths, self.top)
-        self.assertEqual((results.count(True), results.count(False)), (3, 2))
-        told = said.call_args.args[0]
-        self.assertRegex(told, r"few/gone.edit: BAD EDIT: an 'old:' text stands 0 times")
-        self.assertRegex(told, r"few/unknown.edit: BAD EDIT: ")
-        self.assertNotRegex(told, "few/(well|beside|other).edit")
 
     def test_only_bodies_that_their_own_function_refuses_pass(self):
         counted = [("let mut found = 0;", "let mut seen = 0;"), ("found += 1;", "seen += 1;"), ("    found\n", "    seen\n")]

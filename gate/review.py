@@ -114,6 +114,10 @@ def is_proved(body, placed, folder, review):
     said = batches.check([placed], folder, only=False)
     if "logic=proved" in said:
         return True
+    own = batches.judge(body.function, said)[0]
+    if own:
+        review.held(body, f"refused at {', '.join(own)}")
+        return False
     found = "; ".join(f"{name} at {', '.join(goals)}" for name, goals in refusals(said).items())
     if found:
         review.held(body, f"refused elsewhere: {found}")
@@ -127,7 +131,7 @@ def proved(crate, pairs, review):
     left, by = [], {placed: body for body, placed in pairs}
     with tempfile.TemporaryDirectory(prefix="review-") as room:
         folder = batches.copies_of([crate], Path(room))[crate]
-        for placed, goals, _ in batches.tried(list(by), folder):
+        for placed, goals, _ in (it for batch in batches.batches(list(by)) for it in batches.judged(batch, folder)):
             if goals:
                 review.held(by[placed], f"refused at {', '.join(goals)}")
             elif is_proved(by[placed], placed, folder, review):

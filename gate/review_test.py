@@ -1,59 +1,117 @@
 #!/usr/bin/env python3
-"""Sees gate/review.py tell wrong bodies apart: one that the prover refuses, one that is proved and fails a test, and one that changes no
-meaning, which alone is reported as held by nothing.
+"""Sees gate/review.py tell wrong bodies of a small crate apart: one that the prover refuses, one that is proved and fails a test, one that
+can't be built, and one that changes no meaning, which alone is reported as held by nothing.
 
 usage: gate/review_test.py
 """
 
-import subprocess
+import contextlib
+import io
 import sys
-import tempfile
-from pathlib import Path
+import unittest
+from unittest import mock
 
-TOP = Path(__file__).resolve().parent.parent
+import review
+from small_repository import InSmallRepository
+
+CRATE = """\
+//! What is edited.
+#![tactic(auto)]
+ghost use Rattle.std.specs.Prelude.{◌≡◌, ◌+◌, ◌*◌, ◌<◌};
+
+/// The number after it.
+pub fn next(number: u8) -> u32
+    ensures { result ≡ number + 1 }
+{
+    u32::from(number) + 1
+}
+
+/// Twice the number.
+pub fn twice(number: u8) -> u32
+    ensures { result ≡ number * 2 }
+{
+    u32::from(number) * 2
+}
+
+/// A number below ten.
+pub fn digit() -> u32
+    ensures { result < 10 }
+{
+    7
+}
+
+/// Another number below ten.
+pub fn other() -> u32
+    ensures { result < 10 }
+{
+    8
+}
+"""
+TESTS = """\
+//! Its tests.
+#![tactic(auto)]
+
+#[test]
+fn digit_is_seven(rt: HostRuntime) {
+    assert!(rt; few::digit() == 7);
+}
+"""
 BODIES = """\
-body: look_gives_nothing
-crate: node_chain
-function: NodeChain::look
-file: src/chain.rt
-old: Some(self.nodes.next_item())
-new: None
+body: next_is_two_more
+crate: few
+function: next
+file: src/lib.rt
+old:     u32::from(number) + 1
+new:     u32::from(number) + 2
 
-body: end_forgets_what_it_takes_out
-crate: node_chain
-function: NodeChain::drop
-file: src/chain.rt
-old:             drop(self.take_out());
-new:             std::mem::forget(self.take_out());
+body: digit_is_six
+crate: few
+function: digit
+file: src/lib.rt
+old:     7
+new:     6
 
-body: parts_in_another_order
-crate: node_chain
-function: Pack::into_item
-file: src/pack.rt
-old:         let Pack { first, others: _ } = self;
-new:         let Pack { others: _, first } = self;
+body: factors_in_another_order
+crate: few
+function: twice
+file: src/lib.rt
+old:     u32::from(number) * 2
+new:     2 * u32::from(number)
+
+body: other_is_unknown
+crate: few
+function: other
+file: src/lib.rt
+old:     9
+new:     8
 """
 WANTED = {
-    "look_gives_nothing (": "refused at ",
-    "end_forgets_what_it_takes_out (": " of test_cells fails",
-    "  parts_in_another_order (": "node_chain",
-    "review: 3 bodies, 1 that nothing holds": "",
+    "next_is_two_more (": "refused at returns",
+    "digit_is_six (": "proved, and the test digit_is_seven of test_few fails",
+    "other_is_unknown (": "NOT CHECKED: BAD EDIT: ",
+    "  factors_in_another_order (": "few",
+    "review: 4 bodies, 1 that nothing holds, 1 not checked:": "",
 }
 
 
+class Review(InSmallRepository):
+    def test_what_holds_each_body_is_told(self):
+        texts = {"crates/few/src/lib.rt": CRATE, "crates/test_few/src/lib.rt": TESTS, "bodies": BODIES}
+        self.begin("few: core\ntest_few: few\n", texts, review)
+        said = io.StringIO()
+        with contextlib.redirect_stdout(said), mock.patch.object(sys, "argv", ["review.py", str(self.top / "bodies")]):
+            status = review.main()
+        lines = said.getvalue().splitlines()
+        for head, text in WANTED.items():
+            self.assertTrue(any(line.startswith(head) and text in line for line in lines), (head, text, lines))
+        self.assertEqual((status, len(lines)), (1, len(WANTED)), lines)
+
+
 def main():
-    with tempfile.TemporaryDirectory(prefix="review-") as room:
-        file = Path(room) / "bodies"
-        file.write_text(BODIES, encoding="utf-8")
-        ran = subprocess.run([TOP / "gate" / "review.py", file], stdout=subprocess.PIPE, stderr=subprocess.STDOUT)
-    lines = ran.stdout.decode(errors="replace").splitlines()
-    well = [any(line.startswith(head) and text in line for line in lines) for head, text in WANTED.items()]
-    well.append(ran.returncode == 1)
-    if not all(well):
-        print("\n".join(lines))
-    print(f"review: {'what each body is held by is told' if all(well) else 'WRONG'}")
-    print(f"{int(all(well))} passed, {int(not all(well))} failed")
-    return 0 if all(well) else 1
+    result = unittest.TextTestRunner(stream=sys.stdout, verbosity=2).run(unittest.defaultTestLoader.loadTestsFromName("__main__"))
+    bad = len(result.failures) + len(result.errors)
+    print(f"{result.testsRun - bad} passed, {bad} failed")
+    return 0 if result.wasSuccessful() else 1
 
 
 if __name__ == "__main__":

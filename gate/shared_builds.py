@@ -24,6 +24,7 @@ from edits import FUNCTION, edited, replaced
 from programs import TESTS, compiler, kit, link, object_of
 
 SWITCH = 'unsafe extern "C" {\n    safe fn wrong_body() -> u32;\n}\n'
+ALLOWED = {"RT_ALLOW_C": "1"}  # what has rt take that function
 ANSWER = "unsigned wrong_body(void) {{ return {number}; }}\n"
 
 
@@ -104,24 +105,37 @@ def can_share(edit, root):
     return True
 
 
+@contextlib.contextmanager
+def beside_their_own(edits, root):
+    """Gives the copy at root the bodies of all these edits beside its own ones, and takes them away at the end."""
+    # Rt takes a function in C from a crate with such a folder alone.
+    folders = {root / "crates" / edit.crate / "c" for edit in edits}
+    with contextlib.ExitStack() as undo:
+        for folder in folders:
+            folder.mkdir()
+            undo.callback(folder.rmdir)
+        undo.enter_context(replaced(shared_texts(edits, root)))
+        yield
+
+
+def answer(number, room):
+    """The object of a `wrong_body` that answers this number, made in the room."""
+    made = room / f"wrong_body-{number}.o"
+    words = [*compiler(kit())[:2], "-c", "-x", "c", "-", "-o", made]
+    subprocess.run(words, input=ANSWER.format(number=number).encode(), check=True)
+    return made
+
+
 class SharedBuild:
     """The tests of a crate of the copy at root, with the bodies of all these edits, built in the room, an empty folder."""
 
     def __init__(self, crate, edits, root, room):
         self.room = room
-        # Rt takes a function in C from a crate with such a folder alone.
-        folders = {root / "crates" / edit.crate / "c" for edit in edits}
-        with contextlib.ExitStack() as undo:
-            for folder in folders:
-                folder.mkdir()
-                undo.callback(folder.rmdir)
-            undo.enter_context(replaced(shared_texts(edits, root)))
-            self.tests = object_of(root / "crates" / crate, room, TESTS, RT_ALLOW_C="1")
+        with beside_their_own(edits, root):
+            self.tests = object_of(root / "crates" / crate, room, TESTS, **ALLOWED)
 
     def program(self, number):
         """The program with the body of this number, or as the crate is with 0."""
-        answer, program = self.room / "wrong_body.o", self.room / f"tests-{number}"
-        words = [*compiler(kit())[:2], "-c", "-x", "c", "-", "-o", answer]
-        subprocess.run(words, input=ANSWER.format(number=number).encode(), check=True)
-        link([self.tests, answer], program)
+        program = self.room / f"tests-{number}"
+        link([self.tests, answer(number, self.room)], program)
         return program

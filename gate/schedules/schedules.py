@@ -4,8 +4,8 @@
 usage: gate/schedules/schedules.py [--built] [WORD..]       with words: only the scenes whose names contain one of them
        gate/schedules/schedules.py --again SCENE SEARCH CHOICES
        gate/schedules/schedules.py --bodies [--jobs N] [WORD..]      tries the kept wrong bodies whose paths contain a word, or all
-       gate/schedules/schedules.py --gate [--jobs N]         tries all scenes, and the wrong bodies that guard the tester, and looks
-                                                             whether the others can still be built
+       gate/schedules/schedules.py --gate [--jobs N]         tries all scenes, builds all wrong bodies, and searches the scenes of
+                                                             those that guard the tester
 
 With --built the program is the one that the last call built. SEARCH is a number of preemptions or `by-order`, with `+1` behind it
 where a request for memory is refused: a wrong outcome is printed with the command that runs its first schedule again.
@@ -22,13 +22,13 @@ from pathlib import Path
 sys.dont_write_bytecode = True
 sys.path.append(str(Path(__file__).resolve().parent.parent))
 
+import bodies_test
 import history_tests
-from bodies import GUARDS, try_bodies, unguarded
+from bodies import GUARDS, bodies_in, try_bodies
 from build import CantBuild, build
 from explore import MOST, Search, explore, search, searches_of
 from printed import print_schedule, print_wrong
 from scenes import BadScene, all_scenes
-from stale import look_at
 
 TOP = Path(__file__).resolve().parent.parent.parent
 PROGRAM = TOP / "crates" / "schedules" / "out" / "scheduled"
@@ -97,9 +97,10 @@ def try_counting(program):
     return well
 
 
-def test_histories():
-    """How many tests of the checker of histories pass, as a list with a truth value for each."""
-    suite = unittest.defaultTestLoader.loadTestsFromModule(history_tests)
+def test_tools():
+    """How many tests of the checker of histories and of what is said of bodies pass, as a list with a truth value for each."""
+    loader = unittest.defaultTestLoader
+    suite = unittest.TestSuite(map(loader.loadTestsFromModule, (history_tests, bodies_test)))
     result = unittest.TextTestRunner(stream=sys.stdout, verbosity=0).run(suite)
     bad = len(result.failures) + len(result.errors)
     return [True] * (result.testsRun - bad) + [False] * bad
@@ -120,7 +121,7 @@ def try_all(words, scenes, is_built):
     if not is_built:
         build(TOP / "crates" / "atoms", COUNTING)
     results.append(try_counting(COUNTING))
-    return results + test_histories()
+    return results + test_tools()
 
 
 def tried(given, scenes):
@@ -134,11 +135,10 @@ def tried(given, scenes):
             build(TOP / "crates" / "schedules", PROGRAM)
         return [print_schedule(PROGRAM, scene, Search.again(word, choices))]
     if given.bodies:
-        return try_bodies(given.words or [""], scenes, TOP, given.jobs)
+        return try_bodies(bodies_in(TOP, given.words or [""]), scenes, TOP, given.jobs)
     results = try_all(given.words, scenes, given.built)
     if given.gate:
-        results += try_bodies(GUARDS, scenes, TOP, given.jobs)
-        results += look_at(unguarded(TOP), TOP)
+        results += try_bodies(bodies_in(TOP, [""]), scenes, TOP, given.jobs, GUARDS)
     return results
 
 
