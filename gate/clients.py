@@ -37,7 +37,9 @@ WARNINGS = ["-Wall", "-Wextra", "-Wpedantic", "-Wshadow", "-Werror"]
 AS_C = ["-std=c11", *WARNINGS]
 AS_CPP = ["-std=c++17", *WARNINGS]
 SANITIZED = ["-g", "-O1", "-fsanitize=address,undefined", "-fno-sanitize-recover=all"]
-WRAPPED = {"heap": ("malloc", "realloc"), "memory": ("malloc", "realloc", "free"), "counted": ("malloc", "realloc", "free")}  # by programs of tests
+HEAP = ("malloc", "realloc", "free")
+WRAPPED = {"heap": ("malloc", "realloc"), "memory": HEAP, "counted": HEAP, "readers": HEAP}  # by programs of tests
+RACES = ["-g", "-O1", "-fsanitize=thread"]
 OUTCOME = re.compile(r"^test (.+) \.\.\. (\w+)$", re.MULTILINE)
 
 
@@ -93,16 +95,16 @@ def cpp():
     return os.environ.get("CXX") or tool("c++", "g++", "clang++")
 
 
-def sanitized(compiler, place):
-    """The words that have the compiler look for bad addresses and undefined behaviour. Skipped where it can't."""
+def sanitized(compiler, place, words=tuple(SANITIZED)):
+    """The words that have the compiler look for bad addresses and undefined behaviour, or those given. Skipped where it can't."""
     probe = place.room / f"probe-{Path(compiler).name}.c"
     probe.write_text("int main(void) { return 0; }\n", encoding="ascii")
     try:
-        said_by(compiler, "-x", "c", probe, *SANITIZED, "-o", probe.with_suffix(""))
+        said_by(compiler, "-x", "c", probe, *words, "-o", probe.with_suffix(""))
         said_by(probe.with_suffix(""))
     except Failed as why:
-        raise Skipped(f"{compiler} builds nothing with sanitizers here") from why
-    return SANITIZED
+        raise Skipped(f"{compiler} builds nothing with {' '.join(words)} here") from why
+    return list(words)
 
 
 def built(place, name, compiler, sources, *words):
@@ -122,10 +124,22 @@ def outcomes(said):
     return len(found)
 
 
+def wrapped(name):
+    """The words by which a program of tests has a heap of its own, if it has one, and threads."""
+    return ["-pthread", *(f"-Wl,--wrap={function}" for function in WRAPPED.get(name, ()))]
+
+
+def races(place):
+    """Threads that only read one table, where the guarded layer is built to find what two of them do to one byte."""
+    compiler = cc()
+    sources = [C / "tests" / "readers.c", C / "string_cache.c", C / "heap.c"]
+    words = [*AS_C, *sanitized(compiler, place, RACES), *wrapped("readers")]
+    return outcomes(said_by(built(place, "readers-races", compiler, sources, *words)))
+
+
 def c_tests(name):
     """The ways in which a program of tests in C is run, by their names."""
-    sources = [C / "tests" / f"{name}.c"]
-    more = [f"-Wl,--wrap={function}" for function in WRAPPED.get(name, ())]
+    sources, more = [C / "tests" / f"{name}.c"], wrapped(name)
 
     def plain(place):
         return outcomes(said_by(built(place, name, cc(), sources, *AS_C, "-O2", *more)))
@@ -223,12 +237,12 @@ def count_names(place):
 
 
 def cpp_tests(place):
-    return outcomes(said_by(built(place, "cpp-plain", cpp(), [CLIENTS / "cpp" / "test.cpp"], *AS_CPP, "-O2")))
+    return outcomes(said_by(built(place, "cpp-plain", cpp(), [CLIENTS / "cpp" / "test.cpp"], *AS_CPP, "-O2", "-pthread")))
 
 
 def cpp_checked(place):
     compiler = cpp()
-    words = [*AS_CPP, *sanitized(compiler, place)]
+    words = [*AS_CPP, "-pthread", *sanitized(compiler, place)]
     return outcomes(said_by(built(place, "cpp-checked", compiler, [CLIENTS / "cpp" / "test.cpp"], *words)))
 
 
@@ -262,8 +276,9 @@ def python_tests(place):
 def rows():
     """What is tested, by its name. Each gives the number of its tests that passed."""
     found = {"c example": example, "c header": header_alone, "c exports": exported, "c pkg-config": by_pkg_config}
-    for name in ("calls", "hostile", "memory", "heap", "counted", "model"):
+    for name in ("calls", "hostile", "memory", "heap", "counted", "model", "readers"):
         found.update(c_tests(name))
+    found["c readers races"] = races
     found.update({"c lexer": lexer_tests, "c scopes": scopes, "c count_names": count_names, "cpp": cpp_tests, "cpp sanitized": cpp_checked})
     found.update({"rust": rust_tests, "rust facade": facade_tests, "python": python_tests})
     return found
