@@ -193,9 +193,9 @@ void memory_is_told() {
 }
 
 void an_interner_is_moved() {
-    Interner names;
+    Interner taken, names;
     const Symbol name = names.intern("a longer name");
-    Interner taken = std::move(names);
+    taken = std::move(names);
     CHECK(taken.intern("a longer name") == name && name.text() == "a longer name");
     names = Interner();
     CHECK(names.empty() && taken.size() == 1);
