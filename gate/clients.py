@@ -38,6 +38,13 @@ AS_C = ["-std=c11", *WARNINGS]
 AS_CPP = ["-std=c++17", *WARNINGS]
 SANITIZED = ["-g", "-O1", "-fsanitize=address,undefined", "-fno-sanitize-recover=all"]
 WRAPPED = {"heap": ("malloc", "realloc"), "memory": ("malloc", "realloc", "free"), "counted": ("malloc", "realloc", "free")}  # by programs of tests
+LOCKS = ("pthread_mutex_init", "pthread_mutex_destroy")
+WRAPPED["shared_memory"] = (*WRAPPED["memory"], *LOCKS)
+WRAPPED["readers"] = WRAPPED["memory"]
+SHARED = C / "string_cache_shared.c"
+# The calls of the library that tests/touched.c stands before.
+TOUCHED = ("intern", "get", "clone", "give", "holds", "holders", "text", "entries", "text_bytes", "memory", "clear")
+RACES = ["-g", "-O1", "-fsanitize=thread", "-pthread"]
 OUTCOME = re.compile(r"^test (.+) \.\.\. (\w+)$", re.MULTILINE)
 
 
@@ -93,16 +100,16 @@ def cpp():
     return os.environ.get("CXX") or tool("c++", "g++", "clang++")
 
 
-def sanitized(compiler, place):
-    """The words that have the compiler look for bad addresses and undefined behaviour. Skipped where it can't."""
+def sanitized(compiler, place, words=SANITIZED):
+    """The words that have the compiler look for bad addresses and undefined behaviour, or for what others ask. Skipped where it can't."""
     probe = place.room / f"probe-{Path(compiler).name}.c"
     probe.write_text("int main(void) { return 0; }\n", encoding="ascii")
     try:
-        said_by(compiler, "-x", "c", probe, *SANITIZED, "-o", probe.with_suffix(""))
+        said_by(compiler, "-x", "c", probe, *words, "-o", probe.with_suffix(""))
         said_by(probe.with_suffix(""))
     except Failed as why:
         raise Skipped(f"{compiler} builds nothing with sanitizers here") from why
-    return SANITIZED
+    return words
 
 
 def built(place, name, compiler, sources, *words):
@@ -122,10 +129,10 @@ def outcomes(said):
     return len(found)
 
 
-def c_tests(name):
-    """The ways in which a program of tests in C is run, by their names."""
-    sources = [C / "tests" / f"{name}.c"]
-    more = [f"-Wl,--wrap={function}" for function in WRAPPED.get(name, ())]
+def c_tests(name, beside=(), words=()):
+    """The ways in which a program of tests in C is run, by their names. More sources and words are for the compiler."""
+    sources = [C / "tests" / f"{name}.c", *beside]
+    more = [*words, *(f"-Wl,--wrap={function}" for function in WRAPPED.get(name, ()))]
 
     def plain(place):
         return outcomes(said_by(built(place, name, cc(), sources, *AS_C, "-O2", *more)))
@@ -222,13 +229,58 @@ def count_names(place):
     return 1
 
 
+def races_of(program, room):
+    """What a program printed until the first report, and what ThreadSanitizer wrote to its log: its status alone shows nothing."""
+    log = room / f"{program.name}.log"
+    said = said_by(program, env={**os.environ, "TSAN_OPTIONS": f"log_path={log} exitcode=0 halt_on_error=1"})
+    return said, "".join(part.read_text(errors="replace") for part in sorted(room.glob(f"{log.name}.*")))
+
+
+def without_races(place, compiler, sources, words):
+    """How many tests of these sources passed with no race that ThreadSanitizer reports. It has to report the one of tests/raced.c."""
+    touched, traced = place.room / "touched.o", [*sanitized(cc(), place, RACES), *(f"-Wl,--wrap=sc_{name}" for name in TOUCHED)]
+    said_by(cc(), *AS_C, *RACES, "-I", place.library, "-c", C / "tests" / "touched.c", "-o", touched)
+    _, reported = races_of(built(place, "raced", cc(), [C / "tests" / "raced.c", touched], *AS_C, *traced), place.room)
+    if "data race" not in reported:
+        raise Failed("ThreadSanitizer reports no race of two threads that take no lock")
+    said, reported = races_of(built(place, "raceless", compiler, [*sources, touched], *words, *traced), place.room)
+    if reported:
+        raise Failed(f"ThreadSanitizer reports:\n{reported[:3000]}")
+    return outcomes(said)
+
+
+def reader_races(place):
+    """Threads that only read one table, where the guarded layer is built to find what two of them do to one byte."""
+    compiler = cc()
+    sources = [C / "tests" / "readers.c", C / "string_cache.c", C / "heap.c"]
+    words = [*AS_C, *sanitized(compiler, place, RACES), *(f"-Wl,--wrap={function}" for function in WRAPPED["readers"])]
+    return outcomes(said_by(built(place, "readers-races", compiler, sources, *words)))
+
+
+def shared_races(place):
+    return without_races(place, cc(), [C / "tests" / "shared_threads.c", SHARED], [*AS_C, "-I", C])
+
+
+def cpp_races(place):
+    return without_races(place, cpp(), [CLIENTS / "cpp" / "test_shared.cpp"], AS_CPP)
+
+
+def shared_cpp_tests(place):
+    return outcomes(said_by(built(place, "cpp-shared", cpp(), [CLIENTS / "cpp" / "test_shared.cpp"], *AS_CPP, "-O2", "-pthread")))
+
+
+def shared_cpp_checked(place):
+    words = [*AS_CPP, "-pthread", *sanitized(cpp(), place)]
+    return outcomes(said_by(built(place, "cpp-shared-checked", cpp(), [CLIENTS / "cpp" / "test_shared.cpp"], *words)))
+
+
 def cpp_tests(place):
-    return outcomes(said_by(built(place, "cpp-plain", cpp(), [CLIENTS / "cpp" / "test.cpp"], *AS_CPP, "-O2")))
+    return outcomes(said_by(built(place, "cpp-plain", cpp(), [CLIENTS / "cpp" / "test.cpp"], *AS_CPP, "-O2", "-pthread")))
 
 
 def cpp_checked(place):
     compiler = cpp()
-    words = [*AS_CPP, *sanitized(compiler, place)]
+    words = [*AS_CPP, "-pthread", *sanitized(compiler, place)]
     return outcomes(said_by(built(place, "cpp-checked", compiler, [CLIENTS / "cpp" / "test.cpp"], *words)))
 
 
@@ -264,7 +316,12 @@ def rows():
     found = {"c example": example, "c header": header_alone, "c exports": exported, "c pkg-config": by_pkg_config}
     for name in ("calls", "hostile", "memory", "heap", "counted", "model"):
         found.update(c_tests(name))
+    found.update({**c_tests("readers", words=["-pthread"]), "c readers races": reader_races})
     found.update({"c lexer": lexer_tests, "c scopes": scopes, "c count_names": count_names, "cpp": cpp_tests, "cpp sanitized": cpp_checked})
+    for name in ("shared", "shared_threads", "shared_memory"):
+        found.update(c_tests(name, [SHARED], ["-pthread", "-I", C]))
+    found.update({"c shared races": shared_races, "cpp shared": shared_cpp_tests, "cpp shared sanitized": shared_cpp_checked})
+    found.update({"cpp shared races": cpp_races})
     found.update({"rust": rust_tests, "rust facade": facade_tests, "python": python_tests})
     return found
 

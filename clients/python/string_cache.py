@@ -28,6 +28,8 @@ from typing import Optional, Union
 
 __all__ = ["Closed", "Interner", "Refused", "VERSION"]
 
+MAJOR = 1  # version of the library
+
 OK = 0
 NO_MEMORY = 1
 NOT_HELD = 6
@@ -42,7 +44,7 @@ class Refused(Exception):
     """A call was refused, and has changed nothing."""
 
     def __init__(self, number: int) -> None:
-        super().__init__(_library.sc_text_of_fault(number).decode("ascii"))
+        super().__init__(_library.sc_strerror(number).decode("ascii"))
         self.number = number
 
 
@@ -71,7 +73,7 @@ def _loaded(path: str) -> ctypes.CDLL:
     words, sizes = ctypes.POINTER(word), ctypes.POINTER(size)
     number = ctypes.c_uint32
     for name, result, arguments in (
-        ("sc_text_of_fault", ctypes.c_char_p, [number]),
+        ("sc_strerror", ctypes.c_char_p, [number]),
         ("sc_version", number, []),
         ("sc_open", number, [table]),
         ("sc_open_with", number, [table, word, word, ctypes.c_uint8]),
@@ -98,8 +100,8 @@ def _loaded(path: str) -> ctypes.CDLL:
 _library = _loaded(_path())
 
 VERSION: int = _library.sc_version()
-if VERSION != 1:
-    raise ImportError(f"libstring_cache.so has version {VERSION}, where 1 is known here")
+if VERSION // 10000 != MAJOR:
+    raise ImportError(f"libstring_cache.so has version {VERSION // 10000}, where {MAJOR} is known here")
 
 
 def _check(number: int) -> None:

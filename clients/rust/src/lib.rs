@@ -14,11 +14,16 @@
 //! [`Interner::intern`] counts one holder, and each [`Interner::release`] takes one off; with the last one the name goes. The symbol of a name
 //! that went never comes back, so that a stale one resolves to nothing, and never to another name.
 //!
+//! Threads share the names of a [`SharedInterner`].
+//!
 //! A name of at most 7 bytes lies in its symbol. It takes no memory, is always there, and isn't counted by [`Interner::len`].
 //!
 //! What a table does is proved; that this crate hands its arguments over rightly is tested.
 
+mod shared;
 mod sys;
+
+pub use shared::{LockedName, LockedSymbol, SharedInterner, SharedSymbol};
 
 use std::cell::UnsafeCell;
 use std::ffi::c_char;

@@ -50,3 +50,8 @@ extern "C" {
     pub fn sc_reserve(table: *mut Table, more: usize) -> u32;
     pub fn sc_hash(text: *const c_char, len: usize, key: u64, hashes: *mut Hashes) -> u32;
 }
+
+extern "C" {
+    pub fn sc_pack(text: *const c_char, len: usize, word: *mut u64) -> u32;
+    pub fn sc_unpack(word: u64, room: *mut c_char, room_len: usize, len: *mut usize) -> u32;
+}
