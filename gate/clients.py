@@ -40,6 +40,8 @@ SHARED = C / "string_cache_shared.c"
 # The calls of the library that tests/touched.c stands before.
 TOUCHED = ("intern", "get", "clone", "give", "holds", "holders", "text", "entries", "text_bytes", "memory", "clear")
 RACES = ["-g", "-O1", "-fsanitize=thread", "-pthread"]
+CRATES = ("precomputed_hash", "rust", "rust_facade", "rust_facade_0_8")
+REGISTRY = Path("/usr/share/cargo/registry")  # of Debian's packages of crates
 OUTCOME = re.compile(r"^test (.+) \.\.\. (\w+)$", re.MULTILINE)
 
 
@@ -237,13 +239,14 @@ def cpp_checked(place):
     return outcomes(said_by(built(place, "cpp-checked", compiler, [CLIENTS / "cpp" / "test.cpp"], *words)))
 
 
-def crate_tests(place, name):
-    """The tests of a crate of clients, in a copy beside its neighbour, since cargo writes beside the sources."""
+def crate_tests(place, name, *more):
+    """The tests of a crate of clients, in a copy beside its neighbours, since cargo writes beside the sources. More words are for cargo."""
     cargo = tool("cargo")
-    for crate in ("rust", "rust_facade"):
-        shutil.copytree(CLIENTS / crate, place.room / crate, ignore=shutil.ignore_patterns("target", "Cargo.lock"))
+    for crate in CRATES:
+        if not (place.room / crate).is_dir():
+            shutil.copytree(CLIENTS / crate, place.room / crate, ignore=shutil.ignore_patterns("target", "Cargo.lock"))
     environment = {**os.environ, "STRING_CACHE_DIR": str(place.library), "RUSTFLAGS": "-D warnings"}
-    words = [cargo, "test", "--release", "--offline", "--target-dir", place.room / "target"]
+    words = [cargo, "test", "--release", "--offline", "--target-dir", place.room / "target", *more]
     return outcomes(said_by(*words, cwd=place.room / name, env=environment))
 
 
@@ -251,8 +254,34 @@ def rust_tests(place):
     return crate_tests(place, "rust")
 
 
-def facade_tests(place):
-    return crate_tests(place, "rust_facade")
+def facade_tests(name):
+    """The tests of a facade, which depends on no serde in the copy: cargo looks for it even where nobody asks for the feature."""
+
+    def tests(place):
+        shutil.copytree(CLIENTS / name, place.room / name, ignore=shutil.ignore_patterns("target", "Cargo.lock"))
+        manifest = place.room / name / "Cargo.toml"
+        lines = manifest.read_text(encoding="utf-8").replace('"dep:serde"', "").splitlines(keepends=True)
+        manifest.write_text("".join(line for line in lines if not line.startswith("serde =")), encoding="utf-8")
+        return crate_tests(place, name)
+
+    return tests
+
+
+def serde_tests(place):
+    """What serde asks of the facade, over Debian's serde."""
+    if not any(REGISTRY.glob("serde-1.*")):
+        raise Skipped(f"there is no serde in {REGISTRY}")
+    debian = ["--config", 'source.crates-io.replace-with="debian"', "--config", f'source.debian.directory="{REGISTRY}"']
+    return crate_tests(place, "rust_facade", *debian, "--features", "serde_support", "--test", "features")
+
+
+def html5ever_trees(place):
+    """A program over Debian's html5ever prints the same trees over the facade as over Debian's string_cache."""
+    said = said_by(TOP / "gate" / "real_client.py", place.library, place.room).strip()
+    if said.startswith("SKIPPED: "):
+        raise Skipped(said.removeprefix("SKIPPED: "))
+    print(f"clients {said}", flush=True)
+    return 1
 
 
 def python_tests(place):
@@ -276,7 +305,8 @@ def rows():
         found.update(c_tests(name, [SHARED], ["-pthread", "-I", C]))
     found.update({"c shared races": shared_races, "cpp shared": shared_cpp_tests, "cpp shared sanitized": shared_cpp_checked})
     found.update({"cpp shared races": cpp_races})
-    found.update({"rust": rust_tests, "rust facade": facade_tests, "python": python_tests})
+    found.update({"rust": rust_tests, "rust facade": facade_tests("rust_facade"), "rust facade 0.8": facade_tests("rust_facade_0_8")})
+    found.update({"rust facade serde": serde_tests, "rust html5ever": html5ever_trees, "python": python_tests})
     return found
 
 
