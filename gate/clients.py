@@ -19,22 +19,17 @@ import subprocess
 import sys
 import tempfile
 from concurrent.futures import ThreadPoolExecutor
-from dataclasses import dataclass
 from pathlib import Path
 
+from clients_base import AS_C, C, CLIENTS, Failed, Place, SECONDS, Skipped, TOP, WARNINGS, cc, cpp, said_by, tool
+from clients_install import install_rows
 from copies import copy_over_built
 from machine import processors
 
-TOP = Path(__file__).resolve().parent.parent
 EXPORTS = "string_cache_c"  # the crate
-CLIENTS = TOP / "clients"
-C = CLIENTS / "c"
 NAMES = [C / "names" / name for name in ("lexer.c", "source.c")]
-SECONDS = 600  # for one command
 PROOF_SECONDS = 7200  # for the library, where nothing was proved before
 MOST_SOURCE = 6_000_000  # bytes of the text that the lexer reads
-WARNINGS = ["-Wall", "-Wextra", "-Wpedantic", "-Wshadow", "-Werror"]
-AS_C = ["-std=c11", *WARNINGS]
 AS_CPP = ["-std=c++17", *WARNINGS]
 SANITIZED = ["-g", "-O1", "-fsanitize=address,undefined", "-fno-sanitize-recover=all"]
 WRAPPED = {"heap": ("malloc", "realloc"), "memory": ("malloc", "realloc", "free"), "counted": ("malloc", "realloc", "free")}  # by programs of tests
@@ -50,32 +45,6 @@ REGISTRY = Path("/usr/share/cargo/registry")  # of Debian's packages of crates
 OUTCOME = re.compile(r"^test (.+) \.\.\. (\w+)$", re.MULTILINE)
 
 
-class Failed(Exception):
-    """A command ended with a status other than 0, or something isn't as it should be."""
-
-
-class Skipped(Exception):
-    """A tool isn't there."""
-
-
-@dataclass
-class Place:
-    """Where the library is, and a folder to build in."""
-
-    library: Path
-    room: Path
-
-
-def said_by(*words, seconds=SECONDS, **how):
-    """What a command wrote, on both streams. Failed where its status isn't 0."""
-    how = {"stdin": subprocess.DEVNULL, "stdout": subprocess.PIPE, "stderr": subprocess.STDOUT, **how}
-    ran = subprocess.run([*map(str, words)], timeout=seconds, check=False, **how)
-    said = ran.stdout.decode(errors="replace")
-    if ran.returncode:
-        raise Failed(f"{Path(words[0]).name} ended with status {ran.returncode}:\n{said[-3000:]}")
-    return said
-
-
 def build_library(library, room):
     """Fills the folder of the library, and leaves the archive of the exports where `rt lib` does."""
     copy = copy_over_built(room / "copy", EXPORTS)
@@ -84,22 +53,6 @@ def build_library(library, room):
     out.mkdir(exist_ok=True)
     shutil.copy(copy / "crates" / EXPORTS / "out" / f"lib{EXPORTS}.a", out)
     shutil.rmtree(copy)
-
-
-def tool(*names):
-    """The first of these commands that is there."""
-    for name in names:
-        if shutil.which(name):
-            return name
-    raise Skipped(f"there is no {' or '.join(names)}")
-
-
-def cc():
-    return os.environ.get("CC") or tool("cc", "gcc", "clang")
-
-
-def cpp():
-    return os.environ.get("CXX") or tool("c++", "g++", "clang++")
 
 
 def sanitized(compiler, place, words=SANITIZED):
@@ -343,6 +296,7 @@ def python_tests(place):
 def rows():
     """What is tested, by its name. Each gives the number of its tests that passed."""
     found = {"c example": example, "c header": header_alone, "c exports": exported, "c pkg-config": by_pkg_config}
+    found.update(install_rows())
     for name in ("calls", "hostile", "memory", "heap", "counted", "model"):
         found.update(c_tests(name))
     found.update({**c_tests("readers", words=["-pthread"]), "c readers races": reader_races})
