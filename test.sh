@@ -1,9 +1,10 @@
 #!/usr/bin/env bash
 # The gate: every proof from nothing, the edits of must-fail that the prover has to refuse, every test, each program as two compilers
 # build it (rt ci), then the other wrong bodies that the prover has to refuse, many in a check, each request for memory or a thread refused
-# under the tests that rt ci built, the schedules of small scenes, the static types that a script writes, the scripts by which users begin, that
-# count over many machines and that review wrong bodies, the pictures, what is said of wrong bodies, the library for C with its clients and their wrong bodies, and each
-# wrong body that a test has to catch, which begin where rt ci leaves a processor idle. The last lines tell what each part took, and sum up.
+# under the tests that rt ci built, the schedules of small scenes, the script that counts over many machines, and the library for C with its
+# clients and their wrong bodies. Each wrong body that a test has to catch begins where rt ci leaves a processor idle, and so do the static types
+# that a script writes, the scripts by which users begin, the one that reviews wrong bodies, the pictures, and what is said of wrong bodies. The
+# last lines tell what each part took, and sum up.
 #
 # `./test.sh quick [CRATE ..]` isn't the gate: it proves what changed over kept work, and runs the tests that see it (gate/quick.py).
 set -uo pipefail
@@ -60,22 +61,31 @@ run ci rt ci &
 ci=$!
 run caught gate/caught.py --tested --beside "$ci" > "$said/bodies" &
 bodies=$!
+# What reads nothing that rt ci makes begins where that leaves a processor idle, too.
+while read -r -u 5 name script; do
+    gate/idle.py "$ci"
+    run "$name" "gate/$script"
+done > "$said/scripts" 5<< 'END' &
+users users_test.py
+review review_test.py
+batches refused_bodies_test.py
+static static_type_test.py
+small small_test.py
+verdicts caught_test.py
+END
+scripts=$!
 wait "$ci"
 run prover gate/refused_bodies.py --proved --jobs "${RT_JOBS:-2}" > "$said/edits" &
 edits=$!
 run schedules gate/schedules/schedules.py --gate --jobs 2 > "$said/scenes" &
 scenes=$!
 run refused gate/refused.py
-run static gate/static_type_test.py
 run pages gate/pages.py
 run many gate/count_many_test.py
-run users gate/users_test.py
-run small gate/small_test.py
-run review gate/review_test.py
-run verdicts gate/caught_test.py
-run batches gate/refused_bodies_test.py
 run clients gate/clients.py
 run wrong_clients gate/clients_caught.py --archive crates/string_cache_c/out/libstring_cache_c.a
+wait "$scripts"
+cat "$said/scripts"
 wait "$bodies"
 cat "$said/bodies"
 wait "$scenes"

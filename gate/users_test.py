@@ -8,8 +8,12 @@ usage: gate/users_test.py
 import subprocess
 import sys
 import tempfile
+import threading
 import unittest
 from pathlib import Path
+
+import find_tools  # has Python find the next one
+from programs import end_hint
 
 TOP = Path(__file__).resolve().parent.parent
 TOOLS = TOP / "tools"
@@ -20,6 +24,15 @@ def ran(*words, folder=TOP, text=b""):
     """The status of a command, and what it wrote to each of its outputs."""
     done = subprocess.run([*words], cwd=folder, input=text, stdout=subprocess.PIPE, stderr=subprocess.PIPE)
     return done.returncode, done.stdout, done.stderr.decode(errors="replace")
+
+
+def tried(folder, text):
+    """As `ran` of `rt try` in this folder, without the check beside it that gives a hint on names and takes as long."""
+    how = {name: subprocess.PIPE for name in ("stdin", "stdout", "stderr")}
+    started = subprocess.Popen(["rt", "try"], cwd=folder, **how)
+    threading.Thread(target=end_hint, args=[started]).start()
+    said, why = started.communicate(text)
+    return started.returncode, said, why.decode(errors="replace")
 
 
 def stored(folder, name):
@@ -38,7 +51,7 @@ class Begin(unittest.TestCase):
         status, said, _ = ran(TOOLS / "begin.py", kind, folder)
         self.assertEqual((status, said.decode().split()[:2]), (0, ["cd", str(folder / "crates" / example)]))
         crate = folder / "crates" / example
-        status, said, why = ran("rt", "try", folder=crate, text=stored(crate, "stdin"))
+        status, said, why = tried(crate, stored(crate, "stdin"))
         self.assertEqual((status, said), (0, stored(TOP / "crates" / example, "stdout")), why)
 
     def test_a_repository_over_sets_runs(self):
