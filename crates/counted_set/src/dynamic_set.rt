@@ -15,6 +15,8 @@ pub use bucket::Bucket;
 #[doc(hidden)]
 pub use counts::{CountReply, Counts, OwnCounts, Pass};
 pub use held::Held;
+#[doc(hidden)]
+pub use held::HeldShare;
 pub use set::Set;
 #[doc(hidden)]
 pub use share::{Entry, Share};

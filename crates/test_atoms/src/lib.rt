@@ -11,6 +11,8 @@ mod holders;
 #[cfg(test)]
 mod lent;
 #[cfg(test)]
+mod lists;
+#[cfg(test)]
 mod printed;
 #[cfg(test)]
 mod samples;
