@@ -160,7 +160,7 @@ impl<'s, Static: StaticTables> Atom<'s, Static> {
         let form = match &self.form {
             Repr::Inline(text) => Repr::Inline(*text),
             Repr::Static(index) => Repr::Static(*index),
-            // Hardly ever does another step come between, so that nothing has to wait.
+            // Another step seldom comes between, so nothing has to wait.
             Repr::Dynamic(half, held) => match held.try_clone_share() {
                 Some(held) => Repr::Dynamic(*half, held),
                 None => Repr::Dynamic(*half, held.clone_share(rt)?),

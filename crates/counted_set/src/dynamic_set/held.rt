@@ -114,7 +114,7 @@ impl<'s, Static: StaticTables> Held<'s, Static> {
     }
 
     /// One share more of the same entry, by a single try that waits for nothing. `None` where another step on the count came between, or the
-    /// entry has as many as it may have: then nothing has changed, and `clone_share` tells which.
+    /// entry has as many as it may have: then nothing has changed. `clone_share` tries on, and tells a full count.
     #[inline]
     pub fn try_clone_share(&self) -> Option<Held<'s, Static>>
         ensures { IfSome result (λ held. held ≡ self.now) }
