@@ -6,6 +6,7 @@ mod bucket;
 mod counts;
 mod entries;
 mod held;
+mod quiet;
 mod set;
 mod share;
 mod visits;
