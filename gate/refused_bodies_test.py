@@ -9,6 +9,7 @@ usage: gate/refused_bodies_test.py
 import sys
 import tempfile
 import unittest
+from pathlib import Path
 from types import SimpleNamespace
 
 import batches
