@@ -38,13 +38,14 @@ GENERICS = re.compile(r"<[^<>]*>")
 
 @dataclass(eq=False)
 class Body:
-    """A wrong body: what it is called, its crate, its function, and what is replaced, as (file, first, end, new text) in the crate's own
-    texts."""
+    """A wrong body: what it is called, its crate, its function, what is replaced, as (file, first, end, new text) in the crate's own
+    texts, and what files it adds."""
 
     label: str
     crate: str
     function: str
     places: list = field(default_factory=list)
+    files: dict = field(default_factory=dict)
 
     def __str__(self):
         return self.label
@@ -191,6 +192,12 @@ def told_of(function, said):
     return dict(own + [(name, text) for name, text in told if name.startswith(f"{module}::fn::{last}::")])
 
 
+def is_proved(function, said):
+    """Whether a check proved the function, and all closures in it."""
+    told = told_of(function, said)
+    return bool(told) and all(text in PROVED for text in told.values())
+
+
 def judge(function, said):
     """The goals of its own at which a check refused a function, and what else is said of it."""
     told = told_of(function, said)
@@ -213,17 +220,3 @@ def judged(bodies, folder):
     if others:
         return [(body, [], f"{', '.join(others)} isn't proved, though nothing of it was changed") for body in bodies]
     return [(body, *judge(body.function, said)) for body in bodies]
-
-
-def tried(bodies, folder):
-    """Checks the bodies of a crate in as few checks as there may be, and those that these don't refuse once more, each alone. Gives each
-    body, as soon as it is judged, with its goals and with what else is said."""
-    hidden = []
-    for batch in batches(bodies):
-        for body, goals, text in judged(batch, folder):
-            if goals:
-                yield body, goals, text
-            else:
-                hidden.append(body)
-    for body in hidden:
-        yield from judged([body], folder)

@@ -5,8 +5,8 @@ Such a file is a must-fail edit under one line more:
 
     function: Table::add_holder
 
-the end of the function's name as `rt check` prints it. Bodies of different functions of a crate share a check (gate/batches.py says what
-counts as refused there): one that a check doesn't refuse is checked alone, and is WRONG if it isn't refused then. `rt ci` tries each edit
+the end of the function's name as `rt check` prints it. The bodies of a crate share a check (gate/batches.py says what counts as refused
+there, gate/further.py how two of one function do): one that a check doesn't refuse is checked alone, and is WRONG if it isn't refused then. `rt ci` tries each edit
 of must-fail/ in a check of its own, and takes any refusal, wherever it is.
 
 Each crate is proved as it stands first, unless --proved says that `rt ci` has just done so. A crate is also WRONG where a check refuses a
@@ -28,12 +28,13 @@ from concurrent.futures import ThreadPoolExecutor
 from pathlib import Path
 
 import batches
-import find_tools  # has Python find the modules of gate/
+import find_tools  # has Python find the modules of tools/
+import further
 from edits import BadEdit, changes_in
 from repository import TOP, crates_listed, said_by, stands_on
 
 KEPT = Path(os.environ.get("XDG_CACHE_HOME") or Path.home() / ".cache") / "jatzurbin" / "refused"
-TOOLS = ("refused_bodies.py", "batches.py", "edits.py")
+TOOLS = ("refused_bodies.py", "batches.py", "further.py", "edits.py")
 SAID = 400  # how much is told of what was said
 
 
@@ -74,10 +75,8 @@ def sum_of(crate):
 
 
 def cost(folder):
-    """About how many seconds the bodies in the folder of a crate take: some for each, and more for each check, which reads the crates below."""
-    functions = [body.function for body in bodies_of(folder)[0]]
-    below = len(stands_on(crates_listed(), folder.name))
-    return 5 * len(functions) + (20 + 5 * below) * max(map(functions.count, functions), default=0)
+    """About how many seconds the bodies in the folder of a crate take: some for each, and more for their check, which reads the crates below."""
+    return 5 * len(bodies_of(folder)[0]) + 20 + 5 * len(stands_on(crates_listed(), folder.name))
 
 
 def kept(crate_sum, body):
@@ -99,7 +98,7 @@ def judged(bodies, folder, is_proved):
         if "logic=proved" not in said:
             return [(body, False, f"NOT TRIED: the crate as it stands isn't proved: {said.strip()[-SAID:]}") for body in bodies]
     results = []
-    for body, goals, text in batches.tried(bodies, folder):
+    for body, goals, text in further.tried(bodies, folder):
         results.append((body, bool(goals), f"refused at {', '.join(goals)}" if goals else f"NOT REFUSED: {text[:SAID]}"))
     return results
 

@@ -9,9 +9,12 @@ usage: gate/refused_bodies_test.py
 import sys
 import tempfile
 import unittest
+from pathlib import Path
 from types import SimpleNamespace
+from unittest import mock
 
 import batches
+import further
 import refused_bodies
 from edits import BadEdit
 from small_repository import InSmallRepository
@@ -219,6 +222,32 @@ class Crate(InSmallRepository):
         found = [[str(body) for body in batch] for batch in batches.batches(bodies)]
         self.assertEqual(sorted(map(sorted, found)), [["2", "5"], ["3"], ["4"]])
 
+    def test_a_function_is_copied_with_its_proofs(self):
+        body = self.placed("some", "zeros", ("found += 1;", "found += 2;"))
+        copies, own = further.copies_of([body], self.folder)
+        self.assertEqual((copies[body].function, own["zeros"].function), ("zeros_2", "zeros_1"))
+        for copy, last, step in ((copies[body], "zeros_2", "found += 2;"), (own["zeros"], "zeros_1", "found += 1;")):
+            ((file, first, end, text),) = copy.places
+            self.assertEqual((file, first, end), ("src/lib.rt", len(CRATE), len(CRATE)))
+            self.assertEqual(text, f"\n{CRATE[CRATE.index('/// How many') :]}".replace("fn zeros(", f"fn {last}(").replace("found += 1;", step))
+            proofs = {self.folder / "proofs" / last / "Invariants.antt": INVARIANTS.replace("proofs.zeros.", f"proofs.{last}.")}
+            self.assertEqual(copy.files, proofs)
+
+    def test_a_method_of_a_trait_is_not_copied(self):
+        first = METHODS.index("self.step()")
+        self.assertIsNone(further.whole_function(METHODS, first))
+        begins, ends = further.whole_function(METHODS, METHODS.index("7"))
+        self.assertEqual(METHODS[begins:ends], "    pub const fn next(&self) -> u8 {\n        7\n    }\n")
+
+    def test_copies_count_where_the_function_itself_is_proved_as_one(self):
+        first, second = (self.placed(str(step), "zeros", ("found += 1;", f"found += {step};")) for step in (2, 3))
+        said = "fn few::zeros: not proved; `search` did not prove `returns`\n" * 2
+        for own, wanted in (("proved", ["2", "3"]), ("not proved", ["2"])):
+            lines = said.replace("zeros", "zeros_2", 1) + f"fn few::zeros_1: {own}\n"
+            with mock.patch.object(batches, "check", return_value=lines):
+                found = further.in_one_check([first], [second], self.folder)
+            self.assertEqual([str(body) for body, goals, _ in found if goals], wanted)
+
     def test_only_bodies_that_their_own_function_refuses_pass(self):
         counted = [("let mut found = 0;", "let mut seen = 0;"), ("found += 1;", "seen += 1;"), ("    found\n", "    seen\n")]
         looped = [("for number in numbers", "for entry in numbers"), ("if *number == 0", "if *entry == 0")]
@@ -230,15 +259,16 @@ class Crate(InSmallRepository):
             "stale_loop": ("zeros", looped, False, "NOT REFUSED: "),
             "stale_goal": ("same", [("    u32::from(number)", "    if number == 0 { 0 } else { u32::from(number) }")], False, "NOT REFUSED: not proved"),
             "wrong_answer": ("same", [("    u32::from(number)", "    u32::from(number / 2)")], True, "refused at `returns`: `omega`"),
-            "not_compiled": ("next", [("wide + 1", "wider + 1")], False, "NOT REFUSED: the check has 0 lines for next"),
         }
-        bodies = [self.placed(name, function, *pairs) for name, (function, pairs, _, _) in rows.items()]
+        alone = {"not_compiled": ("next", [("wide + 1", "wider + 1")], False, "NOT REFUSED: the check has 0 lines for next")}
         with tempfile.TemporaryDirectory(prefix="refused-test-") as room:
             folder = batches.copies_of(["few"], Path(room))["few"]
-            found = {str(body): (well, text) for body, well, text in refused_bodies.judged(bodies, folder, False)}
-        for name, (_, _, well, text) in rows.items():
-            self.assertEqual(found[name][0], well, (name, found[name]))
-            self.assertIn(text, found[name][1], name)
+            for asked, is_proved in ((rows, False), (alone, True)):
+                bodies = [self.placed(name, function, *pairs) for name, (function, pairs, _, _) in asked.items()]
+                found = {str(body): (well, text) for body, well, text in refused_bodies.judged(bodies, folder, is_proved)}
+                for name, (_, _, well, text) in asked.items():
+                    self.assertEqual(found[name][0], well, (name, found[name]))
+                    self.assertIn(text, found[name][1], name)
 
     def test_nothing_is_refused_of_a_crate_that_is_not_proved(self):
         file = self.folder / "src" / "lib.rt"

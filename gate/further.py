@@ -1,0 +1,130 @@
+"""Tries the wrong bodies of a crate in as few checks as there may be: where a function has several, each but the first stands in a copy of the
+function beside it.
+
+A check reads all libraries below its crate before it proves anything, so that a check of its own for the second body of a function costs more
+than the body. A copy has the function's contract and a name of its own, `next_2` for the second body of `next`, and is judged by that name.
+Where proofs were written for the function, they are copied with it, and the function with its own body as well, as `next_1`: unless that
+is proved, what is said of the other copies shows nothing.
+
+A method of a trait can't be copied, nor can a function in whose proofs others stand: a second body of these waits for another check. What a
+check doesn't refuse so is checked once more alone, in its own function.
+"""
+
+import contextlib
+import re
+import shutil
+
+import batches
+from batches import Body
+from edits import FUNCTION
+
+OF_TRAIT = re.compile(r"(?:unsafe )?impl\b.* for ")
+
+
+def whole_function(text, place):
+    """Where the function in whose body this place lies begins, with what stands above it, and where it ends. None for a method of a trait."""
+    lines, starts = text.split("\n"), [0]
+    for line in lines:
+        starts.append(starts[-1] + len(line) + 1)
+    number = next(it for it in range(len(lines)) if starts[it + 1] > place)
+    head = next(it for it in range(number, -1, -1) if FUNCTION.match(lines[it]))
+    indent = FUNCTION.match(lines[head])[1]
+    around = next((it for it in reversed(lines[:head]) if indent and it.startswith(("impl", "unsafe impl"))), "")
+    if OF_TRAIT.match(around):
+        return None
+    first = head
+    while first and lines[first - 1].strip().startswith(("///", "#[")):
+        first -= 1
+    return starts[first], starts[lines.index(f"{indent}}}", head) + 1]
+
+
+def changed(text, places, begins=0):
+    """A text that begins there in its file, with what these places of the file replace."""
+    for first, end, new in sorted(places, reverse=True):
+        text = text[: first - begins] + new + text[end - begins :]
+    return text
+
+
+def proofs_of(body, file, folder):
+    """The folder of the proofs of the body's function, which is in this file, and whether nothing else in it or by its name may be meant."""
+    name = body.function.replace("::", "/")
+    own = folder / "proofs" / file.removeprefix("src/").removesuffix(".rt").removesuffix("lib") / name
+    found = [own] if own.is_dir() else [it for it in (folder / "proofs").rglob(name) if it.is_dir()]
+    if len(found) == 1:
+        return found[0], not any(it.is_dir() for it in found[0].iterdir())
+    return None, not found
+
+
+def copied(body, number, folder, is_own=False):
+    """The body in the copy of this number of its function, or the function's own body there, or None where it can't be copied."""
+    file, place = next((file, first) for file, first, *_ in body.places if file.startswith("src/"))
+    places = [] if is_own else body.places
+    text = (folder / file).read_text(encoding="utf-8")
+    span, (written, is_clear) = whole_function(text, place), proofs_of(body, file, folder)
+    if not span or not is_clear:
+        return None
+    *types, last = body.function.split("::")
+    new = f"{last}_{number}"
+    own = changed(text[slice(*span)], [it[1:] for it in places if it[0] == file], span[0])
+    own = re.sub(rf"\bfn {last}\b", f"fn {new}", own, count=1)
+    copy = Body(body.label, body.crate, "::".join([*types, new]), [(file, span[1], span[1], f"\n{own}")])
+    for it in written.iterdir() if written else ():
+        proof = changed(it.read_text(encoding="utf-8"), [place[1:] for place in places if folder / place[0] == it])
+        path = ".".join(written.relative_to(folder / "proofs").parts)
+        copy.files[written.with_name(new) / it.name] = re.sub(rf"\b{re.escape(path)}\b", path.removesuffix(last) + new, proof)
+    return copy
+
+
+@contextlib.contextmanager
+def with_files(bodies):
+    """Writes the proofs of copies, and takes them away at the end."""
+    files = {file: text for body in bodies for file, text in body.files.items()}
+    try:
+        for file, text in files.items():
+            file.parent.mkdir(exist_ok=True)
+            file.write_text(text, encoding="utf-8")
+        yield
+    finally:
+        for folder in {file.parent for file in files}:
+            shutil.rmtree(folder, ignore_errors=True)
+
+
+def copies_of(bodies, folder):
+    """The bodies, each with its copy, for those whose functions can be copied, and the copies of functions with their own bodies, by the
+    functions whose proofs are copied."""
+    found, own, numbers = {}, {}, {}
+    for body in bodies:
+        numbers[body.function] = numbers.get(body.function, 1) + 1
+        found[body] = copied(body, numbers[body.function], folder)
+        if found[body] and found[body].files and body.function not in own:
+            own[body.function] = copied(body, 1, folder, is_own=True)
+    return {body: copy for body, copy in found.items() if copy}, own
+
+
+def in_one_check(first, further, folder):
+    """Checks bodies of different functions, and further ones of these functions in copies. Each with the goals at which it was refused, and with
+    what else is said of it; nothing where the check says nothing of any function."""
+    copies, own = copies_of(further, folder)
+    every = [*first, *copies.values(), *own.values()]
+    with with_files(every):
+        said = batches.check(every, folder)
+    others = batches.strangers(every, said)
+    if not batches.TOLD.search(said) or others:
+        return []
+    proved = {name for name, copy in own.items() if batches.is_proved(copy.function, said)}
+    found = [(body, *batches.judge(body.function, said)) for body in first]
+    trusted = [(body, copy) for body, copy in copies.items() if body.function in proved or not copy.files]
+    return found + [(body, *batches.judge(copy.function, said)) for body, copy in trusted]
+
+
+def tried(bodies, folder):
+    """Checks the bodies of a crate in as few checks as there may be, and those that these don't refuse once more, each alone. Gives each
+    body with its goals and with what else is said."""
+    first = next(batches.batches(bodies), [])
+    left = [body for body in bodies if body not in first]
+    found = in_one_check(first, left, folder) if left else []
+    for batch in batches.batches([body for body in bodies if body not in {it[0] for it in found}]):
+        found += batches.judged(batch, folder)
+    yield from (it for it in found if it[1])
+    for body in [body for body, goals, _ in found if not goals]:
+        yield from batches.judged([body], folder)
