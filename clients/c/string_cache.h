@@ -1,4 +1,4 @@
-/* Interned texts for one thread: each different text is kept once, and stands for a 64-bit word.
+/* Interned texts: each different text is kept once, and a 64-bit word stands for it.
  *
  * Two words that a table holds at one time are equal exactly if their texts are, so that a program compares, hashes and stores words. A
  * text of at most 7 bytes lies in its word, and takes no memory. Any other is an entry of the table with a number of holders: one more with
@@ -24,7 +24,7 @@
  *   number of threads may be in these at a time, with one table, and none of them needs a lock.
  * - All others that take an sc_table write it: sc_open, sc_open_with, sc_close, sc_intern, sc_clone, sc_give, sc_clear and sc_reserve. While one of
  *   these runs, no other call with that table does. So where one thread may write, each call is made under a lock of the caller's, which may let
- *   readers in together. A thread that comes later has to come after it: by that lock, or by a start or a join of a thread.
+ *   readers in together. A table that one thread opened or wrote is handed to others by that lock, or by a start or a join of a thread.
  * - Functions that take no sc_table may run beside any others, and so may calls with different tables.
  */
 #ifndef STRING_CACHE_H
