@@ -40,11 +40,11 @@ SANITIZED = ["-g", "-O1", "-fsanitize=address,undefined", "-fno-sanitize-recover
 WRAPPED = {"heap": ("malloc", "realloc"), "memory": ("malloc", "realloc", "free"), "counted": ("malloc", "realloc", "free")}  # by programs of tests
 LOCKS = ("pthread_mutex_init", "pthread_mutex_destroy")
 WRAPPED["shared_memory"] = (*WRAPPED["memory"], *LOCKS)
-CPP_WRAPS = [f"-Wl,--wrap={function}" for function in WRAPPED["memory"]]
 SHARED = C / "string_cache_shared.c"
 # The calls of the library that tests/touched.c stands before.
 TOUCHED = ("intern", "get", "clone", "give", "holds", "holders", "text", "entries", "text_bytes", "memory", "clear")
 RACES = ["-g", "-O1", "-fsanitize=thread", "-pthread"]
+CPP_WRAPS = [f"-Wl,--wrap={function}" for function in WRAPPED["memory"]]
 CRATES = ("precomputed_hash", "rust", "rust_facade", "rust_facade_0_8")
 REGISTRY = Path("/usr/share/cargo/registry")  # of Debian's packages of crates
 OUTCOME = re.compile(r"^test (.+) \.\.\. (\w+)$", re.MULTILINE)
