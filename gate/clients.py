@@ -40,6 +40,7 @@ SHARED = C / "string_cache_shared.c"
 # The calls of the library that tests/touched.c stands before.
 TOUCHED = ("intern", "get", "clone", "give", "holds", "holders", "text", "entries", "text_bytes", "memory", "clear")
 RACES = ["-g", "-O1", "-fsanitize=thread", "-pthread"]
+CPP_WRAPS = [f"-Wl,--wrap={function}" for function in WRAPPED["memory"]]
 CRATES = ("precomputed_hash", "rust", "rust_facade", "rust_facade_0_8")
 REGISTRY = Path("/usr/share/cargo/registry")  # of Debian's packages of crates
 OUTCOME = re.compile(r"^test (.+) \.\.\. (\w+)$", re.MULTILINE)
@@ -217,16 +218,37 @@ def shared_races(place):
 
 
 def cpp_races(place):
-    return without_races(place, cpp(), [CLIENTS / "cpp" / "test_shared.cpp"], AS_CPP)
+    return without_races(place, cpp(), [CLIENTS / "cpp" / "test_shared.cpp"], [*AS_CPP, *CPP_WRAPS])
+
+
+def shared_cpp(place, *words):
+    """The program of tests of the shared interner in C++."""
+    return built(place, "cpp-shared", cpp(), [CLIENTS / "cpp" / "test_shared.cpp"], *AS_CPP, "-pthread", *CPP_WRAPS, *words)
 
 
 def shared_cpp_tests(place):
-    return outcomes(said_by(built(place, "cpp-shared", cpp(), [CLIENTS / "cpp" / "test_shared.cpp"], *AS_CPP, "-O2", "-pthread")))
+    return outcomes(said_by(shared_cpp(place, "-O2")))
 
 
 def shared_cpp_checked(place):
-    words = [*AS_CPP, "-pthread", *sanitized(cpp(), place)]
-    return outcomes(said_by(built(place, "cpp-shared-checked", cpp(), [CLIENTS / "cpp" / "test_shared.cpp"], *words)))
+    return outcomes(said_by(shared_cpp(place, *sanitized(cpp(), place))))
+
+
+def shared_cpp_memcheck(place):
+    # The program has operators new and delete of its own, and keeps them.
+    words = ["-q", "--leak-check=full", "--show-leak-kinds=all", "--soname-synonyms=somalloc=nouserintercepts", "--error-exitcode=1"]
+    return outcomes(said_by(tool("valgrind"), *words, shared_cpp(place, "-O1", "-g")))
+
+
+def shared_header_alone(place):
+    """The header of the shared interner is C99, C11 and C++ by itself."""
+    alone = place.room / "alone.c"
+    alone.write_text('#include "string_cache_shared.h"\n', encoding="ascii")
+    for standard in ("c99", "c11"):
+        said_by(cc(), f"-std={standard}", *WARNINGS, "-I", place.library, "-I", C, "-fsyntax-only", alone)
+    if shutil.which("c++"):
+        said_by("c++", "-x", "c++", "-std=c++11", *WARNINGS, "-I", place.library, "-I", C, "-fsyntax-only", alone)
+    return 1
 
 
 def cpp_tests(place):
@@ -304,7 +326,7 @@ def rows():
     for name in ("shared", "shared_threads", "shared_memory"):
         found.update(c_tests(name, [SHARED], ["-pthread", "-I", C]))
     found.update({"c shared races": shared_races, "cpp shared": shared_cpp_tests, "cpp shared sanitized": shared_cpp_checked})
-    found.update({"cpp shared races": cpp_races})
+    found.update({"cpp shared races": cpp_races, "cpp shared memcheck": shared_cpp_memcheck, "c shared header": shared_header_alone})
     found.update({"rust": rust_tests, "rust facade": facade_tests("rust_facade"), "rust facade 0.8": facade_tests("rust_facade_0_8")})
     found.update({"rust facade serde": serde_tests, "rust html5ever": html5ever_trees, "python": python_tests})
     return found

@@ -14,6 +14,15 @@ using string_cache::Refused;
 using string_cache::SharedInterner;
 using string_cache::SharedSymbol;
 
+extern "C" {
+void *__real_malloc(std::size_t size);
+void *__real_realloc(void *block, std::size_t size);
+void __real_free(void *block);
+void *__wrap_malloc(std::size_t size);
+void *__wrap_realloc(void *block, std::size_t size);
+void __wrap_free(void *block);
+}
+
 namespace {
 
 std::size_t failures = 0;
@@ -59,8 +68,41 @@ void *given(std::size_t size, std::size_t alignment) {
 
 void taken_back(void *block) noexcept {
     blocks -= block != nullptr;
-    std::free(block);
+    __real_free(block);
 }
+
+// Requests by the tables, likewise: linked with --wrap of these three.
+std::atomic<long> before_table_refusal{-1};
+std::atomic<long> table_blocks{0};
+
+bool is_refused() {
+    return before_table_refusal >= 0 && before_table_refusal-- == 0;
+}
+
+} // namespace
+
+void *__wrap_malloc(std::size_t size) {
+    if (is_refused()) {
+        return nullptr;
+    }
+    ++table_blocks;
+    return __real_malloc(size);
+}
+
+void *__wrap_realloc(void *block, std::size_t size) {
+    if (is_refused()) {
+        return nullptr;
+    }
+    table_blocks += block == nullptr;
+    return __real_realloc(block, size);
+}
+
+void __wrap_free(void *block) {
+    table_blocks -= block != nullptr;
+    __real_free(block);
+}
+
+namespace {
 
 void equal_texts_are_equal_symbols() {
     SharedInterner names;
@@ -139,6 +181,38 @@ void each_request_is_refused() {
     }
 }
 
+// How many texts are held where each call that is refused is made again. How often one was is counted.
+std::size_t interned_again(std::size_t texts, long &refused) {
+    std::unique_ptr<SharedInterner> names;
+    std::vector<SharedSymbol> held;
+    const auto again = [&refused](auto call) {
+        try {
+            call();
+        } catch (const std::bad_alloc &) {
+            ++refused;
+            call();
+        }
+    };
+    again([&] { names = std::make_unique<SharedInterner>(2, 9, 999, 0); });
+    for (std::size_t at = 0; at < texts; ++at) {
+        again([&] { held.push_back(names->intern(numbered(at))); });
+        CHECK(held.size() == at + 1 && held.back().text() == numbered(at));
+    }
+    return names->size();
+}
+
+void each_request_of_the_tables_is_refused() {
+    long at = 0, refused = 0;
+    for (long before = -1; before != refused; ++at) {
+        before = refused;
+        before_table_refusal = at;
+        CHECK(interned_again(30, refused) == 30 && table_blocks == 0);
+    }
+    before_table_refusal = -1;
+    // Two blocks of each table, and the bytes of each text.
+    CHECK(refused > 4 * 2 + 30);
+}
+
 // What one thread does: it holds, copies, reads and gives the symbols of many texts. Whether all was as it should be.
 bool work(SharedInterner &names, std::size_t seed) {
     constexpr std::size_t texts = 100;
@@ -202,6 +276,7 @@ const Test tests[] = {
     {"refusals_are_thrown", refusals_are_thrown},
     {"an_interner_is_moved", an_interner_is_moved},
     {"each_request_is_refused", each_request_is_refused},
+    {"each_request_of_the_tables_is_refused", each_request_of_the_tables_is_refused},
     {"two_threads_share", two_threads_share},
     {"eight_threads_share", eight_threads_share},
     {"sixty_four_threads_share", sixty_four_threads_share},
