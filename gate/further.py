@@ -3,8 +3,8 @@ function beside it.
 
 A check reads all libraries below its crate before it proves anything, so that a check of its own for the second body of a function costs more
 than the body. A copy has the function's contract and a name of its own, `next_2` for the second body of `next`, and is judged by that name.
-Where proofs were written for the function, they are copied with it, and the function with its own body as well, as `next_1`: unless that
-is proved, what is said of the other copies shows nothing.
+Where proofs were written for the function, they are copied with it, and the function with its own body as well, as `next_1`: unless all
+goals of that are proved, what is said of the other copies shows nothing.
 
 A method of a trait can't be copied, nor can a function in whose proofs others stand: a second body of these waits for another check. What a
 check doesn't refuse so is checked once more alone, in its own function.
