@@ -289,32 +289,30 @@ fn pass_left<R: Wait, C: Counts>(
     requires { AllByRecursion (λ e. e.text ≡ text.now → e.hash ≡ hash) entries.old.left }
     ensures { IsPassLeft C.adds C.dies (Some text.now) counts.old entries.old result counts.new entries.new }
 {
-    while let Some(met) = entries.keep_quiet(Some(hash), counts) {
-        match met {
-            Met::Nothing => {}
-            Met::Dying(_) => entries.take_out(),
-            Met::Alike(_) => {
-                let Some(entry) = entries.look() else {
-                    unreachable!()
-                };
-                if entry.is_of(text, hash) {
-                    match counts.add(rt, entry) {
-                        CountReply::Added(share) => {
-                            prune_after(entries, counts);
-                            return Pass::Found(share);
-                        }
-                        CountReply::Full => {
-                            prune_after(entries, counts);
-                            return Pass::Full;
-                        }
-                        CountReply::Dying => entries.take_out(),
-                    }
-                } else if counts.dying(entry) {
-                    entries.take_out();
-                } else {
-                    entries.keep();
+    while let Some(entry) = entries.look() {
+        if entry.is_of(text, hash) {
+            match counts.add(rt, entry) {
+                CountReply::Added(share) => {
+                    prune_after(entries, counts);
+                    return Pass::Found(share);
                 }
+                CountReply::Full => {
+                    prune_after(entries, counts);
+                    return Pass::Full;
+                }
+                CountReply::Dying => entries.take_out(),
             }
+        } else if !entry.has_hash(hash) {
+            match entries.keep_quiet(Some(hash), counts) {
+                Some(Met::Dying(_)) => entries.take_out(),
+                Some(Met::Nothing) => {}
+                Some(Met::Alike(_)) => {}
+                None => {}
+            }
+        } else if counts.dying(entry) {
+            entries.take_out();
+        } else {
+            entries.keep();
         }
     }
     Pass::Absent

@@ -95,6 +95,7 @@ impl Entries {
 
     /// Asks the entries that are left of the first node whether they are dying, in order, and passes those by that aren't, until one is or
     /// has the wanted hash: that one is then the next. `None` where no entry is left.
+    #[inline(always)] // so that what is wanted is known in its loops
     pub(super) fn keep_quiet<C: Counts>(
         &mut self,
         wanted: Option<u64>,
