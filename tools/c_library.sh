@@ -26,10 +26,10 @@ part() {
     sed -n "s/^#define SC_VERSION_$1 //p" "$C/string_cache.h"
 }
 
-# What was proved last of the exports, every five seconds, while the process runs.
+# How many functions were proved so far, every ten seconds, while the process runs.
 progress() {
     local said=''
-    while sleep 5 && kill -0 "$1" 2> "$room/alive"; do
+    while sleep 10 > "$room/alive" 2>&1 && kill -0 "$1" 2> "$room/alive"; do
         said=$(grep -c '^fn .*: proved$\|^checked ' "$room/said" || true)
         echo "c_library: proving, ${SECONDS} seconds; ${said} functions so far" >&2
     done
