@@ -37,18 +37,19 @@ progress() {
 
 # Proves the exports and builds their archive. Its last line is the prover's verdict.
 prove() {
-    local proof shown
+    local proof shown status=0
     (cd "$top/crates/string_cache_c" && exec rt lib) > "$room/said" 2>&1 &
     proof=$!
     progress "$proof" &
     shown=$!
-    if ! wait "$proof"; then
+    wait "$proof" || status=$?
+    kill "$shown" 2> "$room/alive" || true
+    wait "$shown" || true
+    if [[ $status != 0 ]]; then
         tail -n 40 "$room/said" >&2
         echo "c_library: crates/string_cache_c isn't proved, so no library was built" >&2
         exit 1
     fi
-    kill "$shown" 2> "$room/alive" || true
-    wait "$shown" || true
     grep '^logic=proved ' "$room/said" | tail -n 1
     archive=$top/crates/string_cache_c/out/libstring_cache_c.a
 }
