@@ -26,10 +26,10 @@ part() {
     sed -n "s/^#define SC_VERSION_$1 //p" "$C/string_cache.h"
 }
 
-# What was proved last of the exports, every five seconds, while the process runs.
+# How many functions were proved so far, every ten seconds, while the process runs.
 progress() {
     local said=''
-    while sleep 5 && kill -0 "$1" 2> "$room/alive"; do
+    while sleep 10 > "$room/alive" 2>&1 && kill -0 "$1" 2> "$room/alive"; do
         said=$(grep -c '^fn .*: proved$\|^checked ' "$room/said" || true)
         echo "c_library: proving, ${SECONDS} seconds; ${said} functions so far" >&2
     done
@@ -37,18 +37,19 @@ progress() {
 
 # Proves the exports and builds their archive. Its last line is the prover's verdict.
 prove() {
-    local proof shown
+    local proof shown status=0
     (cd "$top/crates/string_cache_c" && exec rt lib) > "$room/said" 2>&1 &
     proof=$!
     progress "$proof" &
     shown=$!
-    if ! wait "$proof"; then
+    wait "$proof" || status=$?
+    kill "$shown" 2> "$room/alive" || true
+    wait "$shown" || true
+    if [[ $status != 0 ]]; then
         tail -n 40 "$room/said" >&2
         echo "c_library: crates/string_cache_c isn't proved, so no library was built" >&2
         exit 1
     fi
-    kill "$shown" 2> "$room/alive" || true
-    wait "$shown" || true
     grep '^logic=proved ' "$room/said" | tail -n 1
     archive=$top/crates/string_cache_c/out/libstring_cache_c.a
 }
