@@ -3,8 +3,8 @@ function beside it.
 
 A check reads all libraries below its crate before it proves anything, so that a check of its own for the second body of a function costs more
 than the body. A copy has the function's contract and a name of its own, `next_2` for the second body of `next`, and is judged by that name.
-Where proofs were written for the function, they are copied with it, and the function with its own body as well, as `next_1`: unless that
-is proved, what is said of the other copies shows nothing.
+Where proofs were written for the function, they are copied with it, and the function with its own body as well, as `next_1`: unless all
+goals of that are proved, what is said of the other copies shows nothing.
 
 A method of a trait can't be copied, nor can a function in whose proofs others stand: a second body of these waits for another check. What a
 check doesn't refuse so is checked once more alone, in its own function.
@@ -61,10 +61,10 @@ def copied(body, number, folder, is_own=False):
     places = [] if is_own else body.places
     text = (folder / file).read_text(encoding="utf-8")
     span, (written, is_clear) = whole_function(text, place), proofs_of(body, file, folder)
-    if not span or not is_clear:
-        return None
     *types, last = body.function.split("::")
     new = f"{last}_{number}"
+    if not span or not is_clear or f"fn {new}" in text:
+        return None
     own = changed(text[slice(*span)], [it[1:] for it in places if it[0] == file], span[0])
     own = re.sub(rf"\bfn {last}\b", f"fn {new}", own, count=1)
     copy = Body(body.label, body.crate, "::".join([*types, new]), [(file, span[1], span[1], f"\n{own}")])
@@ -122,9 +122,9 @@ def tried(bodies, folder):
     body with its goals and with what else is said."""
     first = next(batches.batches(bodies), [])
     left = [body for body in bodies if body not in first]
-    found = in_one_check(first, left, folder) if left else []
+    found, alone = in_one_check(first, left, folder) if left else [], []
     for batch in batches.batches([body for body in bodies if body not in {it[0] for it in found}]):
-        found += batches.judged(batch, folder)
-    yield from (it for it in found if it[1])
+        (found if batch[1:] else alone).extend(batches.judged(batch, folder))
+    yield from (it for it in found + alone if it[1] or it in alone)
     for body in [body for body, goals, _ in found if not goals]:
         yield from batches.judged([body], folder)

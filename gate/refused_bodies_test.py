@@ -242,7 +242,9 @@ class Crate(InSmallRepository):
     def test_copies_count_where_the_function_itself_is_proved_as_one(self):
         first, second = (self.placed(str(step), "zeros", ("found += 1;", f"found += {step};")) for step in (2, 3))
         said = "fn few::zeros: not proved; `search` did not prove `returns`\n" * 2
-        for own, wanted in (("proved", ["2", "3"]), ("not proved", ["2"])):
+        calls = "it calls `few::same`, which is not proved"
+        rows = {"proved": ["2", "3"], "not proved": ["2"], f"no proof: {calls}": ["2", "3"], f"not proved; {calls}": ["2"]}
+        for own, wanted in rows.items():
             lines = said.replace("zeros", "zeros_2", 1) + f"fn few::zeros_1: {own}\n"
             with mock.patch.object(batches, "check", return_value=lines):
                 found = further.in_one_check([first], [second], self.folder)
