@@ -19,52 +19,31 @@ import subprocess
 import sys
 import tempfile
 from concurrent.futures import ThreadPoolExecutor
-from dataclasses import dataclass
 from pathlib import Path
 
+from clients_base import AS_C, C, CLIENTS, Failed, Place, SECONDS, Skipped, TOP, WARNINGS, cc, cpp, said_by, tool
+from clients_install import install_rows
 from copies import copy_over_built
 from machine import processors
 
-TOP = Path(__file__).resolve().parent.parent
 EXPORTS = "string_cache_c"  # the crate
-CLIENTS = TOP / "clients"
-C = CLIENTS / "c"
 NAMES = [C / "names" / name for name in ("lexer.c", "source.c")]
-SECONDS = 600  # for one command
 PROOF_SECONDS = 7200  # for the library, where nothing was proved before
 MOST_SOURCE = 6_000_000  # bytes of the text that the lexer reads
-WARNINGS = ["-Wall", "-Wextra", "-Wpedantic", "-Wshadow", "-Werror"]
-AS_C = ["-std=c11", *WARNINGS]
 AS_CPP = ["-std=c++17", *WARNINGS]
 SANITIZED = ["-g", "-O1", "-fsanitize=address,undefined", "-fno-sanitize-recover=all"]
 WRAPPED = {"heap": ("malloc", "realloc"), "memory": ("malloc", "realloc", "free"), "counted": ("malloc", "realloc", "free")}  # by programs of tests
+LOCKS = ("pthread_mutex_init", "pthread_mutex_destroy")
+WRAPPED["shared_memory"] = (*WRAPPED["memory"], *LOCKS)
+WRAPPED["readers"] = WRAPPED["memory"]
+SHARED = C / "string_cache_shared.c"
+# The calls of the library that tests/touched.c stands before.
+TOUCHED = ("intern", "get", "clone", "give", "holds", "holders", "text", "entries", "text_bytes", "memory", "clear")
+RACES = ["-g", "-O1", "-fsanitize=thread", "-pthread"]
+CPP_WRAPS = [f"-Wl,--wrap={function}" for function in WRAPPED["memory"]]
+CRATES = ("precomputed_hash", "rust", "rust_facade", "rust_facade_0_8")
+REGISTRY = Path("/usr/share/cargo/registry")  # of Debian's packages of crates
 OUTCOME = re.compile(r"^test (.+) \.\.\. (\w+)$", re.MULTILINE)
-
-
-class Failed(Exception):
-    """A command ended with a status other than 0, or something isn't as it should be."""
-
-
-class Skipped(Exception):
-    """A tool isn't there."""
-
-
-@dataclass
-class Place:
-    """Where the library is, and a folder to build in."""
-
-    library: Path
-    room: Path
-
-
-def said_by(*words, seconds=SECONDS, **how):
-    """What a command wrote, on both streams. Failed where its status isn't 0."""
-    how = {"stdin": subprocess.DEVNULL, "stdout": subprocess.PIPE, "stderr": subprocess.STDOUT, **how}
-    ran = subprocess.run([*map(str, words)], timeout=seconds, check=False, **how)
-    said = ran.stdout.decode(errors="replace")
-    if ran.returncode:
-        raise Failed(f"{Path(words[0]).name} ended with status {ran.returncode}:\n{said[-3000:]}")
-    return said
 
 
 def build_library(library, room):
@@ -77,32 +56,16 @@ def build_library(library, room):
     shutil.rmtree(copy)
 
 
-def tool(*names):
-    """The first of these commands that is there."""
-    for name in names:
-        if shutil.which(name):
-            return name
-    raise Skipped(f"there is no {' or '.join(names)}")
-
-
-def cc():
-    return os.environ.get("CC") or tool("cc", "gcc", "clang")
-
-
-def cpp():
-    return os.environ.get("CXX") or tool("c++", "g++", "clang++")
-
-
-def sanitized(compiler, place):
-    """The words that have the compiler look for bad addresses and undefined behaviour. Skipped where it can't."""
+def sanitized(compiler, place, words=SANITIZED):
+    """The words that have the compiler look for bad addresses and undefined behaviour, or for what others ask. Skipped where it can't."""
     probe = place.room / f"probe-{Path(compiler).name}.c"
     probe.write_text("int main(void) { return 0; }\n", encoding="ascii")
     try:
-        said_by(compiler, "-x", "c", probe, *SANITIZED, "-o", probe.with_suffix(""))
+        said_by(compiler, "-x", "c", probe, *words, "-o", probe.with_suffix(""))
         said_by(probe.with_suffix(""))
     except Failed as why:
         raise Skipped(f"{compiler} builds nothing with sanitizers here") from why
-    return SANITIZED
+    return words
 
 
 def built(place, name, compiler, sources, *words):
@@ -122,10 +85,10 @@ def outcomes(said):
     return len(found)
 
 
-def c_tests(name):
-    """The ways in which a program of tests in C is run, by their names."""
-    sources = [C / "tests" / f"{name}.c"]
-    more = [f"-Wl,--wrap={function}" for function in WRAPPED.get(name, ())]
+def c_tests(name, beside=(), words=()):
+    """The ways in which a program of tests in C is run, by their names. More sources and words are for the compiler."""
+    sources = [C / "tests" / f"{name}.c", *beside]
+    more = [*words, *(f"-Wl,--wrap={function}" for function in WRAPPED.get(name, ()))]
 
     def plain(place):
         return outcomes(said_by(built(place, name, cc(), sources, *AS_C, "-O2", *more)))
@@ -222,23 +185,90 @@ def count_names(place):
     return 1
 
 
+def races_of(program, room):
+    """What a program printed until the first report, and what ThreadSanitizer wrote to its log: its status alone shows nothing."""
+    log = room / f"{program.name}.log"
+    said = said_by(program, env={**os.environ, "TSAN_OPTIONS": f"log_path={log} exitcode=0 halt_on_error=1"})
+    return said, "".join(part.read_text(errors="replace") for part in sorted(room.glob(f"{log.name}.*")))
+
+
+def without_races(place, compiler, sources, words):
+    """How many tests of these sources passed with no race that ThreadSanitizer reports. It has to report the one of tests/raced.c."""
+    touched, traced = place.room / "touched.o", [*sanitized(cc(), place, RACES), *(f"-Wl,--wrap=sc_{name}" for name in TOUCHED)]
+    said_by(cc(), *AS_C, *RACES, "-I", place.library, "-c", C / "tests" / "touched.c", "-o", touched)
+    _, reported = races_of(built(place, "raced", cc(), [C / "tests" / "raced.c", touched], *AS_C, *traced), place.room)
+    if "data race" not in reported:
+        raise Failed("ThreadSanitizer reports no race of two threads that take no lock")
+    said, reported = races_of(built(place, "raceless", compiler, [*sources, touched], *words, *traced), place.room)
+    if reported:
+        raise Failed(f"ThreadSanitizer reports:\n{reported[:3000]}")
+    return outcomes(said)
+
+
+def reader_races(place):
+    """Threads that only read one table, where the guarded layer is built to find what two of them do to one byte."""
+    compiler = cc()
+    sources = [C / "tests" / "readers.c", C / "string_cache.c", C / "heap.c"]
+    words = [*AS_C, *sanitized(compiler, place, RACES), *(f"-Wl,--wrap={function}" for function in WRAPPED["readers"])]
+    return outcomes(said_by(built(place, "readers-races", compiler, sources, *words)))
+
+
+def shared_races(place):
+    return without_races(place, cc(), [C / "tests" / "shared_threads.c", SHARED], [*AS_C, "-I", C])
+
+
+def cpp_races(place):
+    return without_races(place, cpp(), [CLIENTS / "cpp" / "test_shared.cpp"], [*AS_CPP, *CPP_WRAPS])
+
+
+def shared_cpp(place, *words):
+    """The program of tests of the shared interner in C++."""
+    return built(place, "cpp-shared", cpp(), [CLIENTS / "cpp" / "test_shared.cpp"], *AS_CPP, "-pthread", *CPP_WRAPS, *words)
+
+
+def shared_cpp_tests(place):
+    return outcomes(said_by(shared_cpp(place, "-O2")))
+
+
+def shared_cpp_checked(place):
+    return outcomes(said_by(shared_cpp(place, *sanitized(cpp(), place))))
+
+
+def shared_cpp_memcheck(place):
+    # The program has operators new and delete of its own, and keeps them.
+    words = ["-q", "--leak-check=full", "--show-leak-kinds=all", "--soname-synonyms=somalloc=nouserintercepts", "--error-exitcode=1"]
+    return outcomes(said_by(tool("valgrind"), *words, shared_cpp(place, "-O1", "-g")))
+
+
+def shared_header_alone(place):
+    """The header of the shared interner is C99, C11 and C++ by itself."""
+    alone = place.room / "alone.c"
+    alone.write_text('#include "string_cache_shared.h"\n', encoding="ascii")
+    for standard in ("c99", "c11"):
+        said_by(cc(), f"-std={standard}", *WARNINGS, "-I", place.library, "-I", C, "-fsyntax-only", alone)
+    if shutil.which("c++"):
+        said_by("c++", "-x", "c++", "-std=c++11", *WARNINGS, "-I", place.library, "-I", C, "-fsyntax-only", alone)
+    return 1
+
+
 def cpp_tests(place):
-    return outcomes(said_by(built(place, "cpp-plain", cpp(), [CLIENTS / "cpp" / "test.cpp"], *AS_CPP, "-O2")))
+    return outcomes(said_by(built(place, "cpp-plain", cpp(), [CLIENTS / "cpp" / "test.cpp"], *AS_CPP, "-O2", "-pthread")))
 
 
 def cpp_checked(place):
     compiler = cpp()
-    words = [*AS_CPP, *sanitized(compiler, place)]
+    words = [*AS_CPP, "-pthread", *sanitized(compiler, place)]
     return outcomes(said_by(built(place, "cpp-checked", compiler, [CLIENTS / "cpp" / "test.cpp"], *words)))
 
 
-def crate_tests(place, name):
-    """The tests of a crate of clients, in a copy beside its neighbour, since cargo writes beside the sources."""
+def crate_tests(place, name, *more):
+    """The tests of a crate of clients, in a copy beside its neighbours, since cargo writes beside the sources. More words are for cargo."""
     cargo = tool("cargo")
-    for crate in ("rust", "rust_facade"):
-        shutil.copytree(CLIENTS / crate, place.room / crate, ignore=shutil.ignore_patterns("target", "Cargo.lock"))
+    for crate in CRATES:
+        if not (place.room / crate).is_dir():
+            shutil.copytree(CLIENTS / crate, place.room / crate, ignore=shutil.ignore_patterns("target", "Cargo.lock"))
     environment = {**os.environ, "STRING_CACHE_DIR": str(place.library), "RUSTFLAGS": "-D warnings"}
-    words = [cargo, "test", "--release", "--offline", "--target-dir", place.room / "target"]
+    words = [cargo, "test", "--release", "--offline", "--target-dir", place.room / "target", *more]
     return outcomes(said_by(*words, cwd=place.room / name, env=environment))
 
 
@@ -246,8 +276,34 @@ def rust_tests(place):
     return crate_tests(place, "rust")
 
 
-def facade_tests(place):
-    return crate_tests(place, "rust_facade")
+def facade_tests(name):
+    """The tests of a facade, which depends on no serde in the copy: cargo looks for it even where nobody asks for the feature."""
+
+    def tests(place):
+        shutil.copytree(CLIENTS / name, place.room / name, ignore=shutil.ignore_patterns("target", "Cargo.lock"))
+        manifest = place.room / name / "Cargo.toml"
+        lines = manifest.read_text(encoding="utf-8").replace('"dep:serde"', "").splitlines(keepends=True)
+        manifest.write_text("".join(line for line in lines if not line.startswith("serde =")), encoding="utf-8")
+        return crate_tests(place, name)
+
+    return tests
+
+
+def serde_tests(place):
+    """What serde asks of the facade, over Debian's serde."""
+    if not any(REGISTRY.glob("serde-1.*")):
+        raise Skipped(f"there is no serde in {REGISTRY}")
+    debian = ["--config", 'source.crates-io.replace-with="debian"', "--config", f'source.debian.directory="{REGISTRY}"']
+    return crate_tests(place, "rust_facade", *debian, "--features", "serde_support", "--test", "features")
+
+
+def html5ever_trees(place):
+    """A program over Debian's html5ever prints the same trees over the facade as over Debian's string_cache."""
+    said = said_by(TOP / "gate" / "real_client.py", place.library, place.room).strip()
+    if said.startswith("SKIPPED: "):
+        raise Skipped(said.removeprefix("SKIPPED: "))
+    print(f"clients {said}", flush=True)
+    return 1
 
 
 def python_tests(place):
@@ -262,10 +318,17 @@ def python_tests(place):
 def rows():
     """What is tested, by its name. Each gives the number of its tests that passed."""
     found = {"c example": example, "c header": header_alone, "c exports": exported, "c pkg-config": by_pkg_config}
+    found.update(install_rows())
     for name in ("calls", "hostile", "memory", "heap", "counted", "model"):
         found.update(c_tests(name))
+    found.update({**c_tests("readers", words=["-pthread"]), "c readers races": reader_races})
     found.update({"c lexer": lexer_tests, "c scopes": scopes, "c count_names": count_names, "cpp": cpp_tests, "cpp sanitized": cpp_checked})
-    found.update({"rust": rust_tests, "rust facade": facade_tests, "python": python_tests})
+    for name in ("shared", "shared_threads", "shared_memory"):
+        found.update(c_tests(name, [SHARED], ["-pthread", "-I", C]))
+    found.update({"c shared races": shared_races, "cpp shared": shared_cpp_tests, "cpp shared sanitized": shared_cpp_checked})
+    found.update({"cpp shared races": cpp_races, "cpp shared memcheck": shared_cpp_memcheck, "c shared header": shared_header_alone})
+    found.update({"rust": rust_tests, "rust facade": facade_tests("rust_facade"), "rust facade 0.8": facade_tests("rust_facade_0_8")})
+    found.update({"rust facade serde": serde_tests, "rust html5ever": html5ever_trees, "python": python_tests})
     return found
 
 

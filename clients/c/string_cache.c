@@ -31,8 +31,8 @@ static uint8_t *room_of(char *room, uint8_t *none) {
     return room != NULL ? (uint8_t *)room : none;
 }
 
-const char *sc_text_of_fault(uint32_t number) {
-    switch (number) {
+const char *sc_strerror(uint32_t status) {
+    switch (status) {
     case SC_OK:
         return "it is done";
     case SC_NO_MEMORY:
@@ -62,15 +62,19 @@ const char *sc_text_of_fault(uint32_t number) {
     }
 }
 
-uint32_t sc_version(void) {
-    return sc_table_version();
+const char *sc_text_of_fault(uint32_t status) {
+    return sc_strerror(status);
 }
 
-sc_number sc_open(sc_table *table) {
+uint32_t sc_version(void) {
+    return sc_table_version() * 10000u + SC_VERSION_MINOR * 100u + SC_VERSION_PATCH;
+}
+
+sc_status sc_open(sc_table *table) {
     return is_handle(table) ? sc_table_open(table) : SC_BAD_ARGUMENT;
 }
 
-sc_number sc_open_with(sc_table *table, uint64_t holders, uint64_t tickets, uint8_t bucket_bits) {
+sc_status sc_open_with(sc_table *table, uint64_t holders, uint64_t tickets, uint8_t bucket_bits) {
     return is_handle(table) ? sc_table_open_with(table, holders, tickets, bucket_bits) : SC_BAD_ARGUMENT;
 }
 
@@ -80,173 +84,173 @@ void sc_close(sc_table *table) {
     }
 }
 
-sc_number sc_intern(sc_table *table, const char *text, size_t len, uint64_t *word) {
+sc_status sc_intern(sc_table *table, const char *text, size_t len, uint64_t *word) {
     uint64_t found = 0;
-    sc_number number;
+    sc_status status;
     if (!is_handle(table) || !is_text(text, len) || word == NULL) {
         return SC_BAD_ARGUMENT;
     }
-    number = sc_table_intern(table, bytes_of(text), len, &found);
-    if (number == SC_OK) {
+    status = sc_table_intern(table, bytes_of(text), len, &found);
+    if (status == SC_OK) {
         *word = found;
     }
-    return number;
+    return status;
 }
 
-sc_number sc_get(sc_table *table, const char *text, size_t len, uint64_t *word) {
+sc_status sc_get(const sc_table *table, const char *text, size_t len, uint64_t *word) {
     uint64_t found = 0;
-    sc_number number;
+    sc_status status;
     if (!is_handle(table) || !is_text(text, len) || word == NULL) {
         return SC_BAD_ARGUMENT;
     }
-    number = sc_table_get(table, bytes_of(text), len, &found);
-    if (number == SC_OK) {
+    status = sc_table_get(*table, bytes_of(text), len, &found);
+    if (status == SC_OK) {
         *word = found;
     }
-    return number;
+    return status;
 }
 
-sc_number sc_clone(sc_table *table, uint64_t word) {
+sc_status sc_clone(sc_table *table, uint64_t word) {
     return is_handle(table) ? sc_table_clone(table, word) : SC_BAD_ARGUMENT;
 }
 
-sc_number sc_give(sc_table *table, uint64_t word) {
+sc_status sc_give(sc_table *table, uint64_t word) {
     return is_handle(table) ? sc_table_give(table, word) : SC_BAD_ARGUMENT;
 }
 
-bool sc_holds(sc_table *table, uint64_t word) {
-    return is_handle(table) && sc_table_holds(table, word);
+bool sc_holds(const sc_table *table, uint64_t word) {
+    return is_handle(table) && sc_table_holds(*table, word);
 }
 
-sc_number sc_holders(sc_table *table, uint64_t word, uint64_t *holders) {
+sc_status sc_holders(const sc_table *table, uint64_t word, uint64_t *holders) {
     uint64_t found = 0;
-    sc_number number;
+    sc_status status;
     if (!is_handle(table) || holders == NULL) {
         return SC_BAD_ARGUMENT;
     }
-    number = sc_table_holders(table, word, &found);
-    if (number == SC_OK) {
+    status = sc_table_holders(*table, word, &found);
+    if (status == SC_OK) {
         *holders = found;
     }
-    return number;
+    return status;
 }
 
-sc_number sc_text(sc_table *table, uint64_t word, char *room, size_t room_len, size_t *len) {
+sc_status sc_text(const sc_table *table, uint64_t word, char *room, size_t room_len, size_t *len) {
     uint8_t none = 0;
     size_t found = 0;
-    sc_number number;
+    sc_status status;
     if (!is_handle(table) || !is_text(room, room_len) || len == NULL) {
         return SC_BAD_ARGUMENT;
     }
-    number = sc_table_text(table, word, room_of(room, &none), room_len, &found);
-    if (number == SC_OK || number == SC_TOO_SMALL) {
+    status = sc_table_text(*table, word, room_of(room, &none), room_len, &found);
+    if (status == SC_OK || status == SC_TOO_SMALL) {
         *len = found;
     }
-    return number;
+    return status;
 }
 
-size_t sc_entries(sc_table *table) {
-    return is_handle(table) ? sc_table_entries(table) : 0;
+size_t sc_entries(const sc_table *table) {
+    return is_handle(table) ? sc_table_entries(*table) : 0;
 }
 
-uint64_t sc_text_bytes(sc_table *table) {
-    return is_handle(table) ? sc_table_text_bytes(table) : 0;
+uint64_t sc_text_bytes(const sc_table *table) {
+    return is_handle(table) ? sc_table_text_bytes(*table) : 0;
 }
 
-uint64_t sc_memory(sc_table *table) {
-    return is_handle(table) ? sc_table_memory(table) : 0;
+uint64_t sc_memory(const sc_table *table) {
+    return is_handle(table) ? sc_table_memory(*table) : 0;
 }
 
-sc_number sc_entry(sc_table *table, size_t place, uint64_t *word, uint64_t *holders) {
+sc_status sc_entry(const sc_table *table, size_t place, uint64_t *word, uint64_t *holders) {
     uint64_t found = 0;
     uint64_t count = 0;
-    sc_number number;
+    sc_status status;
     if (!is_handle(table)) {
         return SC_BAD_ARGUMENT;
     }
-    number = sc_table_entry(table, place, &found, &count);
-    if (number == SC_OK && word != NULL) {
+    status = sc_table_entry(*table, place, &found, &count);
+    if (status == SC_OK && word != NULL) {
         *word = found;
     }
-    if (number == SC_OK && holders != NULL) {
+    if (status == SC_OK && holders != NULL) {
         *holders = count;
     }
-    return number;
+    return status;
 }
 
-sc_number sc_clear(sc_table *table) {
+sc_status sc_clear(sc_table *table) {
     return is_handle(table) ? sc_table_clear(table) : SC_BAD_ARGUMENT;
 }
 
-sc_number sc_reserve(sc_table *table, size_t more) {
+sc_status sc_reserve(sc_table *table, size_t more) {
     return is_handle(table) ? sc_table_reserve(table, more) : SC_BAD_ARGUMENT;
 }
 
-sc_number sc_pack(const char *text, size_t len, uint64_t *word) {
+sc_status sc_pack(const char *text, size_t len, uint64_t *word) {
     uint64_t found = 0;
-    sc_number number;
+    sc_status status;
     if (!is_text(text, len) || word == NULL) {
         return SC_BAD_ARGUMENT;
     }
-    number = sc_word_pack(bytes_of(text), len, &found);
-    if (number == SC_OK) {
+    status = sc_word_pack(bytes_of(text), len, &found);
+    if (status == SC_OK) {
         *word = found;
     }
-    return number;
+    return status;
 }
 
-sc_number sc_unpack(uint64_t word, char *room, size_t room_len, size_t *len) {
+sc_status sc_unpack(uint64_t word, char *room, size_t room_len, size_t *len) {
     uint8_t none = 0;
     size_t found = 0;
-    sc_number number;
+    sc_status status;
     if (!is_text(room, room_len) || len == NULL) {
         return SC_BAD_ARGUMENT;
     }
-    number = sc_word_unpack(word, room_of(room, &none), room_len, &found);
-    if (number == SC_OK || number == SC_TOO_SMALL) {
+    status = sc_word_unpack(word, room_of(room, &none), room_len, &found);
+    if (status == SC_OK || status == SC_TOO_SMALL) {
         *len = found;
     }
-    return number;
+    return status;
 }
 
-sc_number sc_form(uint64_t word, sc_word_parts *parts) {
+sc_status sc_form(uint64_t word, sc_word_parts *parts) {
     sc_parts found = {0, 0, 0, 0};
-    sc_number number;
+    sc_status status;
     if (parts == NULL) {
         return SC_BAD_ARGUMENT;
     }
-    number = sc_word_form(word, &found);
-    if (number == SC_OK) {
+    status = sc_word_form(word, &found);
+    if (status == SC_OK) {
         parts->kind = (sc_kind)found.kind;
         parts->index = found.index;
         parts->serial = found.serial;
         parts->bucket = found.bucket;
     }
-    return number;
+    return status;
 }
 
-sc_number sc_hash(const char *text, size_t len, uint64_t key, sc_hashes *hashes) {
+sc_status sc_hash(const char *text, size_t len, uint64_t key, sc_hashes *hashes) {
     sc_hashes found = {0, 0, 0};
-    sc_number number;
+    sc_status status;
     if (!is_text(text, len) || hashes == NULL) {
         return SC_BAD_ARGUMENT;
     }
-    number = sc_text_hash(bytes_of(text), len, key, &found);
-    if (number == SC_OK) {
+    status = sc_text_hash(bytes_of(text), len, key, &found);
+    if (status == SC_OK) {
         *hashes = found;
     }
-    return number;
+    return status;
 }
 
-sc_number sc_check_tables(const char *text, size_t len, bool *perfect) {
+sc_status sc_check_tables(const char *text, size_t len, bool *perfect) {
     bool found = false;
-    sc_number number;
+    sc_status status;
     if (!is_text(text, len) || perfect == NULL) {
         return SC_BAD_ARGUMENT;
     }
-    number = sc_text_check_tables(bytes_of(text), len, &found);
-    if (number == SC_OK) {
+    status = sc_text_check_tables(bytes_of(text), len, &found);
+    if (status == SC_OK) {
         *perfect = found;
     }
-    return number;
+    return status;
 }

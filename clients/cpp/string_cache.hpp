@@ -6,7 +6,10 @@
 // What is refused is thrown: std::bad_alloc where there is no memory, std::invalid_argument where bytes aren't UTF-8, and string_cache::Refused,
 // which has the number, for the rest. A call that throws has changed nothing. What is never refused is noexcept.
 //
-// No symbol may be used after its interner has ended, nor by two threads at once with any other of the same interner.
+// No symbol may be used after its interner has ended. What is const only reads the table, and threads may call it side by side: text, contains, size,
+// empty, text_bytes, memory and for_each. All else that takes an interner writes it, and so does the copy and the end of a symbol: while a thread
+// does one of these, no other uses the interner or any of its symbols. So where one thread may write, all hold a lock. To move, to compare and to
+// hash a symbol reads no table.
 #ifndef STRING_CACHE_HPP
 #define STRING_CACHE_HPP
 
@@ -30,39 +33,39 @@ namespace string_cache {
 // A refusal other than want of memory and of UTF-8.
 class Refused : public std::runtime_error {
 public:
-    explicit Refused(sc_number number) : std::runtime_error(sc_text_of_fault(number)), number_(number) {}
+    explicit Refused(sc_status number) : std::runtime_error(sc_strerror(number)), number_(number) {}
 
-    sc_number number() const noexcept { return number_; }
+    sc_status number() const noexcept { return number_; }
 
 private:
-    sc_number number_;
+    sc_status number_;
 };
 
 namespace detail {
 
-inline void throw_unless_ok(sc_number number) {
-    switch (number) {
+inline void throw_unless_ok(sc_status status) {
+    switch (status) {
     case SC_OK:
         return;
     case SC_NO_MEMORY:
         throw std::bad_alloc();
     case SC_NOT_UTF8:
-        throw std::invalid_argument(sc_text_of_fault(number));
+        throw std::invalid_argument(sc_strerror(status));
     default:
-        throw Refused(number);
+        throw Refused(status);
     }
 }
 
 // The text of a word that is held. What most texts have room for comes by one call, and the rest by two.
-inline std::string text_of(sc_table *table, std::uint64_t word) {
+inline std::string text_of(const sc_table *table, std::uint64_t word) {
     std::string text(32, '\0');
     std::size_t length = 0;
-    sc_number number = sc_text(table, word, text.data(), text.size(), &length);
-    if (number == SC_TOO_SMALL) {
+    sc_status status = sc_text(table, word, text.data(), text.size(), &length);
+    if (status == SC_TOO_SMALL) {
         text.resize(length);
-        number = sc_text(table, word, text.data(), text.size(), &length);
+        status = sc_text(table, word, text.data(), text.size(), &length);
     }
-    throw_unless_ok(number);
+    throw_unless_ok(status);
     text.resize(length);
     return text;
 }
@@ -71,11 +74,11 @@ inline std::string text_of(sc_table *table, std::uint64_t word) {
 
 class Interner;
 
-// One holder of a text. One that was moved from holds nothing, and may only be assigned to or end.
+// One holder of a text. One that was moved from holds nothing and is false, its word is 0, which is that of no text, and its text is refused.
 class Symbol {
 public:
     Symbol(const Symbol &other) : table_(other.table_), word_(other.word_) { hold(); }
-    Symbol(Symbol &&other) noexcept : table_(std::exchange(other.table_, nullptr)), word_(other.word_) {}
+    Symbol(Symbol &&other) noexcept : table_(std::exchange(other.table_, nullptr)), word_(std::exchange(other.word_, 0)) {}
     Symbol &operator=(Symbol other) noexcept {
         std::swap(table_, other.table_);
         std::swap(word_, other.word_);
@@ -87,7 +90,16 @@ public:
         }
     }
 
-    std::string text() const { return detail::text_of(table_, word_); }
+    // Whether it holds a text: it was not moved from.
+    explicit operator bool() const noexcept { return table_ != nullptr; }
+
+    // std::logic_error where it was moved from.
+    std::string text() const {
+        if (table_ == nullptr) {
+            throw std::logic_error("string_cache::Symbol::text: the symbol was moved from");
+        }
+        return detail::text_of(table_, word_);
+    }
 
     // The number that stands for the text in this interner.
     std::uint64_t word() const noexcept { return word_; }
@@ -114,7 +126,7 @@ private:
     std::uint64_t word_;
 };
 
-// The interned texts of one thread. One that was moved from may only be assigned to or end.
+// Interned texts. One that was moved from may only be assigned to or end.
 class Interner {
 public:
     Interner() : table_(new sc_table SC_CLOSED_TABLE) { detail::throw_unless_ok(sc_open(table_.get())); }
@@ -134,12 +146,23 @@ public:
     // The symbol of a text, if it has one: texts of at most 7 bytes always do.
     std::optional<Symbol> get(std::string_view text) {
         std::uint64_t word = 0;
-        const sc_number number = sc_get(table_.get(), text.data(), text.size(), &word);
-        if (number == SC_NOT_HELD) {
+        const sc_status status = sc_get(table_.get(), text.data(), text.size(), &word);
+        if (status == SC_NOT_HELD) {
             return std::nullopt;
         }
-        detail::throw_unless_ok(number);
+        detail::throw_unless_ok(status);
         return held(word);
+    }
+
+    // Whether a text has a symbol: texts of at most 7 bytes always do.
+    bool contains(std::string_view text) const {
+        std::uint64_t word = 0;
+        const sc_status status = sc_get(table_.get(), text.data(), text.size(), &word);
+        if (status == SC_NOT_HELD) {
+            return false;
+        }
+        detail::throw_unless_ok(status);
+        return true;
     }
 
     // Makes room for so many texts more.

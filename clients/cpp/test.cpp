@@ -1,6 +1,8 @@
 // What the header promises, as a program of tests.
+#include <atomic>
 #include <iostream>
 #include <map>
+#include <thread>
 #include <unordered_map>
 #include <vector>
 
@@ -76,9 +78,53 @@ void a_symbol_is_assigned() {
 void a_name_is_looked_up() {
     Interner names;
     CHECK(!names.get("a longer name").has_value() && names.get("short").has_value());
+    CHECK(!names.contains("a longer name") && names.contains("short"));
     const Symbol name = names.intern("a longer name");
-    CHECK(names.get("a longer name") == name);
+    CHECK(names.get("a longer name") == name && names.contains("a longer name"));
     CHECK(holders_at(names, 0) == 1);
+}
+
+void a_symbol_that_was_moved_from_says_so() {
+    Interner names;
+    Symbol name = names.intern("a longer name");
+    CHECK(static_cast<bool>(name));
+    const Symbol taken = std::move(name);
+    CHECK(!name && name.word() == 0 && name != taken && taken);
+    CHECK(throws<std::logic_error>([&] { name.text(); }));
+    CHECK(throws<std::logic_error>([&] { std::cout << name; }));
+    const Symbol copy = name;
+    CHECK(!copy && copy == name);
+    name = taken;
+    CHECK(name && name.text() == "a longer name" && names.size() == 1);
+}
+
+// What is const is called by threads at a time, with no lock.
+void threads_read_one_interner() {
+    Interner names;
+    std::vector<Symbol> held;
+    std::uint64_t bytes = 0;
+    for (int at = 0; at < 500; ++at) {
+        held.push_back(names.intern("name number " + std::to_string(at)));
+        bytes += held.back().text().size();
+    }
+    const Interner &shared = names;
+    std::atomic<int> wrong{0};
+    std::vector<std::thread> readers;
+    for (int reader = 0; reader < 4; ++reader) {
+        readers.emplace_back([&] {
+            for (int at = 0; at < 500; ++at) {
+                const std::string text = "name number " + std::to_string(at);
+                wrong += held[at].text() != text || !shared.contains(text) || shared.contains(text + "!") || shared.size() != 500;
+            }
+            std::uint64_t found = 0;
+            shared.for_each([&](const std::string &text, std::uint64_t holders) { found += text.size() * holders; });
+            wrong += found != bytes || shared.text_bytes() != bytes || shared.memory() < bytes || shared.empty();
+        });
+    }
+    for (std::thread &reader : readers) {
+        reader.join();
+    }
+    CHECK(wrong == 0);
 }
 
 void names_stand_in_order() {
@@ -113,6 +159,7 @@ void refusals_are_thrown() {
     const Symbol name = names.intern("a longer name");
     CHECK(throws<std::invalid_argument>([&] { names.intern("\xff\xfe"); }));
     CHECK(throws<std::invalid_argument>([&] { names.get("\xff\xfe"); }));
+    CHECK(throws<std::invalid_argument>([&] { (void)names.contains("\xff\xfe"); }));
     const Symbol copy = name;
     CHECK(throws<Refused>([&] { const Symbol third = name; }));
     CHECK(throws<Refused>([&] { names.intern("a longer name"); }));
@@ -146,9 +193,9 @@ void memory_is_told() {
 }
 
 void an_interner_is_moved() {
-    Interner names;
+    Interner taken, names;
     const Symbol name = names.intern("a longer name");
-    Interner taken = std::move(names);
+    taken = std::move(names);
     CHECK(taken.intern("a longer name") == name && name.text() == "a longer name");
     names = Interner();
     CHECK(names.empty() && taken.size() == 1);
@@ -164,6 +211,8 @@ const Test tests[] = {
     {"a_text_goes_with_its_last_symbol", a_text_goes_with_its_last_symbol},
     {"a_symbol_is_assigned", a_symbol_is_assigned},
     {"a_name_is_looked_up", a_name_is_looked_up},
+    {"a_symbol_that_was_moved_from_says_so", a_symbol_that_was_moved_from_says_so},
+    {"threads_read_one_interner", threads_read_one_interner},
     {"names_stand_in_order", names_stand_in_order},
     {"symbols_are_keys", symbols_are_keys},
     {"refusals_are_thrown", refusals_are_thrown},

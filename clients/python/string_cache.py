@@ -11,8 +11,10 @@ takes no memory, is always held, and isn't counted or listed.
 
 Threads may share an interner: a lock of its own lets one call in at a time. It isn't to be used in a child of `os.fork`.
 
-The library is libstring_cache.so, which `tools/c_library.sh DIR` of its repository builds: beside this file, where the environment variable
-STRING_CACHE_LIBRARY says, or where the system looks for libraries.
+An argument of another type than is said raises a TypeError that names it. An interner can be neither copied nor pickled.
+
+The library is libstring_cache.so, which `tools/c_library.sh DIR` of its repository builds: where the environment variable STRING_CACHE_LIBRARY says,
+beside this file, as in an installed package, or where the system looks for libraries.
 """
 
 from __future__ import annotations
@@ -24,9 +26,11 @@ import threading
 from collections.abc import Callable, Iterator
 from pathlib import Path
 from types import TracebackType
-from typing import Optional, Union
+from typing import NoReturn, Optional, Union
 
 __all__ = ["Closed", "Interner", "Refused", "VERSION"]
+
+MAJOR = 1  # version of the library
 
 OK = 0
 NO_MEMORY = 1
@@ -42,7 +46,7 @@ class Refused(Exception):
     """A call was refused, and has changed nothing."""
 
     def __init__(self, number: int) -> None:
-        super().__init__(_library.sc_text_of_fault(number).decode("ascii"))
+        super().__init__(_library.sc_strerror(number).decode("ascii"))
         self.number = number
 
 
@@ -71,7 +75,7 @@ def _loaded(path: str) -> ctypes.CDLL:
     words, sizes = ctypes.POINTER(word), ctypes.POINTER(size)
     number = ctypes.c_uint32
     for name, result, arguments in (
-        ("sc_text_of_fault", ctypes.c_char_p, [number]),
+        ("sc_strerror", ctypes.c_char_p, [number]),
         ("sc_version", number, []),
         ("sc_open", number, [table]),
         ("sc_open_with", number, [table, word, word, ctypes.c_uint8]),
@@ -98,8 +102,8 @@ def _loaded(path: str) -> ctypes.CDLL:
 _library = _loaded(_path())
 
 VERSION: int = _library.sc_version()
-if VERSION != 1:
-    raise ImportError(f"libstring_cache.so has version {VERSION}, where 1 is known here")
+if VERSION // 10000 != MAJOR:
+    raise ImportError(f"libstring_cache.so has version {VERSION // 10000}, where {MAJOR} is known here")
 
 
 def _check(number: int) -> None:
@@ -115,8 +119,21 @@ def _check(number: int) -> None:
     raise Refused(number)
 
 
+def _is(kind: type, name: str, value: object) -> None:
+    """Raises a TypeError that names an argument where it isn't of this type."""
+    if not isinstance(value, kind):
+        raise TypeError(f"{name} has to be of type {kind.__name__}, and is of type {type(value).__name__}")
+
+
+def _encoded(text: str) -> bytes:
+    """A text as C has it."""
+    _is(str, "text", text)
+    return text.encode()
+
+
 def _word(word: int) -> int:
     """A word as C has it. A number that has no place in 64 bits is the word of nothing, as 0 is."""
+    _is(int, "word", word)
     return word if 0 <= word < 1 << 64 else 0
 
 
@@ -124,6 +141,8 @@ class Interner:
     """Interned texts. The limits are on the holders of a text and the tickets of a bucket, of 2 to the power of `bucket_bits` buckets."""
 
     def __init__(self, holders: int = (1 << 63) - 1, tickets: int = (1 << 48) - 1, bucket_bits: int = 12) -> None:
+        for name, limit in (("holders", holders), ("tickets", tickets), ("bucket_bits", bucket_bits)):
+            _is(int, name, limit)
         self._lock = threading.Lock()
         self._table = _Table()
         if not (0 <= holders < 1 << 64 and 0 <= tickets < 1 << 64 and 0 <= bucket_bits < 256):
@@ -132,14 +151,14 @@ class Interner:
 
     def intern(self, text: str) -> int:
         """The int that stands for a text, with one holder more. UnicodeEncodeError where the text has half of a surrogate pair."""
-        encoded, word = text.encode(), ctypes.c_uint64()
+        encoded, word = _encoded(text), ctypes.c_uint64()
         with self._lock:
             _check(_library.sc_intern(self._table, encoded, len(encoded), word))
         return word.value
 
     def get(self, text: str) -> Optional[int]:
         """The int that stands for a text, with no holder more; None where it has none."""
-        encoded, word = text.encode(), ctypes.c_uint64()
+        encoded, word = _encoded(text), ctypes.c_uint64()
         with self._lock:
             number = _library.sc_get(self._table, encoded, len(encoded), word)
         if number == NOT_HELD:
@@ -196,6 +215,7 @@ class Interner:
 
     def reserve(self, more: int) -> None:
         """Makes room for so many texts more."""
+        _is(int, "more", more)
         if not 0 <= more < 1 << 63:
             raise ValueError("a number of texts is from 0 to 2^63 - 1")
         with self._lock:
@@ -220,6 +240,8 @@ class Interner:
         """Whether a text has an int, or an int is held."""
         if isinstance(item, str):
             return self.get(item) is not None
+        if not isinstance(item, int):
+            raise TypeError(f"item has to be of type str or int, and is of type {type(item).__name__}")
         with self._lock:
             return _library.sc_holds(self._table, _word(item))
 
@@ -245,6 +267,10 @@ class Interner:
                 item = word.value, self._text(word.value)
             yield item
             place += 1
+
+    def __reduce__(self) -> NoReturn:
+        """What copy and pickle ask for: a second interner over one table would free it twice."""
+        raise TypeError("an Interner can be neither copied nor pickled")
 
     def __enter__(self) -> Interner:
         return self

@@ -1,6 +1,8 @@
 """Tests of string_cache.py: `python3 -m unittest`, in this folder."""
 
+import copy
 import gc
+import pickle
 import threading
 import unittest
 from unittest import mock
@@ -111,6 +113,45 @@ class Interning(unittest.TestCase):
         self.assertEqual([self.names.holders(word) for word in found[0]], [8] * 500)
 
 
+class Arguments(unittest.TestCase):
+    """What isn't of the right type is told by its name, and nothing changes."""
+
+    def setUp(self) -> None:
+        self.names = Interner()
+        self.addCleanup(self.names.close)
+
+    def test_a_text_is_a_str(self) -> None:
+        for call in (self.names.intern, self.names.get):
+            for text in (b"a longer name", 1.5, None, 7):
+                with self.assertRaisesRegex(TypeError, f"text .* {type(text).__name__}$"):
+                    call(text)
+        self.assertEqual(len(self.names), 0)
+
+    def test_a_word_is_an_int(self) -> None:
+        for call in (self.names.text, self.names.hold, self.names.release, self.names.holders):
+            for word in (b"1", 1.0, None, "1"):
+                with self.assertRaisesRegex(TypeError, f"word .* {type(word).__name__}$"):
+                    call(word)
+
+    def test_other_arguments_are_named(self) -> None:
+        for item in (b"a longer name", 1.0, None):
+            with self.assertRaisesRegex(TypeError, "item"):
+                item in self.names
+        with self.assertRaisesRegex(TypeError, "more"):
+            self.names.reserve(1.5)
+        for name in ("holders", "tickets", "bucket_bits"):
+            with self.assertRaisesRegex(TypeError, name):
+                Interner(**{name: 2.0})
+
+    def test_an_interner_is_not_copied(self) -> None:
+        word = self.names.intern("a longer name")
+        for call in (copy.copy, copy.deepcopy, pickle.dumps):
+            with self.assertRaisesRegex(TypeError, "copied"):
+                call(self.names)
+        gc.collect()
+        self.assertEqual(self.names.text(word), "a longer name")
+
+
 class Ending(unittest.TestCase):
     def test_a_closed_interner_refuses(self) -> None:
         with Interner() as names:
@@ -145,7 +186,7 @@ class Ending(unittest.TestCase):
             closed.assert_called_once()
 
     def test_the_library_is_the_one_that_this_module_knows(self) -> None:
-        self.assertEqual(VERSION, 1)
+        self.assertEqual(VERSION // 10000, 1)
 
 
 if __name__ == "__main__":

@@ -42,9 +42,9 @@ static void add(struct names *names, uint64_t word, unsigned long line) {
 
 static void see(struct names *names, const struct token *name) {
     uint64_t word;
-    const sc_number number = sc_intern(&names->table, name->text, name->len, &word);
+    const sc_status number = sc_intern(&names->table, name->text, name->len, &word);
     if (number != SC_OK) {
-        fail(sc_text_of_fault(number));
+        fail(sc_strerror(number));
     }
     const size_t *place = word_map_find(&names->places, word);
     if (place != NULL) {
@@ -59,7 +59,7 @@ static void print(struct names *names, const struct usage *usage) {
     static char *text;
     static size_t room;
     size_t len;
-    sc_number number = sc_text(&names->table, usage->word, text, room, &len);
+    sc_status number = sc_text(&names->table, usage->word, text, room, &len);
     if (number == SC_TOO_SMALL) {
         free(text);
         room = 2 * len;
@@ -67,7 +67,7 @@ static void print(struct names *names, const struct usage *usage) {
         number = sc_text(&names->table, usage->word, text, room, &len);
     }
     if (number != SC_OK) {
-        fail(sc_text_of_fault(number));
+        fail(sc_strerror(number));
     }
     printf("%.*s %lu %lu\n", (int)len, text, usage->first_line, usage->times);
 }

@@ -51,9 +51,9 @@ static void *with_room(void *list, size_t count, size_t *room, size_t size) {
     return larger;
 }
 
-static void expect_ok(sc_number number) {
+static void expect_ok(sc_status number) {
     if (number != SC_OK) {
-        fail(sc_text_of_fault(number));
+        fail(sc_strerror(number));
     }
 }
 
@@ -75,7 +75,7 @@ static void add_name(struct scopes *scopes, const struct token *token) {
 /* A name comes: once more in the block that has it, or first in the innermost one. */
 static void see(struct scopes *scopes, const struct token *token) {
     uint64_t word;
-    const sc_number number = sc_get(&scopes->table, token->text, token->len, &word);
+    const sc_status number = sc_get(&scopes->table, token->text, token->len, &word);
     const size_t *place = number == SC_OK ? word_map_find(&scopes->places, word) : NULL;
     if (place != NULL) {
         scopes->names[*place].times++;

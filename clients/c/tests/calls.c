@@ -204,12 +204,13 @@ static void many_texts_are_kept(void) {
 }
 
 static void numbers_have_texts(void) {
-    CHECK(sc_version() == SC_VERSION);
-    CHECK(strcmp(sc_text_of_fault(SC_NO_MEMORY), "there is no memory") == 0);
+    CHECK(sc_version() == SC_VERSION && SC_VERSION == SC_VERSION_MAJOR * 10000 + SC_VERSION_MINOR * 100 + SC_VERSION_PATCH);
+    CHECK(strcmp(sc_strerror(SC_NO_MEMORY), "there is no memory") == 0);
     for (uint32_t number = 0; number < 20; number++) {
-        CHECK(sc_text_of_fault(number)[0] != '\0');
+        CHECK(sc_strerror(number)[0] != '\0');
+        CHECK(strcmp(sc_text_of_fault(number), sc_strerror(number)) == 0);
     }
-    CHECK(strcmp(sc_text_of_fault(4), sc_text_of_fault(UINT32_MAX)) == 0);
+    CHECK(strcmp(sc_strerror(4), sc_strerror(UINT32_MAX)) == 0);
 }
 
 static const test tests[] = {

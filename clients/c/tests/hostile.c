@@ -64,7 +64,7 @@ static void null_pointers_are_bad_arguments(void) {
 }
 
 /* What each function answers for a handle: the same number of all that answer one, and nothing of the others. */
-static bool all_answer(sc_table *table, sc_number number) {
+static bool all_answer(sc_table *table, sc_status number) {
     uint64_t word = 77, holders = 77;
     size_t len = 77;
     char room[ROOM];

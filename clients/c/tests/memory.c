@@ -9,7 +9,7 @@ enum { TEXTS = 200, MOST = 2000 };
 
 /* Opens a table, again where memory was refused. How often it was. */
 static int open_again(sc_table *table) {
-    sc_number number = sc_open(table);
+    sc_status number = sc_open(table);
     if (number == SC_OK) {
         return 0;
     }
@@ -25,7 +25,7 @@ static int intern_again(sc_table *table, int at) {
     size_t entries = sc_entries(table);
     uint64_t bytes = sc_text_bytes(table);
     snprintf(text, sizeof text, "text number %d", at);
-    sc_number number = intern(table, text, &word);
+    sc_status number = intern(table, text, &word);
     if (number == SC_OK) {
         return 0;
     }
@@ -70,7 +70,7 @@ static void tables_are_checked_without_memory(void) {
     static const char tables[] = "key 0\ndisp 0 0\natom 1122334455667788 sentence\n";
     long at = 0;
     bool perfect = false;
-    sc_number number = SC_NO_MEMORY;
+    sc_status number = SC_NO_MEMORY;
     for (; number == SC_NO_MEMORY && at < MOST; at++) {
         before_refusal = at;
         number = sc_check_tables(tables, sizeof tables - 1, &perfect);

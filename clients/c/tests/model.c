@@ -72,7 +72,7 @@ static void gets(sc_table *table) {
     unsigned number = below(TEXTS);
     size_t len = text_of(number, text), at = place_of(number);
     uint64_t word = 77;
-    sc_number answer = sc_get(table, text, len, &word);
+    sc_status answer = sc_get(table, text, len, &word);
     CHECK(len <= 7 ? answer == SC_OK : at == count ? answer == SC_NOT_HELD && word == 77 : answer == SC_OK && word == entries[at].word);
 }
 
@@ -107,7 +107,7 @@ static void reads(sc_table *table) {
     char wanted[256], room[256];
     uint64_t word = any_word(), holders = 77;
     size_t at = place_of_word(word), len = 77;
-    sc_number answer = sc_text(table, word, room, sizeof room, &len);
+    sc_status answer = sc_text(table, word, room, sizeof room, &len);
     CHECK(sc_holds(table, word) == (at != count));
     CHECK(sc_holders(table, word, &holders) == (at != count ? SC_OK : SC_NOT_HELD));
     if (at == count) {

@@ -8,7 +8,7 @@
 #include "string_cache.h"
 
 /* The number of an interning of a text that ends with a zero byte. */
-static inline sc_number intern(sc_table *table, const char *text, uint64_t *word) {
+static inline sc_status intern(sc_table *table, const char *text, uint64_t *word) {
     return sc_intern(table, text, strlen(text), word);
 }
 
@@ -20,7 +20,7 @@ static inline uint64_t word_of(sc_table *table, const char *text) {
 }
 
 /* Whether the text of a word is this one. */
-static inline bool has_text(sc_table *table, uint64_t word, const char *text) {
+static inline bool has_text(const sc_table *table, uint64_t word, const char *text) {
     char room[256];
     size_t len = 0;
     return sc_text(table, word, room, sizeof room, &len) == SC_OK && len == strlen(text) && memcmp(room, text, len) == 0;

@@ -14,13 +14,17 @@
 //! [`Interner::intern`] counts one holder, and each [`Interner::release`] takes one off; with the last one the name goes. The symbol of a name
 //! that went never comes back, so that a stale one resolves to nothing, and never to another name.
 //!
+//! Threads share the names of a [`SharedInterner`].
+//!
 //! A name of at most 7 bytes lies in its symbol. It takes no memory, is always there, and isn't counted by [`Interner::len`].
 //!
 //! What a table does is proved; that this crate hands its arguments over rightly is tested.
 
+mod shared;
 mod sys;
 
-use std::cell::UnsafeCell;
+pub use shared::{LockedName, LockedSymbol, SharedInterner, SharedSymbol};
+
 use std::ffi::c_char;
 use std::fmt;
 use std::iter::FusedIterator;
@@ -102,14 +106,17 @@ impl fmt::Debug for Symbol {
     }
 }
 
-/// The interned names of one thread. It may be moved to another.
+/// Interned names. What takes `&self` only reads, so threads may share an interner to look up names.
 pub struct Interner {
     /// The table is open from `new` to `drop`. Only calls of the library change it, none of which calls back.
-    table: UnsafeCell<sys::Table>,
+    table: sys::Table,
 }
 
 // SAFETY: a table's memory is of malloc, which any thread may free, and it keeps nothing that belongs to a thread.
 unsafe impl Send for Interner {}
+
+// SAFETY: each call of the library that is made with `&self` takes a `const sc_table`, and any number of those may run at a time.
+unsafe impl Sync for Interner {}
 
 impl Interner {
     /// An interner in which nothing is held. [`Fault::Memory`] where it finds none.
@@ -117,7 +124,7 @@ impl Interner {
         let mut table = sys::Table::CLOSED;
         // SAFETY: the table is closed, and ours.
         done(unsafe { sys::sc_open(&mut table) })?;
-        Ok(Interner { table: UnsafeCell::new(table) })
+        Ok(Interner { table })
     }
 
     /// An interner with limits: each name has at most so many holders, from 1 to 2^63 - 1, and each of 2 to the power of `bucket_bits`
@@ -127,7 +134,7 @@ impl Interner {
         let mut table = sys::Table::CLOSED;
         // SAFETY: the table is closed, and ours.
         done(unsafe { sys::sc_open_with(&mut table, holders, tickets, bucket_bits) })?;
-        Ok(Interner { table: UnsafeCell::new(table) })
+        Ok(Interner { table })
     }
 
     /// The symbol of a name, with one holder more.
@@ -136,15 +143,15 @@ impl Interner {
     pub fn intern(&mut self, name: &str) -> Result<Symbol, Fault> {
         let mut word = 0;
         // SAFETY: the name has so many bytes, and the table is used by nobody else.
-        done(unsafe { sys::sc_intern(self.table.get(), text_of(name), name.len(), &mut word) })?;
+        done(unsafe { sys::sc_intern(&mut self.table, text_of(name), name.len(), &mut word) })?;
         Symbol::from_word(word).ok_or(Fault::Other(sys::OK))
     }
 
     /// The symbol of a name that has one: names of at most 7 bytes always do. It gets no holder more.
     pub fn get(&self, name: &str) -> Option<Symbol> {
         let mut word = 0;
-        // SAFETY: as in `intern`; `Interner` isn't `Sync`.
-        match unsafe { sys::sc_get(self.table.get(), text_of(name), name.len(), &mut word) } {
+        // SAFETY: the name has so many bytes, and nobody writes the table.
+        match unsafe { sys::sc_get(&self.table, text_of(name), name.len(), &mut word) } {
             sys::OK => Symbol::from_word(word),
             _ => None,
         }
@@ -174,8 +181,8 @@ impl Interner {
     fn copy_text(&self, symbol: Symbol, room: &mut [u8]) -> Result<usize, (u32, usize)> {
         let mut length = 0;
         let front = room.as_mut_ptr().cast::<c_char>();
-        // SAFETY: the room has so many bytes; `Interner` isn't `Sync`.
-        match unsafe { sys::sc_text(self.table.get(), symbol.word(), front, room.len(), &mut length) } {
+        // SAFETY: the room has so many bytes, and nobody writes the table.
+        match unsafe { sys::sc_text(&self.table, symbol.word(), front, room.len(), &mut length) } {
             sys::OK => Ok(length),
             refused => Err((refused, length)),
         }
@@ -183,14 +190,14 @@ impl Interner {
 
     /// Whether a symbol is held: that of a name of at most 7 bytes always is.
     pub fn contains(&self, symbol: Symbol) -> bool {
-        // SAFETY: `Interner` isn't `Sync`. The same holds for each call that takes `&self` below.
-        unsafe { sys::sc_holds(self.table.get(), symbol.word()) }
+        // SAFETY: nobody writes the table. The same holds for each call that takes `&self` below.
+        unsafe { sys::sc_holds(&self.table, symbol.word()) }
     }
 
     /// How many holders the name of a symbol has. `None` where it isn't held, and for a name of at most 7 bytes.
     pub fn holders(&self, symbol: Symbol) -> Option<u64> {
         let mut holders = 0;
-        match unsafe { sys::sc_holders(self.table.get(), symbol.word(), &mut holders) } {
+        match unsafe { sys::sc_holders(&self.table, symbol.word(), &mut holders) } {
             sys::OK => Some(holders),
             _ => None,
         }
@@ -199,17 +206,17 @@ impl Interner {
     /// One holder more of a symbol. [`Fault::NotHeld`], and under limits [`Fault::FullCount`].
     pub fn hold(&mut self, symbol: Symbol) -> Result<(), Fault> {
         // SAFETY: the table is used by nobody else. The same holds for each call that takes `&mut self` below.
-        done(unsafe { sys::sc_clone(self.table.get(), symbol.word()) })
+        done(unsafe { sys::sc_clone(&mut self.table, symbol.word()) })
     }
 
     /// One holder less of a symbol: with the last one its name goes. Whether it was held.
     pub fn release(&mut self, symbol: Symbol) -> bool {
-        unsafe { sys::sc_give(self.table.get(), symbol.word()) == sys::OK }
+        unsafe { sys::sc_give(&mut self.table, symbol.word()) == sys::OK }
     }
 
     /// How many names of more than 7 bytes are held.
     pub fn len(&self) -> usize {
-        unsafe { sys::sc_entries(self.table.get()) }
+        unsafe { sys::sc_entries(&self.table) }
     }
 
     /// Whether no name of more than 7 bytes is held.
@@ -219,24 +226,24 @@ impl Interner {
 
     /// How many bytes the names of more than 7 bytes have together.
     pub fn text_bytes(&self) -> u64 {
-        unsafe { sys::sc_text_bytes(self.table.get()) }
+        unsafe { sys::sc_text_bytes(&self.table) }
     }
 
     /// How many bytes of memory the table has asked for and still holds. A name that goes gives its bytes back, and its place stays for the
     /// next one. The `Interner` itself isn't counted.
     pub fn memory(&self) -> u64 {
-        unsafe { sys::sc_memory(self.table.get()) }
+        unsafe { sys::sc_memory(&self.table) }
     }
 
     /// Takes all names away. No symbol that was given comes again.
     pub fn clear(&mut self) {
         // An open table refuses no clear.
-        unsafe { sys::sc_clear(self.table.get()) };
+        unsafe { sys::sc_clear(&mut self.table) };
     }
 
     /// Makes room for so many names more. [`Fault::Memory`].
     pub fn reserve(&mut self, more: usize) -> Result<(), Fault> {
-        done(unsafe { sys::sc_reserve(self.table.get(), more) })
+        done(unsafe { sys::sc_reserve(&mut self.table, more) })
     }
 
     /// The names of more than 7 bytes with their symbols, in the order in which they came. Where a name goes, the last one comes in its
@@ -248,7 +255,7 @@ impl Interner {
     /// The symbol at a place of that order.
     fn at(&self, place: usize) -> Option<Symbol> {
         let (mut word, mut holders) = (0, 0);
-        match unsafe { sys::sc_entry(self.table.get(), place, &mut word, &mut holders) } {
+        match unsafe { sys::sc_entry(&self.table, place, &mut word, &mut holders) } {
             sys::OK => Symbol::from_word(word),
             _ => None,
         }
@@ -258,7 +265,7 @@ impl Interner {
 impl Drop for Interner {
     fn drop(&mut self) {
         // SAFETY: the table is ours, and nobody uses it afterwards.
-        unsafe { sys::sc_close(self.table.get()) };
+        unsafe { sys::sc_close(&mut self.table) };
     }
 }
 

@@ -36,17 +36,22 @@ extern "C" {
     pub fn sc_open_with(table: *mut Table, holders: u64, tickets: u64, bucket_bits: u8) -> u32;
     pub fn sc_close(table: *mut Table);
     pub fn sc_intern(table: *mut Table, text: *const c_char, len: usize, word: *mut u64) -> u32;
-    pub fn sc_get(table: *mut Table, text: *const c_char, len: usize, word: *mut u64) -> u32;
+    pub fn sc_get(table: *const Table, text: *const c_char, len: usize, word: *mut u64) -> u32;
     pub fn sc_clone(table: *mut Table, word: u64) -> u32;
     pub fn sc_give(table: *mut Table, word: u64) -> u32;
-    pub fn sc_holds(table: *mut Table, word: u64) -> bool;
-    pub fn sc_holders(table: *mut Table, word: u64, holders: *mut u64) -> u32;
-    pub fn sc_text(table: *mut Table, word: u64, room: *mut c_char, room_len: usize, len: *mut usize) -> u32;
-    pub fn sc_entries(table: *mut Table) -> usize;
-    pub fn sc_text_bytes(table: *mut Table) -> u64;
-    pub fn sc_memory(table: *mut Table) -> u64;
-    pub fn sc_entry(table: *mut Table, place: usize, word: *mut u64, holders: *mut u64) -> u32;
+    pub fn sc_holds(table: *const Table, word: u64) -> bool;
+    pub fn sc_holders(table: *const Table, word: u64, holders: *mut u64) -> u32;
+    pub fn sc_text(table: *const Table, word: u64, room: *mut c_char, room_len: usize, len: *mut usize) -> u32;
+    pub fn sc_entries(table: *const Table) -> usize;
+    pub fn sc_text_bytes(table: *const Table) -> u64;
+    pub fn sc_memory(table: *const Table) -> u64;
+    pub fn sc_entry(table: *const Table, place: usize, word: *mut u64, holders: *mut u64) -> u32;
     pub fn sc_clear(table: *mut Table) -> u32;
     pub fn sc_reserve(table: *mut Table, more: usize) -> u32;
     pub fn sc_hash(text: *const c_char, len: usize, key: u64, hashes: *mut Hashes) -> u32;
+}
+
+extern "C" {
+    pub fn sc_pack(text: *const c_char, len: usize, word: *mut u64) -> u32;
+    pub fn sc_unpack(word: u64, room: *mut c_char, room_len: usize, len: *mut usize) -> u32;
 }

@@ -253,3 +253,24 @@ fn a_million_names_are_kept() {
     assert!(symbols.iter().rev().all(|&symbol| names.release(symbol)));
     assert!(names.is_empty());
 }
+
+#[test]
+fn threads_read_one_interner() {
+    let mut names = new_interner();
+    let texts: Vec<String> = (0..500).map(|at| format!("name number {at}")).collect();
+    let symbols: Vec<Symbol> = texts.iter().map(|text| intern(&mut names, text)).collect();
+    let shared = &names;
+    std::thread::scope(|scope| {
+        for _ in 0..4 {
+            scope.spawn(|| {
+                for (text, &symbol) in texts.iter().zip(&symbols) {
+                    assert_eq!(shared.get(text), Some(symbol));
+                    assert_eq!(shared.resolve(symbol).as_deref(), Some(&text[..]));
+                    assert_eq!(shared.holders(symbol), Some(1));
+                }
+                assert_eq!(shared.iter().count(), 500);
+                assert!(shared.memory() > shared.text_bytes());
+            });
+        }
+    });
+}

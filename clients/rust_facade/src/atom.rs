@@ -1,6 +1,7 @@
 //! The atom.
 
 use crate::dynamic_set::{self, Entry};
+use crate::shape::{self, TextHash};
 use crate::static_sets::StaticAtomSet;
 use interned_names::hashes_of;
 use std::borrow::Cow;
@@ -75,18 +76,24 @@ impl<Static: StaticAtomSet> Atom<Static> {
         self.word() & 3 == INLINE_TAG
     }
 
-    /// A hash of its text: of an inline one its word.
-    pub fn get_hash(&self) -> u64 {
+    /// A hash of its text: of an inline one its word, or both halves of it together.
+    pub fn get_hash(&self) -> TextHash {
         match &self.entry {
             Some(entry) => entry.hash,
             None if self.is_static() => Static::get().hashes[self.static_index()],
-            None => self.word(),
+            None => shape::hash_of_word(self.word()),
         }
     }
 
     /// The atom of a text of the static type.
     pub fn try_static(string_to_add: &str) -> Option<Self> {
-        Static::get().index_of(string_to_add).map(Self::pack_static)
+        let hashes = hashes_of(string_to_add, Static::get().key);
+        Static::get().index_of(string_to_add, hashes).map(Self::pack_static)
+    }
+
+    /// The atom of a text that lies in its word.
+    fn inline(text: &str) -> Option<Self> {
+        inline_data(text).map(|data| Self::pack_inline(data, text.len() as u8))
     }
 
     /// Its text.
@@ -134,13 +141,14 @@ fn inline_data(text: &str) -> Option<u64> {
 impl<'a, Static: StaticAtomSet> From<Cow<'a, str>> for Atom<Static> {
     fn from(string_to_add: Cow<'a, str>) -> Self {
         let text = &*string_to_add;
-        if let Some(data) = inline_data(text) {
-            return Self::pack_inline(data, text.len() as u8);
+        if let (false, Some(inline)) = (shape::STATIC_BEFORE_INLINE, Self::inline(text)) {
+            return inline;
         }
-        Self::try_static(text).unwrap_or_else(|| {
-            let hashes = hashes_of(text, Static::get().key);
-            Self::dynamic(dynamic_set::intern(text, u64::from(hashes.g) << 32 | u64::from(hashes.f1)))
-        })
+        let hashes = hashes_of(text, Static::get().key);
+        match Static::get().index_of(text, hashes) {
+            Some(index) => Self::pack_static(index),
+            None => Self::inline(text).unwrap_or_else(|| Self::dynamic(dynamic_set::intern(text, hashes))),
+        }
     }
 }
 
@@ -184,13 +192,13 @@ impl<Static: StaticAtomSet> Ord for Atom<Static> {
 
 impl<Static: StaticAtomSet> Hash for Atom<Static> {
     fn hash<H: Hasher>(&self, state: &mut H) {
-        state.write_u64(self.get_hash());
+        shape::write_hash(self.get_hash(), state);
     }
 }
 
 impl<Static: StaticAtomSet> Default for Atom<Static> {
     fn default() -> Self {
-        Self::pack_inline(0, 0)
+        shape::empty()
     }
 }
 

@@ -1,4 +1,4 @@
-//! The calls of the crate `string_cache` 0.11, over a proved table behind a lock: a program written for that crate compiles with this one in
+//! The calls of the crate `string_cache` 0.11, over proved tables behind locks: a program written for that crate compiles with this one in
 //! its place.
 //!
 //! ```
@@ -9,12 +9,13 @@
 //! assert_eq!(first.len(), 13);
 //! ```
 //!
-//! What differs: an [`Atom`] has 16 bytes in place of 8, interning and the end of a text's last atom take one lock for all threads, and a text is
-//! kept once by the table and once beside it, since the table lends none. There are no features: no serde, no measuring of memory. Want of
-//! memory panics, as in that crate.
+//! What differs: an [`Atom`] has 16 bytes in place of 8, and a text is kept once by its table and once beside it, since a table lends none. The end
+//! of a text's last atom waits for the lock of its table, as interning does. Want of memory panics, as in that crate. There is no measuring of memory,
+//! and the feature `serde_support` has to be asked for.
 
 mod atom;
 mod dynamic_set;
+mod shape;
 mod static_sets;
 mod trivial_impls;
 

@@ -1,11 +1,17 @@
 //! Texts that are known when the program is built.
 
-use interned_names::hashes_of;
+use crate::shape::TextHash;
+use interned_names::Hashes;
 
 /// A static type: what atoms with the same static texts have in common.
 pub trait StaticAtomSet: Ord {
     /// Its static tables.
     fn get() -> &'static PhfStrSet;
+
+    /// The index of the empty text, where the tables list it.
+    fn empty_string_index() -> u32 {
+        0
+    }
 }
 
 /// Static tables: a perfect hash of texts, by the key, a pair of displacements for each bucket, the texts and their hashes.
@@ -17,13 +23,12 @@ pub struct PhfStrSet {
     #[doc(hidden)]
     pub atoms: &'static [&'static str],
     #[doc(hidden)]
-    pub hashes: &'static [u64],
+    pub hashes: &'static [TextHash],
 }
 
 impl PhfStrSet {
-    /// The index of a text that is listed.
-    pub(crate) fn index_of(&self, text: &str) -> Option<u32> {
-        let hashes = hashes_of(text, self.key);
+    /// The index of a text that is listed. The hashes are the text's under the key.
+    pub(crate) fn index_of(&self, text: &str, hashes: Hashes) -> Option<u32> {
         let (first, second) = self.disps[hashes.g as usize % self.disps.len()];
         let place = hashes.f1.wrapping_mul(first).wrapping_add(second).wrapping_add(hashes.f2);
         let index = place as usize % self.atoms.len();
@@ -31,7 +36,7 @@ impl PhfStrSet {
     }
 }
 
-/// The static type with no text but the empty one, which is inline all the same.
+/// The static type with no text but the empty one.
 #[derive(PartialEq, Eq, PartialOrd, Ord)]
 pub struct EmptyStaticAtomSet;
 

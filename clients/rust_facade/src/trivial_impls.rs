@@ -58,3 +58,43 @@ impl<Static: StaticAtomSet> fmt::Display for Atom<Static> {
         fmt::Display::fmt(self.as_str(), out)
     }
 }
+
+#[cfg(feature = "precomputed_hash")]
+impl<Static: StaticAtomSet> precomputed_hash::PrecomputedHash for Atom<Static> {
+    fn precomputed_hash(&self) -> u32 {
+        crate::shape::short_hash(self.get_hash())
+    }
+}
+
+/// As its text.
+#[cfg(feature = "serde_support")]
+impl<Static: StaticAtomSet> serde::Serialize for Atom<Static> {
+    fn serialize<S: serde::Serializer>(&self, serializer: S) -> Result<S::Ok, S::Error> {
+        serializer.serialize_str(self)
+    }
+}
+
+/// From a text.
+#[cfg(feature = "serde_support")]
+impl<'de, Static: StaticAtomSet> serde::Deserialize<'de> for Atom<Static> {
+    fn deserialize<D: serde::Deserializer<'de>>(deserializer: D) -> Result<Self, D::Error> {
+        deserializer.deserialize_str(OfText(std::marker::PhantomData))
+    }
+}
+
+/// Reads the text of an atom.
+#[cfg(feature = "serde_support")]
+struct OfText<Static>(std::marker::PhantomData<Static>);
+
+#[cfg(feature = "serde_support")]
+impl<Static: StaticAtomSet> serde::de::Visitor<'_> for OfText<Static> {
+    type Value = Atom<Static>;
+
+    fn expecting(&self, out: &mut fmt::Formatter<'_>) -> fmt::Result {
+        out.write_str("a text")
+    }
+
+    fn visit_str<E: serde::de::Error>(self, text: &str) -> Result<Atom<Static>, E> {
+        Ok(text.into())
+    }
+}

@@ -78,7 +78,7 @@ impl CellShare {
     }
 
     /// One share more of the same cell, by a single try that waits for nothing. `None` where another step on the count came between, or the
-    /// cell has as many as it may have: then nothing has changed, and `add` tells which.
+    /// cell has as many as it may have: then nothing has changed. `add` tries on, and tells a full count.
     #[inline]
     pub fn try_add(&self) -> Option<CellShare>
         ensures { IfSome result (λ share. share.cell ≡ self.now.cell) }

@@ -1,5 +1,6 @@
 pub mod Names
 pub mod PassKeeps
 pub mod Passes
+pub mod Quiet
 pub mod Shares
 pub mod Visits

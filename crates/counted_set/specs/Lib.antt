@@ -4,6 +4,7 @@ pub mod Find
 pub mod Link
 pub mod Memory
 pub mod PassLeft
+pub mod Quiet
 pub mod SetValue
 pub mod Share
 pub mod Stored

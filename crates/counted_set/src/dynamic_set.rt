@@ -6,6 +6,7 @@ mod bucket;
 mod counts;
 mod entries;
 mod held;
+mod quiet;
 mod set;
 mod share;
 mod visits;
@@ -15,6 +16,8 @@ pub use bucket::Bucket;
 #[doc(hidden)]
 pub use counts::{CountReply, Counts, OwnCounts, Pass};
 pub use held::Held;
+#[doc(hidden)]
+pub use held::HeldShare;
 pub use set::Set;
 #[doc(hidden)]
 pub use share::{Entry, Share};

@@ -119,6 +119,35 @@ module _ {X : Type 0} where
       (subst (λ (l : List (List X)). Moved one at (record { passed = w.passed; left = l }) 0 (record { passed = w.passed ++ p ∷ []; left = qs })) (sym is)
       (keep_last w.passed qs p at (subst (IsWithin at) is c.0) last c.1 (subst HaveItems is c.2)))
 
+  -- the place goes on by some items within the first pack
+  pub gone_on : (at to : ℕ) (w : Walked (List X)) (p : List X) (qs : List (List X)) (some rest : List X) → ArePacked at w → w.left ≡ p ∷ qs → drop at p ≡ some ++ rest → 0 < length rest → to ≡ at + length some
+      → ((items_at to w).passed ≡ (items_at at w).passed ++ some) × ((items_at to w).left ≡ rest ++ joined qs) × ArePacked to w
+  gone_on at to w p qs some rest c is split more place =
+      let below : at < length p = subst (IsWithin at) is c.0 in
+      let front : List X = take at p ++ some in
+      let whole : p ≡ front ++ rest = sym (take-append-drop at p) ∙ ap (λ l. take at p ++ l) split ∙ sym (append_assoc (take at p) some rest) in
+      let size : length front ≡ to = length-append (take at p) some ∙ ap (λ n. n + length some) (length-take-le at p (omega (arith, below))) ∙ sym place in
+      let taken : take to p ≡ front = ap (take to) whole ∙ take_at front rest to size in
+      let dropped : drop to p ≡ rest = ap (drop to) whole ∙ drop_at front rest to size in
+      let n : length p ≡ length front + length rest = ap length whole ∙ length-append front rest in
+      let inside : to < length p = omega (arith, n, size, more) in (
+        ap (λ l. joined w.passed ++ before to l) is ∙ ap (λ l. joined w.passed ++ l) taken ∙ sym (append_assoc (joined w.passed) (take at p) some) ∙ ap (λ l. (joined w.passed ++ before at l) ++ some) (sym is),
+        ap (from_on to) is ∙ ap (λ l. l ++ joined qs) dropped,
+        (subst (IsWithin to) (sym is) inside, c.1, c.2),
+      )
+
+  -- the first pack is passed by, with all its items from the place on
+  pub pack_passed : (at : ℕ) (w v : Walked (List X)) (p : List X) (qs : List (List X)) → ArePacked at w → w.left ≡ p ∷ qs → v ≡ passed_by w w.left
+      → ((items_at 0 v).passed ≡ (items_at at w).passed ++ drop at p) × ((items_at 0 v).left ≡ joined qs) × ArePacked 0 v
+  pack_passed at w v p qs c is next =
+      let step : v ≡ record { passed = w.passed ++ p ∷ []; left = qs } = next ∙ ap (passed_by w) is in
+      let have = subst HaveItems is c.2 in (
+        ap (λ (u : Walked (List X)). (items_at 0 u).passed) step ∙ ap (λ l. joined (w.passed ++ p ∷ []) ++ l) (before_zero qs) ∙ append-nil (joined (w.passed ++ p ∷ [])) ∙ joined_push w.passed p
+            ∙ ap (λ l. joined w.passed ++ l) (sym (take-append-drop at p)) ∙ sym (append_assoc (joined w.passed) (take at p) (drop at p)) ∙ ap (λ l. (joined w.passed ++ before at l) ++ drop at p) (sym is),
+        ap (λ (u : Walked (List X)). (items_at 0 u).left) step ∙ from_zero qs,
+        subst (λ (u : Walked (List X)). ArePacked 0 u) (sym step) (within_zero qs have.1, have_append w.passed (p ∷ []) c.1 (have.0, tt), have.1),
+      )
+
   -- The next item is taken out. Of the pack p of which it was a part, q is left.
   lost : (p q : List X) (at : ℕ) → at < length p → q ≡ take at p ++ drop (at + 1) p → length q ≡ at + length (drop (at + 1) p)
   lost p q at below is = ap length is ∙ length-append (take at p) (drop (at + 1) p) ∙ ap (λ n. n + length (drop (at + 1) p)) (length-take-le at p (omega (arith, below)))

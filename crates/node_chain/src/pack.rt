@@ -1,5 +1,5 @@
 //! A few items in one place.
-ghost use Rattle.std.specs.Prelude.{◌≡◌, ◌+◌, ◌<◌, ◌↔◌, ◌++◌, [], ◌∷◌, IsTrue, length, take, drop};
+ghost use Rattle.std.specs.Prelude.{◌≡◌, ◌+◌, ◌<◌, ◌≤◌, ◌↔◌, ◌++◌, [], ◌∷◌, IsTrue, length, take, drop};
 ghost use Rattle.node_chain.specs.Packs.{IsAt, most_items};
 
 use std::marker::Model;
@@ -67,9 +67,10 @@ impl<T> Pack<T> {
         self.len() < MOST_ITEMS
     }
 
-    /// The item at a place, or `None` where the place is behind the last.
+    /// The item at a place, or `None` where the place is behind the last. No place is behind the fourth.
     pub fn get(&self, index: usize) -> Option<&T>
-        ensures { IsAt self.now index result }
+        ensures item { IsAt self.now index result }
+        ensures few { length self.now ≤ most_items }
     {
         match (index, &self.others) {
             (0, _) => Some(&self.first),

@@ -4,7 +4,7 @@ use Rattle.text_forms.specs.declared.static_sets.TextForm.{TextForm}
 use Rattle.text_forms.specs.declared.static_sets.TextForm.TheVariants.{Inline, Static, Dynamic}
 use Rattle.text_forms.specs.Layout.{most_bits}
 use Rattle.text_forms.specs.Tables.{Tables, form_of_text}
-use Rattle.text_forms.specs.Word.{static_word, ticket_of, IsTicket}
+use Rattle.text_forms.specs.Word.{inline_word, static_word, ticket_of, IsTicket}
 
 -- an atom, by its text, its word, and for a dynamic text the bits of the bucket that the word came from
 pub record AtomValue : Type 0 where
@@ -21,7 +21,7 @@ pub record IsTicketOfHash (hash bits word : ℕ) : Type 0 where
 
 -- the word of a form: its own one, or for a dynamic text, which alone has bits, a ticket of its hash
 abbrev pub IsWordOfForm : TextForm → Option ℕ → ℕ → Type 0
-IsWordOfForm (Inline own) bits word = (bits ≡ None) × (word ≡ own)
+IsWordOfForm (Inline text) bits word = (bits ≡ None) × (word ≡ inline_word text)
 IsWordOfForm (Static index) bits word = (bits ≡ None) × (word ≡ static_word index)
 IsWordOfForm (Dynamic hash) None word = ⊥
 IsWordOfForm (Dynamic hash) (Some bits) word = IsTicketOfHash hash bits word

@@ -28,6 +28,7 @@ pub use Rattle.text_forms.specs.Word
 pub use Rattle.counted_set.specs.Visits
 pub use Rattle.atomic_steps.specs.World
 pub mod AtomForm
+pub mod AtomList
 pub mod AtomValue
 pub mod Case
 pub mod Packed

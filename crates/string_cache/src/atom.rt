@@ -1,6 +1,6 @@
 //! An atom: a text that is inline, static, or an entry of a set.
 
-ghost use Rattle.std.specs.Prelude.{◌≡◌, ◌↔◌, ◌+◌, ◌*◌, ◌<◌, [], length, string_bytes, IsTrue, IsSome, IfSome, IfOk, IfErr, OnErr, Ok, None, nat_eq};
+ghost use Rattle.std.specs.Prelude.{◌≡◌, ◌↔◌, ◌+◌, ◌*◌, ◌<◌, [], length, string_bytes, IsTrue, IsSome, IfSome, IfOk, IfErr, OnErr, Ok, None, Some, nat_eq};
 ghost use Rattle.std.specs.List.{Contains};
 ghost use Rattle.std.specs.Cmp;
 ghost use Rattle.std.specs.Cmp.{on_equiv};
@@ -8,16 +8,20 @@ ghost use Rattle.std.specs.Cmp.{on_per};
 ghost use Rattle.std.specs.Cmp.Lexicographic.{pointwise, nat_list_eq_equiv};
 ghost use Rattle.std.specs.Cow.{cow_str_bytes};
 ghost use Rattle.text_forms.specs.Faults.{IsInternFault};
+ghost use Rattle.text_forms.specs.declared.static_sets.TextForm.TheVariants.{Dynamic};
 ghost use Rattle.text_forms.specs.Tables.{IsPerfectTable, IsStaticIndex, form_of_text, hash_number, is_dynamic, is_dynamic_form, is_inline_form, is_static_form, text_at};
 ghost use Rattle.text_forms.specs.Word.{IsInlineText, inline_word, static_word};
+ghost use Rattle.counted_set.specs.Chain.{IsRight};
 ghost use Rattle.string_cache.specs.AtomForm.{IsOwnForm, value_of_form};
 ghost use Rattle.string_cache.specs.AtomValue.{IsWordOf};
 ghost use Rattle.string_cache.specs.Packed.{IsPackable};
 
 mod case;
 mod compare;
+mod list;
 
 use counted_set::dynamic_set::{Held, Set};
+pub use list::{AtomList, Texts};
 use std::borrow::CowStr;
 use std::marker::Model;
 use std::sync::Wait;
@@ -27,21 +31,21 @@ use text_forms::static_sets::{
 };
 use text_forms::word::{InlineText, static_word, unpack_inline};
 
-/// How an atom holds its text.
+/// How an atom holds its text, and a place of a list: `Share` is a share with its set, or one without.
 #[derive(Drop)]
-enum Repr<'s, Static: StaticTables> {
+enum Repr<Share> {
     Inline(InlineText),
     /// The text at this index of the static tables.
     Static(u32),
     /// The low half of the entry's hash, which tells most texts apart without a look at their entries, and the share.
-    Dynamic(u32, Held<'s, Static>),
+    Dynamic(u32, Share),
 }
 
 /// A text, in the form that it has under the tables of its static type. A dynamic one is shared with the set `'s`: its end
 /// gives one share back, and never waits.
 #[derive(Drop)]
 pub struct Atom<'s, Static: StaticTables> {
-    form: Repr<'s, Static>,
+    form: Repr<Held<'s, Static>>,
 }
 
 /// An atom that is inline or dynamic.
@@ -60,11 +64,19 @@ impl<'s, Static: StaticTables> Model for Atom<'s, Static> {
 }
 
 impl<'s, Static: StaticTables> Atom<'s, Static> {
-    fn of_form(form: Repr<'s, Static>) -> Self
+    fn of_form(form: Repr<Held<'s, Static>>) -> Self
         requires { IsOwnForm Static.tables form }
         ensures { result ≡ value_of_form Static.tables form.entry }
     {
         Atom { form }
+    }
+
+    /// The atom of an entry of a text with this hash, by a share of it.
+    fn of_held(hash: u64, held: Held<'s, Static>) -> Self
+        requires { (form_of_text Static.tables held.text ≡ Dynamic hash) × IsRight Static.tables held }
+        ensures { result ≡ record { text = held.entry.text; word = held.entry.ticket; bits = Some held.entry.bits } }
+    {
+        Self::of_form(Repr::Dynamic((hash % (1 << 32)) as u32, held))
     }
 
     /// The atom of a text. A dynamic text is looked for in the set, and linked there if it is new. Inline and static texts
@@ -77,15 +89,12 @@ impl<'s, Static: StaticTables> Atom<'s, Static> {
         ensures refused { IfErr result IsInternFault }
         ensures dynamic { OnErr result (IsTrue (is_dynamic Static.tables text.now)) }
     {
-        if let Some(text) = InlineText::new(text) {
-            return Ok(Self::of_form(Repr::Inline(text)));
-        }
         match form_of_text::<Static>(text) {
-            TextForm::Inline(_) => unreachable!(),
+            TextForm::Inline(inline) => Ok(Self::of_form(Repr::Inline(inline))),
             TextForm::Static(index) => Ok(Self::of_form(Repr::Static(index))),
             TextForm::Dynamic(hash) => {
                 let held = set.intern(rt, text, hash)?;
-                Ok(Self::of_form(Repr::Dynamic((hash % (1 << 32)) as u32, held)))
+                Ok(Self::of_held(hash, held))
             }
         }
     }
@@ -102,17 +111,11 @@ impl<'s, Static: StaticTables> Atom<'s, Static> {
         ensures refused { IfErr result (λ fault. fault ≡ Fault.FullCount) }
         ensures dynamic { OnErr result (IsTrue (is_dynamic Static.tables text.now)) }
     {
-        if let Some(text) = InlineText::new(text) {
-            return Ok(Some(Self::of_form(Repr::Inline(text))));
-        }
         match form_of_text::<Static>(text) {
-            TextForm::Inline(_) => unreachable!(),
+            TextForm::Inline(inline) => Ok(Some(Self::of_form(Repr::Inline(inline)))),
             TextForm::Static(index) => Ok(Some(Self::of_form(Repr::Static(index)))),
             TextForm::Dynamic(hash) => match set.find(rt, text, hash)? {
-                Some(held) => {
-                    let half = (hash % (1 << 32)) as u32;
-                    Ok(Some(Self::of_form(Repr::Dynamic(half, held))))
-                }
+                Some(held) => Ok(Some(Self::of_held(hash, held))),
                 None => Ok(None),
             },
         }
@@ -157,7 +160,7 @@ impl<'s, Static: StaticTables> Atom<'s, Static> {
         let form = match &self.form {
             Repr::Inline(text) => Repr::Inline(*text),
             Repr::Static(index) => Repr::Static(*index),
-            // Hardly ever does another step come between, so that nothing has to wait.
+            // Another step seldom comes between, so nothing has to wait.
             Repr::Dynamic(half, held) => match held.try_clone_share() {
                 Some(held) => Repr::Dynamic(*half, held),
                 None => Repr::Dynamic(*half, held.clone_share(rt)?),

@@ -6,7 +6,7 @@
 pub mod atom;
 pub mod trivial_impls;
 
-pub use atom::{Atom, DefaultAtom};
+pub use atom::{Atom, AtomList, DefaultAtom};
 pub use atomic_steps::steps;
 pub use counted_set::dynamic_set;
 pub use string_cache_core::table;

@@ -1,4 +1,4 @@
--- What holds of a table that is taken out and put back holds within the handle.
+-- What holds of a table that is taken out and put back, or lent, holds of the handle.
 use Rattle.std.proofs.Common.{◌≡◌, sym, subst}
 use Rattle.std.specs.Prelude.{Option, Some}
 use Rattle.string_cache_core.specs.Kept.{Kept}
@@ -10,7 +10,6 @@ pub within : (P : Kept → Kept → Type 0) (old new : Option NumberedTable) (wa
 within P old new was had own e h f p =
     subst (λ (o : Option NumberedTable). Within o new P) (sym e) (subst (λ (n : Option NumberedTable). Within (Some was) n P) (sym f) (subst (λ (w : NumberedTable). P w.table own.table) h p))
 
--- of one that is read
-pub if_open : (P : Kept → Type 0) (old : Option NumberedTable) (was had : NumberedTable) → old ≡ Some was → had ≡ was → P had.table → IfOpen old P
-if_open P old was had e h p =
-    subst (λ (o : Option NumberedTable). IfOpen o P) (sym e) (subst (λ (w : NumberedTable). P w.table) h p)
+-- of one that is lent
+pub if_open : (P : Kept → Type 0) (o : Option NumberedTable) (own : NumberedTable) → o ≡ Some own → P own.table → IfOpen o P
+if_open P o own e p = subst (λ (y : Option NumberedTable). IfOpen y P) (sym e) p

@@ -1,11 +1,7 @@
 //! Words come and go.
 
-ghost use Rattle.std.specs.Prelude.{◌≡◌, ◌≢◌, ◌≤◌, ◌⊎◌, ℕ, None, IsSome};
-ghost use Rattle.std.specs.Str.{IsUtf8};
-ghost use Rattle.string_cache_core.specs.Kept.{map_of};
-ghost use Rattle.string_cache_core.specs.Table.{HasWord, IsHeld};
-ghost use Rattle.string_cache_core.specs.Tables.{empty_tables};
-ghost use Rattle.string_cache_c.specs.Calls.{ClonesWord, GivesWord, IfOpen, InternsText, Within};
+ghost use Rattle.std.specs.Prelude.{◌≡◌, ◌≢◌, ◌≤◌, ◌⊎◌, None};
+ghost use Rattle.string_cache_c.specs.Calls.{ClonesWord, GivesWord, InternsText, Within};
 ghost use Rattle.string_cache_c.specs.Numbers.{closed, not_held, not_utf8};
 
 use crate::handle::ScTable;
@@ -27,27 +23,6 @@ pub extern "C" fn sc_table_intern(t: &mut ScTable, text: &[u8], word: &mut u64) 
         return CLOSED;
     };
     let number = numbered.intern(text, word);
-    t.put(numbered);
-    number
-}
-
-/// Writes the word of a text that has one, without a holder more. 6 exactly where the text has no word, 5 where the bytes
-/// aren't UTF-8, 7 where the table is closed.
-#[unsafe(no_mangle)]
-pub extern "C" fn sc_table_get(t: &mut ScTable, text: &[u8], word: &mut u64) -> u32
-    ensures none { t.old.seat.value ≡ None → result ≡ closed }
-    ensures utf8 { IsSome t.old.seat.value → ¬ (IsUtf8 text.now) → result ≡ not_utf8 }
-    ensures word { IfOpen t.old.seat.value (λ kept. result ≡ 0 → HasWord empty_tables (map_of kept) text.now word.new) }
-    ensures held { IfOpen t.old.seat.value (λ kept. result ≡ 0 → IsHeld empty_tables (map_of kept) word.new) }
-    ensures unheld { IfOpen t.old.seat.value (λ kept. result ≡ not_held → (other : ℕ) → ¬ (HasWord empty_tables (map_of kept) text.now other)) }
-    ensures number { IsSome t.old.seat.value → IsUtf8 text.now → (result ≡ 0) ⊎ (result ≡ not_held) }
-    ensures same { t.new.seat.value ≡ t.old.seat.value }
-    ensures err { result ≢ 0 → word.new ≡ word.old }
-{
-    let Some(numbered) = t.take() else {
-        return CLOSED;
-    };
-    let number = numbered.get(text, word);
     t.put(numbered);
     number
 }

@@ -6,6 +6,7 @@ mod forms;
 mod handle;
 mod interning;
 mod life;
+mod loan;
 mod numbered_table;
 mod numbers;
 mod parts;

@@ -1,4 +1,4 @@
-//! What a table tells of its texts and of words. None of these changes it.
+//! What a table tells of its texts and of words. A call here has only what C lends, so any number of them may run beside each other.
 
 ghost use Rattle.std.specs.Prelude.{◌≡◌, ◌≢◌, ◌<◌, ◌≤◌, ◌⊎◌, ◌↔◌, ◌-◌, ◌^◌, ℕ, List, IsTrue, None, Some, IsSome, slice_get};
 ghost use Rattle.std.specs.List.{IsDistinct};
@@ -9,129 +9,121 @@ ghost use Rattle.string_cache_core.specs.Map.{HasHolders, IsHeldTicket};
 ghost use Rattle.string_cache_core.specs.Table.{HasWord, IsHeld};
 ghost use Rattle.string_cache_core.specs.Tables.{empty_tables};
 ghost use Rattle.string_cache_c.specs.Calls.{CopiesText, HoldsWord, IfOpen, TellsMemory, entries_of, text_bytes_of};
-ghost use Rattle.string_cache_c.specs.Numbers.{closed, not_held};
+ghost use Rattle.string_cache_c.specs.Numbers.{closed, not_held, not_utf8};
 
-use crate::handle::ScTable;
+use crate::loan::ScLent;
 use crate::numbers::CLOSED;
+
+/// Writes the word of a text that has one, without a holder more. 6 exactly where the text has no word, 5 where the bytes
+/// aren't UTF-8, 7 where the table is closed.
+#[unsafe(no_mangle)]
+pub extern "C" fn sc_table_get(t: ScLent, text: &[u8], word: &mut u64) -> u32
+    ensures none { t.loan.value ≡ None → result ≡ closed }
+    ensures utf8 { IsSome t.loan.value → ¬ (IsUtf8 text.now) → result ≡ not_utf8 }
+    ensures word { IfOpen t.loan.value (λ kept. result ≡ 0 → HasWord empty_tables (map_of kept) text.now word.new) }
+    ensures held { IfOpen t.loan.value (λ kept. result ≡ 0 → IsHeld empty_tables (map_of kept) word.new) }
+    ensures unheld { IfOpen t.loan.value (λ kept. result ≡ not_held → (other : ℕ) → ¬ (HasWord empty_tables (map_of kept) text.now other)) }
+    ensures number { IsSome t.loan.value → IsUtf8 text.now → (result ≡ 0) ⊎ (result ≡ not_held) }
+    ensures err { result ≢ 0 → word.new ≡ word.old }
+{
+    let Some(numbered) = t.table() else {
+        return CLOSED;
+    };
+    numbered.get(text, word)
+}
 
 /// Whether a word is held: an inline word always is, and a ticket where someone holds it. A closed table holds none.
 #[unsafe(no_mangle)]
-pub extern "C" fn sc_table_holds(t: &mut ScTable, word: u64) -> bool
-    ensures holds { IsTrue result ↔ HoldsWord t.old.seat.value word }
-    ensures same { t.new.seat.value ≡ t.old.seat.value }
+pub extern "C" fn sc_table_holds(t: ScLent, word: u64) -> bool
+    ensures holds { IsTrue result ↔ HoldsWord t.loan.value word }
 {
-    let Some(numbered) = t.take() else {
+    let Some(numbered) = t.table() else {
         return false;
     };
-    let holds = numbered.table.holds(word);
-    t.put(numbered);
-    holds
+    numbered.table.holds(word)
 }
 
 /// Writes how many hold a ticket. 6 for any other word, 7 where the table is closed.
 #[unsafe(no_mangle)]
-pub extern "C" fn sc_table_holders(t: &mut ScTable, word: u64, holders: &mut u64) -> u32
-    ensures none { t.old.seat.value ≡ None → result ≡ closed }
-    ensures holders { IfOpen t.old.seat.value (λ kept. result ≡ 0 → HasHolders (map_of kept) word holders.new) }
-    ensures unheld { IfOpen t.old.seat.value (λ kept. result ≡ not_held → ¬ (IsHeldTicket (map_of kept) word)) }
-    ensures number { IsSome t.old.seat.value → (result ≡ 0) ⊎ (result ≡ not_held) }
-    ensures same { t.new.seat.value ≡ t.old.seat.value }
+pub extern "C" fn sc_table_holders(t: ScLent, word: u64, holders: &mut u64) -> u32
+    ensures none { t.loan.value ≡ None → result ≡ closed }
+    ensures holders { IfOpen t.loan.value (λ kept. result ≡ 0 → HasHolders (map_of kept) word holders.new) }
+    ensures unheld { IfOpen t.loan.value (λ kept. result ≡ not_held → ¬ (IsHeldTicket (map_of kept) word)) }
+    ensures number { IsSome t.loan.value → (result ≡ 0) ⊎ (result ≡ not_held) }
     ensures err { result ≢ 0 → holders.new ≡ holders.old }
 {
-    let Some(numbered) = t.take() else {
+    let Some(numbered) = t.table() else {
         return CLOSED;
     };
-    let number = numbered.holders(word, holders);
-    t.put(numbered);
-    number
+    numbered.holders(word, holders)
 }
 
 /// Copies the text of a word that is held to the front of the room where it has place. Its length is written in both cases. 9
 /// where it has no place, 6 where the word isn't held, 7 where the table is closed.
 #[unsafe(no_mangle)]
-pub extern "C" fn sc_table_text(t: &mut ScTable, word: u64, room: &mut [u8], len: &mut usize) -> u32
-    ensures none { t.old.seat.value ≡ None → (result ≡ closed) × (room.new ≡ room.old) × (len.new ≡ len.old) }
-    ensures text { IfOpen t.old.seat.value (λ kept. IsHeld empty_tables (map_of kept) word → (text : List ℕ) × IsUtf8 text × HasWord empty_tables (map_of kept) text word × CopiesText text result room.old room.new len.new) }
-    ensures only { IfOpen t.old.seat.value (λ kept. (text : List ℕ) → IsUtf8 text → HasWord empty_tables (map_of kept) text word → CopiesText text result room.old room.new len.new) }
-    ensures unheld { IfOpen t.old.seat.value (λ kept. ¬ (IsHeld empty_tables (map_of kept) word) → (result ≡ not_held) × (room.new ≡ room.old) × (len.new ≡ len.old)) }
-    ensures same { t.new.seat.value ≡ t.old.seat.value }
+pub extern "C" fn sc_table_text(t: ScLent, word: u64, room: &mut [u8], len: &mut usize) -> u32
+    ensures none { t.loan.value ≡ None → (result ≡ closed) × (room.new ≡ room.old) × (len.new ≡ len.old) }
+    ensures text { IfOpen t.loan.value (λ kept. IsHeld empty_tables (map_of kept) word → (text : List ℕ) × IsUtf8 text × HasWord empty_tables (map_of kept) text word × CopiesText text result room.old room.new len.new) }
+    ensures only { IfOpen t.loan.value (λ kept. (text : List ℕ) → IsUtf8 text → HasWord empty_tables (map_of kept) text word → CopiesText text result room.old room.new len.new) }
+    ensures unheld { IfOpen t.loan.value (λ kept. ¬ (IsHeld empty_tables (map_of kept) word) → (result ≡ not_held) × (room.new ≡ room.old) × (len.new ≡ len.old)) }
 {
-    let Some(numbered) = t.take() else {
+    let Some(numbered) = t.table() else {
         return CLOSED;
     };
-    let number = numbered.text(word, room, len);
-    t.put(numbered);
-    number
+    numbered.text(word, room, len)
 }
 
 /// Writes the ticket and the number of holders of the text at a place of the table's order, from 0 on. 6 past the last, 7 where
 /// the table is closed. A new text comes last; where a text goes, the last one comes in its place.
 #[unsafe(no_mangle)]
-pub extern "C" fn sc_table_entry(
-    t: &mut ScTable,
-    index: usize,
-    word: &mut u64,
-    holders: &mut u64,
-) -> u32
-    ensures none { t.old.seat.value ≡ None → result ≡ closed }
-    ensures entry { IfOpen t.old.seat.value (λ kept. (pair : Pair) → slice_get kept.pairs index ≡ Some pair → (result ≡ 0) × (word.new ≡ pair.1.ticket) × (holders.new ≡ pair.1.holders)) }
-    ensures past { IfOpen t.old.seat.value (λ kept. slice_get kept.pairs index ≡ None → result ≡ not_held) }
-    ensures same { t.new.seat.value ≡ t.old.seat.value }
+pub extern "C" fn sc_table_entry(t: ScLent, index: usize, word: &mut u64, holders: &mut u64) -> u32
+    ensures none { t.loan.value ≡ None → result ≡ closed }
+    ensures entry { IfOpen t.loan.value (λ kept. (pair : Pair) → slice_get kept.pairs index ≡ Some pair → (result ≡ 0) × (word.new ≡ pair.1.ticket) × (holders.new ≡ pair.1.holders)) }
+    ensures past { IfOpen t.loan.value (λ kept. slice_get kept.pairs index ≡ None → result ≡ not_held) }
     ensures err { result ≢ 0 → (word.new ≡ word.old) × (holders.new ≡ holders.old) }
 {
-    let Some(numbered) = t.take() else {
+    let Some(numbered) = t.table() else {
         return CLOSED;
     };
-    let number = numbered.entry(index, word, holders);
-    t.put(numbered);
-    number
+    numbered.entry(index, word, holders)
 }
 
 /// How many texts of more than 7 bytes are held. A closed table has none.
 #[unsafe(no_mangle)]
-pub extern "C" fn sc_table_entries(t: &mut ScTable) -> usize
-    ensures count { result ≡ entries_of t.old.seat.value }
-    ensures distinct { IfOpen t.old.seat.value (λ kept. IsDistinct bytes_eq (keys_of kept.pairs)) }
-    ensures same { t.new.seat.value ≡ t.old.seat.value }
+pub extern "C" fn sc_table_entries(t: ScLent) -> usize
+    ensures count { result ≡ entries_of t.loan.value }
+    ensures distinct { IfOpen t.loan.value (λ kept. IsDistinct bytes_eq (keys_of kept.pairs)) }
 {
-    let Some(numbered) = t.take() else {
+    let Some(numbered) = t.table() else {
         return 0;
     };
-    let entries = numbered.table.entries();
-    t.put(numbered);
-    entries
+    numbered.table.entries()
 }
 
 /// How many bytes the texts of more than 7 bytes have that are held; 2^64 - 1 where they have as many or more.
 #[unsafe(no_mangle)]
-pub extern "C" fn sc_table_text_bytes(t: &mut ScTable) -> u64
-    ensures bytes { text_bytes_of t.old.seat.value < 2 ^ 64 → result ≡ text_bytes_of t.old.seat.value }
-    ensures most { 2 ^ 64 ≤ text_bytes_of t.old.seat.value → result ≡ 2 ^ 64 - 1 }
-    ensures same { t.new.seat.value ≡ t.old.seat.value }
+pub extern "C" fn sc_table_text_bytes(t: ScLent) -> u64
+    ensures bytes { text_bytes_of t.loan.value < 2 ^ 64 → result ≡ text_bytes_of t.loan.value }
+    ensures most { 2 ^ 64 ≤ text_bytes_of t.loan.value → result ≡ 2 ^ 64 - 1 }
 {
-    let Some(numbered) = t.take() else {
+    let Some(numbered) = t.table() else {
         return 0;
     };
-    let bytes = match u64::try_from(numbered.table.text_bytes()) {
+    match u64::try_from(numbered.table.text_bytes()) {
         Ok(bytes) => bytes,
         Err(_) => u64::MAX,
-    };
-    t.put(numbered);
-    bytes
+    }
 }
 
 /// How many bytes the table has asked for and still holds: those that `Table::memory` tells, and the block in which the handle has the
 /// table; 2^64 - 1 where they are as many or more. A closed table holds none.
 #[unsafe(no_mangle)]
-pub extern "C" fn sc_table_memory(t: &mut ScTable) -> u64
-    ensures none { t.old.seat.value ≡ None → result ≡ 0 }
-    ensures memory { IfOpen t.old.seat.value (λ kept. TellsMemory kept result) }
-    ensures same { t.new.seat.value ≡ t.old.seat.value }
+pub extern "C" fn sc_table_memory(t: ScLent) -> u64
+    ensures none { t.loan.value ≡ None → result ≡ 0 }
+    ensures memory { IfOpen t.loan.value (λ kept. TellsMemory kept result) }
 {
-    let Some(numbered) = t.take() else {
+    let Some(numbered) = t.table() else {
         return 0;
     };
-    let bytes = numbered.memory();
-    t.put(numbered);
-    bytes
+    numbered.memory()
 }

@@ -31,7 +31,7 @@ middle-held t m before word after all = listed-held t m m word before after all
 pub inline-owned : (t : Tables) (m : InternMap) (text : List ℕ) (word : ℕ) → IsInlineText text → inline_word text ≡ word → HasWord t m text word
 inline-owned t m text word inline is =
     let test : nat_lt 7 (length text) ≡ false = le-ltb 7 (length text) inline.1 in
-    let form : form_of_text t text ≡ Inline (inline_word text) = rw test refl in
+    let form : form_of_text t text ≡ Inline text = rw test refl in
     subst (λ (f : TextForm). HasWordBy m text (fixed_word f) word) (sym form) (sym is)
 
 -- any word of a text but an inline one lends it

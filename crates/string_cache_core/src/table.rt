@@ -308,7 +308,7 @@ impl<S: StaticTables> Table<S> {
             return self.add_holder(at);
         }
         match form_of_text::<S>(text) {
-            TextForm::Inline(word) => Ok(word),
+            TextForm::Inline(inline) => Ok(inline.word()),
             TextForm::Static(index) => Ok(static_word(index)),
             TextForm::Dynamic(hash) => self.intern_new(text, hash),
         }

@@ -2,6 +2,7 @@
 //! two lines printed round its call, and has that request refused. With all at hand they pass as any test does.
 
 mod generated;
+mod lists;
 mod lives;
 mod sets;
 mod tables;

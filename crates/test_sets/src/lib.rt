@@ -17,6 +17,8 @@ mod many;
 #[cfg(test)]
 mod samples;
 #[cfg(test)]
+mod single_tries;
+#[cfg(test)]
 mod threads;
 #[cfg(test)]
 mod visits;

@@ -43,28 +43,28 @@ entry_hash t text = hash_of_hashes (hashes_of text t.key)
 abbrev pub bucket_of : Tables → ℕ → List ℕ → ℕ
 bucket_of t buckets text = entry_hash t text % buckets
 
--- The form of a text. Up to 7 bytes it is inline, with that word. A longer text is static if it stands at its place, with
+-- The form of a text. Up to 7 bytes it is inline, with the text itself. A longer text is static if it stands at its place, with
 -- that place. Any other is dynamic, with the hash of its entry.
 abbrev pub form_of_text : Tables → List ℕ → TextForm
 form_of_text t text =
     if nat_lt 7 (length text) then
     if bytes_eq (text_at t (place_in t text)) text then Static (place_in t text)
     else Dynamic (entry_hash t text)
-    else Inline (inline_word text)
+    else Inline text
 
 -- which form it is
 abbrev pub is_inline_form : TextForm → Bool
-is_inline_form (Inline word) = true
+is_inline_form (Inline text) = true
 is_inline_form (Static index) = false
 is_inline_form (Dynamic hash) = false
 
 abbrev pub is_static_form : TextForm → Bool
-is_static_form (Inline word) = false
+is_static_form (Inline text) = false
 is_static_form (Static index) = true
 is_static_form (Dynamic hash) = false
 
 abbrev pub is_dynamic_form : TextForm → Bool
-is_dynamic_form (Inline word) = false
+is_dynamic_form (Inline text) = false
 is_dynamic_form (Static index) = false
 is_dynamic_form (Dynamic hash) = true
 
@@ -74,13 +74,13 @@ is_dynamic t text = is_dynamic_form (form_of_text t text)
 
 -- the word of a form that has one of its own; a dynamic text's is a ticket
 abbrev pub fixed_word : TextForm → Option ℕ
-fixed_word (Inline word) = Some word
+fixed_word (Inline text) = Some (inline_word text)
 fixed_word (Static index) = Some (static_word index)
 fixed_word (Dynamic hash) = None
 
 -- the number that an atom of the form hashes as
 abbrev pub hash_number_of_form : Tables → TextForm → ℕ
-hash_number_of_form t (Inline word) = word
+hash_number_of_form t (Inline text) = inline_word text
 hash_number_of_form t (Static index) = slice_index t.hashes index
 hash_number_of_form t (Dynamic hash) = hash
 

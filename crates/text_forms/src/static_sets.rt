@@ -5,7 +5,7 @@ ghost use Rattle.text_forms.specs.Parts.{parts};
 ghost use Rattle.text_forms.specs.Tables.{Tables, AreUsable, AllAreStatic, IsPerfectTable, IsStaticIndex, empty_tables, entry_hash, form_of_text, place_in, text_at};
 
 use crate::phf::{hash, place};
-use crate::word::pack_inline_word;
+use crate::word::InlineText;
 
 /// Static tables: each text stands at the place that its hashes and its pair of displacements give it.
 #[derive(Drop)]
@@ -155,8 +155,8 @@ impl StaticAtomSet for EmptyStaticAtomSet {
 /// What a text is under the tables of a static type, and what it is found by.
 #[derive(Clone, Copy, Debug, PartialEq, Eq)]
 pub enum TextForm {
-    /// Up to 7 bytes: its inline word.
-    Inline(u64),
+    /// Up to 7 bytes: the text itself.
+    Inline(InlineText),
     /// It stands at its place, this index.
     Static(u32),
     /// Any other: the hash of its entry.
@@ -168,8 +168,8 @@ pub enum TextForm {
 pub fn form_of_text<S: StaticTables>(text: &str) -> TextForm
     ensures { result ≡ form_of_text S.tables text.now }
 {
-    if let Some(word) = pack_inline_word(text) {
-        return TextForm::Inline(word);
+    if let Some(inline) = InlineText::new(text) {
+        return TextForm::Inline(inline);
     }
     let (index, hash) = S::look_up(text);
     if S::text_at(index) == text {

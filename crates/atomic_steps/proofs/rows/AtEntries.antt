@@ -15,7 +15,6 @@ use Rattle.atomic_steps.specs.Places.{EntryAt}
 use Rattle.atomic_steps.proofs.lists.Facts.{some_then, test_holds, replied, replied_both}
 use Rattle.atomic_steps.proofs.lists.Places.{entry_is}
 use Rattle.text_forms.specs.Tables.{Tables, entry_hash, form_of_text, text_at, place_in, is_dynamic, is_dynamic_form, bucket_of}
-use Rattle.text_forms.specs.Word.{inline_word}
 use Rattle.text_forms.specs.declared.static_sets.TextForm.{TextForm}
 use Rattle.text_forms.specs.declared.static_sets.TextForm.TheVariants as form
 
@@ -61,14 +60,14 @@ module _ (tables : Tables) where
         test_holds _ _ _ (and_three (is_none (pass_of w party)) (nat_lt bucket (length w.lasts)) (is_free w bucket) inside (ap (λ (m : ℕ). is_none (pass_of w party) && is_free w m) (sym e) ∙ h))
         ∙ replied reply.Taken _ new (ap (λ (m : ℕ). (take_bucket w party m None).1) (sym e) ∙ sym is)
 
-by_form : (b c : Bool) (place hash own word : ℕ) → cond {A = TextForm} b (cond {A = TextForm} c (form.Static place) (form.Dynamic own)) (form.Inline word) ≡ form.Dynamic hash → hash ≡ own
-by_form true true place hash own word e = absurd cc
-by_form true false place hash own word e = cc
-by_form false c place hash own word e = absurd cc
+by_form : (b c : Bool) (place hash own : ℕ) (text : List ℕ) → cond {A = TextForm} b (cond {A = TextForm} c (form.Static place) (form.Dynamic own)) (form.Inline text) ≡ form.Dynamic hash → hash ≡ own
+by_form true true place hash own text e = absurd cc
+by_form true false place hash own text e = cc
+by_form false c place hash own text e = absurd cc
 
 -- a dynamic text's hash is its entry's
 pub hash_is : (tables : Tables) (text : List ℕ) (hash : ℕ) → form_of_text tables text ≡ form.Dynamic hash → hash ≡ entry_hash tables text
-hash_is tables text hash e = by_form (nat_lt 7 (length text)) (bytes_eq (text_at tables (place_in tables text)) text) (place_in tables text) hash (entry_hash tables text) (inline_word text) e
+hash_is tables text hash e = by_form (nat_lt 7 (length text)) (bytes_eq (text_at tables (place_in tables text)) text) (place_in tables text) hash (entry_hash tables text) text e
 
 module _ (tables : Tables) (w : World) (party : ℕ) (text : List ℕ) where
   abbrev Intern : StepReply → World → Type 0

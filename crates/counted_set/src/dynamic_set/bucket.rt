@@ -14,6 +14,7 @@ ghost use Rattle.node_chain.specs.Walked.{at_start, passed_by};
 
 use super::counts::{CountReply, Counts, Pass};
 use super::entries::Entries;
+use super::quiet::Met;
 use super::share::{Entry, Share};
 use super::visits::{memory_of, number_of, visit_each};
 use node_chain::{Pack, StoredChain};
@@ -288,23 +289,32 @@ fn pass_left<R: Wait, C: Counts>(
     requires { AllByRecursion (λ e. e.text ≡ text.now → e.hash ≡ hash) entries.old.left }
     ensures { IsPassLeft C.adds C.dies (Some text.now) counts.old entries.old result counts.new entries.new }
 {
-    while let Some(entry) = entries.look() {
-        if entry.is_of(text, hash) {
-            match counts.add(rt, entry) {
-                CountReply::Added(share) => {
-                    prune_after(entries, counts);
-                    return Pass::Found(share);
+    while let Some(met) = entries.keep_quiet(Some(hash), counts) {
+        match met {
+            Met::Nothing => {}
+            Met::Dying(_) => entries.take_out(),
+            Met::Alike(_) => {
+                let Some(entry) = entries.look() else {
+                    unreachable!()
+                };
+                if entry.is_of(text, hash) {
+                    match counts.add(rt, entry) {
+                        CountReply::Added(share) => {
+                            prune_after(entries, counts);
+                            return Pass::Found(share);
+                        }
+                        CountReply::Full => {
+                            prune_after(entries, counts);
+                            return Pass::Full;
+                        }
+                        CountReply::Dying => entries.take_out(),
+                    }
+                } else if counts.dying(entry) {
+                    entries.take_out();
+                } else {
+                    entries.keep();
                 }
-                CountReply::Full => {
-                    prune_after(entries, counts);
-                    return Pass::Full;
-                }
-                CountReply::Dying => entries.take_out(),
             }
-        } else if counts.dying(entry) {
-            entries.take_out();
-        } else {
-            entries.keep();
         }
     }
     Pass::Absent
@@ -323,11 +333,11 @@ fn prune_after<C: Counts>(decided: &mut Entries, counts: &mut C)
 fn prune_left<C: Counts>(entries: &mut Entries, counts: &mut C)
     ensures { IsPassLeft C.adds C.dies None counts.old entries.old Pass.Absent counts.new entries.new }
 {
-    while let Some(entry) = entries.look() {
-        if counts.dying(entry) {
-            entries.take_out();
-        } else {
-            entries.keep();
+    while let Some(met) = entries.keep_quiet(None, counts) {
+        match met {
+            Met::Nothing => {}
+            Met::Dying(_) => entries.take_out(),
+            Met::Alike(_) => unreachable!(),
         }
     }
 }

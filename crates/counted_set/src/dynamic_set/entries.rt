@@ -1,10 +1,13 @@
 //! The entries of a bucket, with a place in them. Only this file knows how they are kept.
 
 ghost use Rattle.std.specs.Prelude.{◌≡◌, ◌+◌, ◌<◌, ◌≤◌, ◌∷◌, ◌++◌, [], length, IfOk, IfErr};
+ghost use Rattle.counted_set.specs.Quiet.{PassesQuiet};
 ghost use Rattle.counted_set.specs.Stored.{AreStored};
 ghost use Rattle.node_chain.specs.Packs.{joined};
 ghost use Rattle.node_chain.specs.Walked.{IsNext, at_start, passed_by, taken_out};
 
+use super::counts::Counts;
+use super::quiet::{Met, meet_from};
 use super::share::Entry;
 use node_chain::{Node, NodeChain, Pack, StoredChain};
 use std::alloc::{AllocFailed, Global};
@@ -88,6 +91,28 @@ impl Entries {
             self.chain.keep();
             self.at = 0;
         }
+    }
+
+    /// Asks the entries that are left of the first node whether they are dying, in order, and passes those by that aren't, until one is or
+    /// has the wanted hash: that one is then the next. `None` where no entry is left.
+    pub(super) fn keep_quiet<C: Counts>(
+        &mut self,
+        wanted: Option<u64>,
+        counts: &mut C,
+    ) -> Option<Met>
+        ensures { PassesQuiet C.dies wanted counts.old self.old result counts.new self.new }
+    {
+        let node = self.chain.look()?;
+        let met = meet_from(node, self.at, wanted, counts);
+        match met {
+            Met::Nothing => {
+                self.chain.keep();
+                self.at = 0;
+            }
+            Met::Dying(place) => self.at = place,
+            Met::Alike(place) => self.at = place,
+        }
+        Some(met)
     }
 
     /// Takes the next entry out, and frees it, and its node where that has no other.

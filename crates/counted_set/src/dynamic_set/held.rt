@@ -7,7 +7,7 @@ ghost use types.Logic.{sem};
 use super::set::Set;
 use super::share::Share;
 use counted_cell::{CellShare, Receipt};
-use std::marker::Model;
+use std::marker::{Model, PhantomData};
 use std::sync::Wait;
 use text_forms::Fault;
 use text_forms::static_sets::StaticTables;
@@ -55,6 +55,32 @@ impl<'s, Static: StaticTables> Held<'s, Static> {
         }
     }
 
+    /// The share alone. `of_share` makes the same of it again, with the same set.
+    #[doc(hidden)]
+    #[inline]
+    pub fn into_share(self) -> HeldShare<Static>
+        ensures { result ≡ self.entry }
+    {
+        let Self { share, set: _ } = self;
+        HeldShare {
+            counted: share,
+            of: PhantomData,
+        }
+    }
+
+    /// The share with its set, which is the one that it was taken from.
+    #[doc(hidden)]
+    #[inline]
+    pub fn of_share(share: HeldShare<Static>, set: &'s Set<Static>) -> Held<'s, Static>
+        ensures { result ≡ share }
+    {
+        let HeldShare { counted, of: _ } = share;
+        Held {
+            share: counted,
+            set,
+        }
+    }
+
     /// Takes the share off the entry's count, and tries the bucket's lock where it was the last.
     #[inline]
     fn give(self) -> Receipt
@@ -88,7 +114,7 @@ impl<'s, Static: StaticTables> Held<'s, Static> {
     }
 
     /// One share more of the same entry, by a single try that waits for nothing. `None` where another step on the count came between, or the
-    /// entry has as many as it may have: then nothing has changed, and `clone_share` tells which.
+    /// entry has as many as it may have: then nothing has changed. `clone_share` tries on, and tells a full count.
     #[inline]
     pub fn try_clone_share(&self) -> Option<Held<'s, Static>>
         ensures { IfSome result (λ held. held ≡ self.now) }
@@ -114,5 +140,51 @@ impl<'s, Static: StaticTables> Held<'s, Static> {
             }),
             Err(_) => Err(Fault::FullCount),
         }
+    }
+}
+
+/// One share of an entry, without its set, for who holds many shares of one set.
+///
+/// It has no drop, so that none can be lost or given twice: it ends as a `Held`, which `Held::of_share` makes of it.
+#[doc(hidden)]
+pub struct HeldShare<Static: StaticTables> {
+    counted: CellShare,
+    of: PhantomData<Static>,
+}
+
+impl<Static: StaticTables> Model for HeldShare<Static> {
+    ghost use Rattle.counted_set.specs.Chain.{IsRight, Linked};
+
+    ghost Value = { Linked };
+
+    ghost use Rattle.counted_set.specs.Share.{linked_of};
+
+    ghost view = { λ h. linked_of h.counted.cell };
+
+    ghost invariant = { λ h. IsRight Static.tables (linked_of h.counted.cell) };
+}
+
+impl<Static: StaticTables> HeldShare<Static> {
+    /// The entry's text.
+    pub fn text(&self) -> &str
+        ensures { result.now ≡ self.now.text }
+    {
+        self.counted.text()
+    }
+
+    /// One share more of the same entry, with its set, which is the one that this share was taken from. It is refused for `FullCount`
+    /// alone, where the entry has as many as it may have.
+    pub fn clone_held<'s, R: Wait>(
+        &self,
+        rt: &R,
+        set: &'s Set<Static>,
+    ) -> Result<Held<'s, Static>, Fault>
+        ensures same { IfOk result (λ held. held ≡ self.now) }
+        ensures full { IfErr result (λ fault. fault ≡ Fault.FullCount) }
+    {
+        let Ok(share) = self.counted.add(rt) else {
+            return Err(Fault::FullCount);
+        };
+        Ok(Held { share, set })
     }
 }

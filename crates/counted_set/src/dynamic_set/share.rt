@@ -87,11 +87,18 @@ impl Entry {
         self.owner.count().shares()
     }
 
+    /// Whether this is the hash of its text.
+    pub(super) fn has_hash(&self, hash: u64) -> bool
+        ensures { IsTrue result ↔ (self.now.hash ≡ hash) }
+    {
+        self.owner.label().hash == hash
+    }
+
     /// Whether it is the entry of a text with this hash.
     pub(super) fn is_of(&self, text: &str, hash: u64) -> bool
         ensures { IsTrue result ↔ ((self.now.hash ≡ hash) × (self.now.text ≡ text.now)) }
     {
-        self.owner.label().hash == hash && self.owner.text() == text
+        self.has_hash(hash) && self.owner.text() == text
     }
 
     /// One share more, unless the entry is dying or has as many as it may have: what its cell answers.

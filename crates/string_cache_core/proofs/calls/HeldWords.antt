@@ -13,41 +13,41 @@ use Rattle.string_cache_core.specs.Kept.{Kept, map_of, IsSoundMap}
 use Rattle.string_cache_core.specs.Places.{IsPlace}
 use Rattle.string_cache_core.specs.Table.{IsTextOf, IsHeld, IsFixedWord, HasWord, HasWordBy}
 use Rattle.text_forms.specs.Tables.{Tables, place_in, text_at, entry_hash, form_of_text, fixed_word, IsStaticIndex}
-use Rattle.text_forms.specs.Word.{inline_word, static_word, ticket_of, IsInlineWord, IsStaticWord, IsTicketWord}
+use Rattle.text_forms.specs.Word.{static_word, ticket_of, IsInlineWord, IsStaticWord, IsTicketWord}
 use Rattle.text_forms.proofs.words.Unpacking.{inline_word_tag}
 
 -- ---- the form of a text
 
-abbrev pub form_by : Bool → Bool → ℕ → ℕ → ℕ → TextForm
-form_by long there place hash word = if long then (if there then Static place else Dynamic hash) else Inline word
+abbrev pub form_by : Bool → Bool → ℕ → ℕ → List ℕ → TextForm
+form_by long there place hash text = if long then (if there then Static place else Dynamic hash) else Inline text
 
-static_by : (long there : Bool) (place hash word index : ℕ) → form_by long there place hash word ≡ Static index → (place ≡ index) × (there ≡ true)
-static_by true true place hash word index e = (cc, refl)
-static_by true false place hash word index e = cc
-static_by false there place hash word index e = cc
+static_by : (long there : Bool) (place hash index : ℕ) (text : List ℕ) → form_by long there place hash text ≡ Static index → (place ≡ index) × (there ≡ true)
+static_by true true place hash index text e = (cc, refl)
+static_by true false place hash index text e = cc
+static_by false there place hash index text e = cc
 
-dynamic_by : (long there : Bool) (place hash word own : ℕ) → form_by long there place hash word ≡ Dynamic own → own ≡ hash
-dynamic_by true true place hash word own e = cc
-dynamic_by true false place hash word own e = cc
-dynamic_by false there place hash word own e = cc
+dynamic_by : (long there : Bool) (place hash own : ℕ) (text : List ℕ) → form_by long there place hash text ≡ Dynamic own → own ≡ hash
+dynamic_by true true place hash own text e = cc
+dynamic_by true false place hash own text e = cc
+dynamic_by false there place hash own text e = cc
 
 -- a static text stands at its index
 pub static-text : (t : Tables) (text : List ℕ) (index : ℕ) → form_of_text t text ≡ Static index → text_at t index ≡ text
 static-text t text index e =
-    let parts = static_by (nat_lt 7 (length text)) (bytes_eq (text_at t (place_in t text)) text) (place_in t text) (entry_hash t text) (inline_word text) index e in
+    let parts = static_by (nat_lt 7 (length text)) (bytes_eq (text_at t (place_in t text)) text) (place_in t text) (entry_hash t text) index text e in
     ap (text_at t) (sym parts.0) ∙ (bytes_eq-Decides (text_at t (place_in t text)) text).0 parts.1
 
 pub dynamic-hash : (t : Tables) (text : List ℕ) (hash : ℕ) → form_of_text t text ≡ Dynamic hash → hash ≡ entry_hash t text
-dynamic-hash t text hash e = dynamic_by (nat_lt 7 (length text)) (bytes_eq (text_at t (place_in t text)) text) (place_in t text) (entry_hash t text) (inline_word text) hash e
+dynamic-hash t text hash e = dynamic_by (nat_lt 7 (length text)) (bytes_eq (text_at t (place_in t text)) text) (place_in t text) (entry_hash t text) hash text e
 
-fixed_by : (long there : Bool) (place hash word : ℕ) → fixed_word (form_by long there place hash word) ≡ None → long ≡ true
-fixed_by true there place hash word e = refl
-fixed_by false there place hash word e = cc
+fixed_by : (long there : Bool) (place hash : ℕ) (text : List ℕ) → fixed_word (form_by long there place hash text) ≡ None → long ≡ true
+fixed_by true there place hash text e = refl
+fixed_by false there place hash text e = cc
 
 -- a text without a word that its form fixes has more than 7 bytes
 pub long-unless-fixed : (t : Tables) (text : List ℕ) → fixed_word (form_of_text t text) ≡ None → 7 < length text
 long-unless-fixed t text e =
-    ltb-true 7 (length text) (fixed_by (nat_lt 7 (length text)) (bytes_eq (text_at t (place_in t text)) text) (place_in t text) (entry_hash t text) (inline_word text) e)
+    ltb-true 7 (length text) (fixed_by (nat_lt 7 (length text)) (bytes_eq (text_at t (place_in t text)) text) (place_in t text) (entry_hash t text) text e)
 
 -- a shorter one isn't held
 pub short-not-held : (t : Tables) (m : InternMap) → IsSoundMap t m → (text : List ℕ) → length text ≤ 7 → m.held text ≡ None

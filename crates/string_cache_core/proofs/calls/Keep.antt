@@ -61,7 +61,7 @@ module _ (t : Tables) (m : InternMap) (text : List ℕ) (word : ℕ) (utf8 : IsU
 pub owned-short : (t : Tables) (m : InternMap) (text : List ℕ) (word : ℕ) → HasWord t m text word → length text ≤ 7 → word ≡ inline_word text
 owned-short t m text word owned short =
     let test : nat_lt 7 (length text) ≡ false = le-ltb 7 (length text) short in
-    let inline : form_of_text t text ≡ form.Inline (inline_word text) = rw test refl in
+    let inline : form_of_text t text ≡ form.Inline text = rw test refl in
     subst (λ (f : TextForm). HasWordBy m text (fixed_word f) word) inline owned
 
 -- the word that a text's form fixes
@@ -70,8 +70,8 @@ fixed-of-form t text word utf8 fixed = by (form_of_text t text) refl fixed
   where
     by : (f : TextForm) → form_of_text t text ≡ f → fixed_word f ≡ Some word → IsFixedWord t word
     by (form.Inline own) e is =
-        let parts = inline_by (nat_lt 7 (length text)) (bytes_eq (text_at t (place_in t text)) text) (place_in t text) (entry_hash t text) (inline_word text) own e in
-        inl (text, (utf8, ltb-false 7 (length text) parts.0), parts.1 ∙ same_Some own word is)
+        let parts = inline_by (nat_lt 7 (length text)) (bytes_eq (text_at t (place_in t text)) text) (place_in t text) (entry_hash t text) text own e in
+        inl (text, (utf8, ltb-false 7 (length text) parts.0), ap inline_word parts.1 ∙ same_Some (inline_word own) word is)
     by (form.Static index) e is = fixed_if_static t text index word e (sym (same_Some (static_word index) word is))
     by (form.Dynamic hash) e is = absurd (none-some _ is)
 

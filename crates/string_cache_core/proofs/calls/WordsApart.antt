@@ -12,10 +12,10 @@ use Rattle.text_forms.specs.Word.{inline_word, static_word, IsInlineText}
 use Rattle.text_forms.proofs.words.Unpacking.{inline_word_same}
 use Rattle.string_cache_core.proofs.calls.HeldWords.{form_by, static-text, held-tag}
 
-pub inline_by : (long there : Bool) (place hash own word : ℕ) → form_by long there place hash own ≡ Inline word → (long ≡ false) × (own ≡ word)
-inline_by true true place hash own word e = cc
-inline_by true false place hash own word e = cc
-inline_by false there place hash own word e = (refl, cc)
+pub inline_by : (long there : Bool) (place hash : ℕ) (text own : List ℕ) → form_by long there place hash text ≡ Inline own → (long ≡ false) × (text ≡ own)
+inline_by true true place hash text own e = cc
+inline_by true false place hash text own e = cc
+inline_by false there place hash text own e = (refl, cc)
 
 upto : (n : ℕ) → nat_lt 7 n ≡ false → n ≤ 7
 upto n e = ltb-false 7 n e
@@ -32,8 +32,8 @@ has t m text word utf8 h = by (form_of_text t text) refl h
   where
     by : (form : TextForm) → form_of_text t text ≡ form → HasWordBy m text (fixed_word form) word → Has t m text word
     by (Inline own) e w =
-        let parts = inline_by (nat_lt 7 (length text)) (bytes_eq (text_at t (place_in t text)) text) (place_in t text) (entry_hash t text) (inline_word text) own e in
-        inl ((utf8, upto (length text) parts.0), w ∙ sym parts.1)
+        let parts = inline_by (nat_lt 7 (length text)) (bytes_eq (text_at t (place_in t text)) text) (place_in t text) (entry_hash t text) text own e in
+        inl ((utf8, upto (length text) parts.0), w ∙ ap inline_word (sym parts.1))
     by (Static index) e w = inr (inl (index, e, w))
     by (Dynamic hash) e w = inr (inr w)
 

@@ -29,7 +29,7 @@ impl<S: StaticTables> Table<S> {
             return Some(ticket);
         }
         match form_of_text::<S>(text) {
-            TextForm::Inline(word) => Some(word),
+            TextForm::Inline(inline) => Some(inline.word()),
             TextForm::Static(index) => Some(static_word(index)),
             TextForm::Dynamic(_) => None,
         }

@@ -5,9 +5,9 @@ use std::alloc::Global;
 use std::io::Print;
 use std::process::Abort;
 use std::sync::Wait;
-use string_cache::EmptyStaticAtomSet;
 use string_cache::dynamic_set::Set;
 use string_cache::word::{Buckets, Limits};
+use string_cache::{AtomList, EmptyStaticAtomSet, Fault};
 use test_calls::interned;
 use test_refusals::{End, begin, finish};
 
@@ -72,4 +72,25 @@ fn second_text_of_a_node(rt: HostRuntime) {
 #[test]
 fn short_text(rt: HostRuntime) {
     intern(&rt, &new_set(&rt, rt.alloc()), "short");
+}
+
+/// Pushes an inline text and a dynamic one that is there, in turn, up to four places.
+fn push_four<R: Wait>(rt: &R, list: &mut AtomList<'_, EmptyStaticAtomSet>) -> Result<(), Fault> {
+    for text in ["ab", "interned", "", "interned"] {
+        list.push_str(rt, text)?;
+    }
+    Ok(())
+}
+
+/// A place has 16 bytes.
+#[test]
+fn list_of_four_places(rt: HostRuntime) {
+    let set = new_set(&rt, rt.alloc());
+    let atom = interned(&rt, &set, "interned").expect(&rt, "an atom");
+    let mut list = AtomList::new(&set);
+    begin(&rt);
+    let answer = push_four(&rt, &mut list);
+    finish(&rt, End::Given);
+    tell(&rt, 4 * 16);
+    assert!(rt; answer == Ok(()) && list.len() == 4 && atom.as_str() == "interned");
 }

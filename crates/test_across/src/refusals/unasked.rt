@@ -10,7 +10,7 @@ use string_cache::dynamic_set::Set;
 use string_cache::static_sets::StaticAtomSet;
 use string_cache::table::Table;
 use string_cache::word::{Buckets, Limits};
-use string_cache::{Atom, DefaultAtom, EmptyStaticAtomSet, Fault};
+use string_cache::{Atom, AtomList, DefaultAtom, EmptyStaticAtomSet, Fault};
 use test_calls::{cloned, interned, look_up};
 use test_refusals::{End, begin, finish};
 use test_samples::One;
@@ -282,4 +282,27 @@ fn table_is_looked_into(rt: HostRuntime) {
     finish(&rt, End::Given);
     assert!(rt; is_told && table.entries() == 0);
     assert!(rt; bytes == 4096 * 8 + 496 + 208 + 1); // the groups stay
+}
+
+/// Whether a list of "interned" is read and cleared, and a second one is made without places.
+fn are_read_and_cleared<R: Wait>(
+    rt: &R,
+    set: &Set<EmptyStaticAtomSet>,
+    list: &mut AtomList<'_, EmptyStaticAtomSet>,
+) -> Result<bool, Fault> {
+    let has_text = list.get(0) == Some("interned") && list.iter().len() == 1;
+    let is_cloned = list.clone_atom(rt, 0)?.is_some();
+    list.clear();
+    Ok(has_text && is_cloned && list.pop().is_none() && AtomList::new(set).is_empty())
+}
+
+#[test]
+fn list_is_read_and_cleared(rt: HostRuntime) {
+    let set: Set<EmptyStaticAtomSet> = new_set(&rt, rt.alloc());
+    let mut list = AtomList::new(&set);
+    list.push_str(&rt, "interned").expect(&rt, "a place");
+    begin(&rt);
+    let are_right = are_read_and_cleared(&rt, &set, &mut list);
+    finish(&rt, End::Given);
+    assert!(rt; are_right == Ok(true) && set.linked(&rt) == 0);
 }

@@ -2,7 +2,7 @@ use Rattle.string_cache_c.proofs.WithinLemmas.{if_open}
 use Rattle.string_cache_c.proofs.reading.sc_table_text.Goals as goal
 
 pub returns-clause-text : goal.returns-clause-text
-returns-clause-text c = if_open _ _ c.in-Some.numbered.value c.deref.result.now c.in-Some.ensures.taken c.deref.ensures c.text-number.ensures.text
+returns-clause-text c = if_open _ _ c.in-Some.numbered.now c.in-Some.ensures c.text.ensures.text
 
 pub returns-clause-unheld : goal.returns-clause-unheld
-returns-clause-unheld c = if_open _ _ c.in-Some.numbered.value c.deref.result.now c.in-Some.ensures.taken c.deref.ensures c.text-number.ensures.unheld
+returns-clause-unheld c = if_open _ _ c.in-Some.numbered.now c.in-Some.ensures c.text.ensures.unheld

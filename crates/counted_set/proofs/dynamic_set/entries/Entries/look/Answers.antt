@@ -7,4 +7,4 @@ use Rattle.counted_set.proofs.dynamic_set.entries.Entries.look.Goals as goal
 pub returns-in-Some : goal.returns-in-Some
 returns-in-Some c =
     let s = c.self.inside in
-    subst (λ (w : Walked Linked). IsNext w.left c.get.result) c.self.view_is (seen_at s.at s.chain c.in-Some.pack.now c.in-Some.ensures.0 c.self.invariant c.in-Some.ensures.1 c.get.result c.get.ensures)
+    subst (λ (w : Walked Linked). IsNext w.left c.get.result) c.self.view_is (seen_at s.at s.chain c.in-Some.pack.now c.in-Some.ensures.0 c.self.invariant c.in-Some.ensures.1 c.get.result c.get.ensures.item)

@@ -1,0 +1,65 @@
+//! Requests for memory of the language itself, refused: a shared interner says so, and leaves nothing.
+
+use interned_names::{Fault, SharedInterner};
+use std::alloc::{GlobalAlloc, Layout, System};
+use std::cell::Cell;
+use std::ptr;
+
+thread_local! {
+    /// Whether this thread's next request is refused.
+    static IS_REFUSED: Cell<bool> = const { Cell::new(false) };
+    /// How many blocks this thread has.
+    static BLOCKS: Cell<isize> = const { Cell::new(0) };
+}
+
+/// The system's memory, which refuses a request where it is told so.
+struct Refusing;
+
+// SAFETY: all blocks are the system's.
+unsafe impl GlobalAlloc for Refusing {
+    unsafe fn alloc(&self, layout: Layout) -> *mut u8 {
+        if IS_REFUSED.with(|is| is.replace(false)) {
+            return ptr::null_mut();
+        }
+        BLOCKS.with(|blocks| blocks.set(blocks.get() + 1));
+        unsafe { System.alloc(layout) }
+    }
+
+    unsafe fn dealloc(&self, block: *mut u8, layout: Layout) {
+        BLOCKS.with(|blocks| blocks.set(blocks.get() - 1));
+        unsafe { System.dealloc(block, layout) }
+    }
+}
+
+#[global_allocator]
+static MEMORY: Refusing = Refusing;
+
+#[test]
+fn a_request_for_shards_is_refused() {
+    let before = BLOCKS.with(Cell::get);
+    IS_REFUSED.with(|is| is.set(true));
+    let refused = SharedInterner::<()>::with_limits(3, 9, 9, 0).err();
+    assert!(!IS_REFUSED.with(Cell::get));
+    assert_eq!((refused, BLOCKS.with(Cell::get)), (Some(Fault::Memory), before));
+    let names = SharedInterner::with_limits(3, 9, 9, 0).expect("an interner");
+    assert_eq!(names.intern("a longer name").map(|symbol| symbol.name()).as_deref(), Ok("a longer name"));
+}
+
+#[test]
+fn limits_that_are_refused_leave_nothing() {
+    let before = BLOCKS.with(Cell::get);
+    assert_eq!(SharedInterner::<()>::with_limits(3, 0, 9, 0).err(), Some(Fault::NotLimits));
+    assert_eq!(BLOCKS.with(Cell::get), before);
+}
+
+/// Interning and giving back ask the language for nothing.
+#[test]
+fn interning_asks_for_none() {
+    let names = SharedInterner::new().expect("an interner");
+    IS_REFUSED.with(|is| is.set(true));
+    let symbol = names.intern("a longer name").expect("a symbol");
+    let copy = symbol.clone();
+    assert!(symbol == copy && names.get("a longer name").is_ok_and(|found| found.is_some()));
+    drop((symbol, copy));
+    assert!(names.is_empty() && IS_REFUSED.with(|is| is.replace(false)));
+}

@@ -1,0 +1,191 @@
+//! What threads ask of an interner that they share.
+
+use interned_names::{hashes_of, Fault, SharedInterner, SharedSymbol, Symbol};
+use std::collections::{HashMap, HashSet};
+use std::thread;
+
+fn new_interner() -> SharedInterner {
+    SharedInterner::new().expect("an interner")
+}
+
+fn intern<'a>(names: &'a SharedInterner, name: &str) -> SharedSymbol<'a> {
+    names.intern(name).expect("a symbol")
+}
+
+fn numbered(number: usize) -> String {
+    match number % 8 {
+        0 => format!("n{number}"),
+        _ => format!("name number {number}"),
+    }
+}
+
+#[test]
+fn it_is_shared_and_sent() {
+    fn is_shared<T: Send + Sync>() {}
+    is_shared::<SharedInterner>();
+    is_shared::<SharedSymbol<'static>>();
+}
+
+#[test]
+fn a_symbol_has_its_name() {
+    let names = new_interner();
+    for name in ["", "a", "1234567", "12345678", "é", "日本語の長い名前", "\0\0\0\0\0\0\0\0\0", &"x".repeat(1 << 20)] {
+        let symbol = intern(&names, name);
+        assert_eq!((symbol.name(), symbol.to_string(), format!("{symbol:?}")), (name.into(), name.into(), format!("{name:?}")));
+        assert_eq!(symbol, intern(&names, &name.to_owned()));
+        assert_eq!(names.get(name), Ok(Some(symbol.clone())));
+        assert_eq!(symbol.holders(), (name.len() > 7).then_some(1));
+    }
+    assert!(names.is_empty());
+}
+
+#[test]
+fn a_name_goes_with_its_last_symbol() {
+    let names = new_interner();
+    let first = intern(&names, "a longer name");
+    let copy = first.clone();
+    assert_eq!((names.len(), names.text_bytes(), copy.holders(), copy.interner().len()), (1, 13, Some(2), 1));
+    let symbol = first.symbol();
+    drop(first);
+    assert_eq!((copy.name().as_str(), copy.holders()), ("a longer name", Some(1)));
+    drop(copy);
+    assert_eq!((names.len(), names.text_bytes(), names.get("a longer name")), (0, 0, Ok(None)));
+    assert!(!names.lock_symbol(symbol).is_held() && !names.lock_symbol(symbol).release());
+    assert_ne!(intern(&names, "a longer name").symbol(), symbol);
+}
+
+#[test]
+fn symbols_of_two_interners_differ() {
+    let (names, others) = (new_interner(), new_interner());
+    assert_ne!(intern(&names, "a longer name"), intern(&others, "a longer name"));
+    assert_ne!(intern(&names, "short"), intern(&others, "short"));
+    assert_eq!(intern(&names, "short").symbol(), intern(&others, "short").symbol());
+}
+
+/// The first tickets of all shards are the same number.
+#[test]
+fn two_names_never_share_a_symbol() {
+    for (shard_bits, bucket_bits, count) in [(0, 14, 3000), (0, 0, 3000), (3, 4, 3000), (6, 0, 40_000), (6, 6, 40_000), (14, 0, 3000)] {
+        let names = SharedInterner::<()>::with_limits(shard_bits, 9, 1 << 40, bucket_bits).expect("an interner");
+        let symbols: Vec<SharedSymbol<'_>> = (0..count).map(|number| intern(&names, &numbered(number))).collect();
+        assert_eq!(symbols.iter().map(SharedSymbol::symbol).collect::<HashSet<Symbol>>().len(), count);
+        assert!(symbols.iter().enumerate().all(|(number, symbol)| symbol.name() == numbered(number)));
+    }
+}
+
+#[test]
+fn any_symbol_may_be_asked_for() {
+    let names = SharedInterner::<()>::with_limits(3, 9, 9, 4).expect("an interner");
+    let held = intern(&names, "a longer name");
+    for other in (0..64).filter_map(|shift| Symbol::from_word(held.symbol().word() ^ 1 << shift)) {
+        let mut locked = names.lock_symbol(other);
+        assert!(!locked.is_held() && locked.resolve().is_none() && locked.holders().is_none() && !locked.release());
+        assert_eq!(locked.hold(), Err(Fault::NotHeld));
+    }
+    assert_eq!(held.holders(), Some(1));
+}
+
+#[test]
+fn limits_are_kept() {
+    let names = SharedInterner::<()>::with_limits(0, 2, 1, 0).expect("an interner");
+    let symbol = intern(&names, "a longer name");
+    let _copy = symbol.clone();
+    assert_eq!(symbol.try_clone(), Err(Fault::FullCount));
+    assert_eq!(names.intern("a longer name"), Err(Fault::FullCount));
+    assert_eq!(names.get("a longer name"), Err(Fault::FullCount));
+    assert_eq!(names.intern("another long name"), Err(Fault::TicketsSpent));
+    assert_eq!(symbol.holders(), Some(2));
+    let rows = [(2, 0, 1, 2), (2, 1, 0, 2), (2, 1 << 63, 1, 2), (2, 1, 1 << 48, 2), (15, 1, 1, 0), (7, 1, 1, 8), (0, 1, 1, 15)];
+    for (shards, holders, tickets, bits) in rows {
+        assert_eq!(SharedInterner::<()>::with_limits(shards, holders, tickets, bits).err(), Some(Fault::NotLimits));
+    }
+}
+
+#[test]
+fn memory_is_told() {
+    let names = SharedInterner::<()>::with_limits(3, 9, 9, 0).expect("an interner");
+    let empty = names.memory();
+    assert!(empty >= 8 * 64);
+    let symbol = intern(&names, "a longer name");
+    assert_eq!(names.memory(), empty + 13 + 496 + 208 + 1);
+    drop(symbol);
+    assert_eq!(names.memory(), empty + 496 + 208 + 1);
+    assert_eq!(format!("{names:?}"), "SharedInterner(0 names)");
+}
+
+/// How often each name of a shard was locked.
+#[test]
+fn a_program_keeps_more_beside_its_names() {
+    let names = SharedInterner::<HashMap<Symbol, u32>>::with_limits(2, 99, 99, 0).expect("an interner");
+    for number in (0..40).chain(0..40) {
+        let name = format!("name number {number}");
+        let mut locked = names.lock_hashed(&name, hashes_of(&name, 0));
+        let symbol = locked.intern().expect("a symbol");
+        assert_eq!(locked.get(), Some(symbol));
+        *locked.beside().entry(symbol).or_default() += 1;
+    }
+    for number in 0..40 {
+        let symbol = names.lock_name(&format!("name number {number}")).get().expect("a name that is held");
+        let mut locked = names.lock_symbol(symbol);
+        assert_eq!((locked.holders(), locked.beside().remove(&symbol)), (Some(2), Some(2)));
+        assert!(locked.release() && locked.release() && !locked.is_held());
+    }
+}
+
+/// What one thread does: it holds, copies, reads and drops the symbols of many names.
+fn work(names: &SharedInterner, seed: usize) {
+    const NAMES: usize = 100;
+    let mut held: HashMap<usize, Vec<SharedSymbol<'_>>> = HashMap::new();
+    for step in 0..1500 {
+        let number = (step * 31 + seed * 17) % NAMES;
+        let own = held.entry(number).or_default();
+        match (step % 4, own.first().cloned()) {
+            (0, _) | (_, None) => own.push(intern(names, &numbered(number))),
+            (1, Some(copy)) => own.push(copy),
+            (2, _) => drop(own.pop()),
+            (_, Some(symbol)) => assert_eq!(symbol.name(), numbered(number)),
+        }
+        assert!(own.iter().all(|symbol| *symbol == own[0]));
+    }
+    assert!(names.len() <= NAMES && names.memory() > names.text_bytes());
+}
+
+fn threads_share(count: usize, shard_bits: u8) {
+    let interner = SharedInterner::with_limits(shard_bits, 1 << 62, 1 << 47, 2).expect("an interner");
+    let names = &interner;
+    thread::scope(|scope| {
+        let threads: Vec<_> = (0..count).map(|seed| scope.spawn(move || work(names, seed))).collect();
+        assert!(threads.into_iter().all(|thread| thread.join().is_ok()));
+    });
+    assert_eq!((names.len(), names.text_bytes()), (0, 0));
+}
+
+#[test]
+fn two_threads_share() {
+    threads_share(2, 0);
+    threads_share(2, 6);
+}
+
+#[test]
+fn eight_threads_share() {
+    threads_share(8, 1);
+    threads_share(8, 6);
+}
+
+#[test]
+fn sixty_four_threads_share() {
+    threads_share(64, 0);
+    threads_share(64, 6);
+}
+
+/// Threads find one another's names, and see one symbol for each.
+#[test]
+fn threads_agree() {
+    let names = new_interner();
+    let found: Vec<Vec<SharedSymbol<'_>>> = thread::scope(|scope| {
+        let threads: Vec<_> = (0..8).map(|_| scope.spawn(|| (0..500).map(|number| intern(&names, &numbered(number))).collect())).collect();
+        threads.into_iter().map(|thread| thread.join().expect("a thread")).collect()
+    });
+    assert!(found.iter().all(|symbols| *symbols == found[0]));
+    assert!(found[0].iter().all(|symbol| symbol.holders().unwrap_or(8) == 8));
+}

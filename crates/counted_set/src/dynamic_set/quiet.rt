@@ -1,0 +1,111 @@
+//! Asks the entries of a node in order, as long as they stay. Straight on from place to place, since a walk over a bucket does little else.
+
+ghost use Rattle.std.specs.Prelude.{◌≡◌, ◌≤◌, ◌<◌, ◌∷◌, ◌↔◌, [], IsTrue, Some, length, drop};
+ghost use Rattle.counted_set.specs.Quiet.{Meets};
+ghost use Rattle.node_chain.specs.Packs.{most_items};
+
+use super::counts::Counts;
+use super::share::Entry;
+use node_chain::Pack;
+
+/// What a walk over entries meets that ends it. An entry that was asked and isn't dying is quiet.
+#[derive(Clone, Copy, Drop)]
+pub(super) enum Met {
+    /// Nothing: all are quiet.
+    Nothing,
+    /// The entry at this place of its node, which was asked, and is dying.
+    Dying(usize),
+    /// The entry at this place of its node, which has the wanted hash. It wasn't asked.
+    Alike(usize),
+}
+
+/// Asks the entries of a node from a place on, at which there is one, until one is dying or has the wanted hash.
+pub(super) fn meet_from<C: Counts>(
+    node: &Pack<Entry>,
+    place: usize,
+    wanted: Option<u64>,
+    counts: &mut C,
+) -> Met
+    requires { place < length node.now }
+    ensures { Meets C.dies wanted place counts.old (drop place node.now) result counts.new }
+{
+    match place {
+        0 => meet_all(node, wanted, counts),
+        1 => meet_from_second(node, wanted, counts),
+        2 => meet_from_third(node, wanted, counts),
+        _ => meet_fourth(node, wanted, counts),
+    }
+}
+
+// All entries of a node.
+fn meet_all<C: Counts>(node: &Pack<Entry>, wanted: Option<u64>, counts: &mut C) -> Met
+    ensures { Meets C.dies wanted 0 counts.old (drop 0 node.now) result counts.new }
+{
+    match node.get(0) {
+        Some(entry) => match meet(entry, 0, wanted, counts) {
+            Met::Nothing => meet_from_second(node, wanted, counts),
+            met => met,
+        },
+        None => Met::Nothing,
+    }
+}
+
+// Those behind the first.
+fn meet_from_second<C: Counts>(node: &Pack<Entry>, wanted: Option<u64>, counts: &mut C) -> Met
+    ensures { Meets C.dies wanted 1 counts.old (drop 1 node.now) result counts.new }
+{
+    match node.get(1) {
+        Some(entry) => match meet(entry, 1, wanted, counts) {
+            Met::Nothing => meet_from_third(node, wanted, counts),
+            met => met,
+        },
+        None => Met::Nothing,
+    }
+}
+
+// Those behind the second.
+fn meet_from_third<C: Counts>(node: &Pack<Entry>, wanted: Option<u64>, counts: &mut C) -> Met
+    ensures { Meets C.dies wanted 2 counts.old (drop 2 node.now) result counts.new }
+{
+    match node.get(2) {
+        Some(entry) => match meet(entry, 2, wanted, counts) {
+            Met::Nothing => meet_fourth(node, wanted, counts),
+            met => met,
+        },
+        None => Met::Nothing,
+    }
+}
+
+// The fourth, behind which there is none.
+fn meet_fourth<C: Counts>(node: &Pack<Entry>, wanted: Option<u64>, counts: &mut C) -> Met
+    ensures met { Meets C.dies wanted 3 counts.old (drop 3 node.now) result counts.new }
+    ensures few { length node.now ≤ most_items }
+{
+    match node.get(3) {
+        Some(entry) => meet(entry, 3, wanted, counts),
+        None => Met::Nothing,
+    }
+}
+
+// One entry, at this place of its node.
+fn meet<C: Counts>(entry: &Entry, place: usize, wanted: Option<u64>, counts: &mut C) -> Met
+    ensures { Meets C.dies wanted place counts.old (entry.now ∷ []) result counts.new }
+{
+    if is_alike(entry, wanted) {
+        Met::Alike(place)
+    } else if counts.dying(entry) {
+        Met::Dying(place)
+    } else {
+        Met::Nothing
+    }
+}
+
+// Whether a hash is wanted, and is the entry's.
+fn is_alike(entry: &Entry, wanted: Option<u64>) -> bool
+    ensures { IsTrue result ↔ (wanted ≡ Some entry.now.hash) }
+{
+    match wanted {
+        Some(hash) => entry.has_hash(hash),
+        None => false,
+    }
+}

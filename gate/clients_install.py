@@ -1,0 +1,168 @@
+"""Tests what tools/c_library.sh --prefix installs, and how the wrappers find it: each program is built and run in a folder of its own, with no
+variable that says where a library is."""
+
+import os
+import re
+import shlex
+import shutil
+import subprocess
+import sys
+from dataclasses import dataclass
+from pathlib import Path
+
+from clients_base import AS_C, C, CLIENTS, Failed, Skipped, TOP, cc, said_by, tool
+
+PIP = ["--no-build-isolation", "--no-index", "--no-deps", "--disable-pip-version-check"]
+
+
+@dataclass
+class Installed:
+    """An installation of the library that --library names, by tools/c_library.sh --prefix, and its archive."""
+
+    prefix: Path
+
+    def flags(self, *words):
+        """What pkg-config says of it."""
+        environment = {**os.environ, "PKG_CONFIG_PATH": str(self.prefix / "lib" / "pkgconfig")}
+        return shlex.split(said_by(tool("pkg-config"), *words, "string_cache", env=environment))
+
+
+def without_variables():
+    """The environment, but for what could say where a library is."""
+    return {name: value for name, value in os.environ.items() if name not in ("LD_LIBRARY_PATH", "LIBRARY_PATH", "CPATH", "PKG_CONFIG_PATH")}
+
+
+def installed(place):
+    """Installs the library below a folder for packages, and moves it away from there: what is installed says where it lies by itself."""
+    packed, prefix = place.room / "packed", place.room / "moved"
+    environment = {**os.environ, "DESTDIR": str(packed)}
+    said_by(TOP / "tools" / "c_library.sh", "--prefix", "/opt/names", place.library / "libstring_cache.a", env=environment)
+    (packed / "opt" / "names").rename(prefix)
+    return Installed(prefix)
+
+
+def expect_example(program):
+    if said_by(program, env=without_variables()) != "one word, two texts\n":
+        raise Failed(f"{program.name} prints something else than the README says")
+
+
+def install_pkg_config(place):
+    """The example over an installation, static and shared, by what pkg-config says, run with no variable."""
+    own = installed(place)
+    [libdir] = own.flags("--variable=libdir")
+    if Path(libdir).resolve() != own.prefix / "lib":
+        raise Failed(f"the libraries are said to be in {libdir}")
+    shared, static = place.room / "shared", place.room / "static"
+    said_by(cc(), *AS_C, C / "example.c", *own.flags("--cflags", "--libs"), f"-Wl,-rpath,{libdir}", "-o", shared)
+    said_by(cc(), *AS_C, C / "example.c", *own.flags("--cflags"), own.prefix / "lib" / "libstring_cache.a", "-o", static)
+    for program in (shared, static):
+        expect_example(program)
+    if "libstring_cache.so.1" not in said_by(tool("readelf"), "-d", shared):
+        raise Failed("the program names no libstring_cache.so.1")
+    return 2
+
+
+def install_cmake(place):
+    """The example over an installation, static and shared, by CMake, run with no variable. A later major version is not taken."""
+    cmake, own = tool("cmake"), installed(place)
+    project = place.room / "project"
+    project.mkdir()
+    find = "cmake_minimum_required(VERSION 3.13)\nproject(example C)\nfind_package(string_cache {} CONFIG REQUIRED)\n"
+    kinds = ("shared", "static", "string_cache")
+    targets = "".join(f"add_executable({kind} {C / 'example.c'})\ntarget_link_libraries({kind} string_cache::{kind})\n" for kind in kinds)
+    (project / "CMakeLists.txt").write_text(find.format("1.0") + targets, encoding="utf-8")
+    words = [cmake, "-S", project, "-B", place.room / "build", f"-DCMAKE_PREFIX_PATH={own.prefix}"]
+    said_by(*words)
+    said_by(cmake, "--build", place.room / "build")
+    for kind in kinds:
+        expect_example(place.room / "build" / kind)
+    (project / "CMakeLists.txt").write_text(find.format("2.0"), encoding="utf-8")
+    try:
+        said_by(cmake, "-S", project, "-B", place.room / "later", f"-DCMAKE_PREFIX_PATH={own.prefix}")
+    except Failed:
+        return 4
+    raise Failed("version 2.0 is found")
+
+
+def install_pages(place):
+    """Each function of the headers that are installed has a page of the manual, and groff has nothing to say of them."""
+    own = installed(place)
+    pages = own.prefix / "share" / "man" / "man3"
+    header = "".join(path.read_text(encoding="utf-8") for path in (own.prefix / "include").glob("*.h"))
+    functions = set(re.findall(r"\b(sc_\w+)\(", re.sub(r"/\*.*?\*/", "", header, flags=re.DOTALL)))
+    missing = sorted(name for name in functions - {"sc_text_of_fault"} if not (pages / f"{name}.3").is_file())
+    if missing:
+        raise Failed(f"there is no page of {' '.join(missing)}")
+    groff = tool("groff")
+    for page in pages.glob("string_cache*.3"):
+        said = said_by(groff, "-man", "-ww", "-z", page)
+        if said:
+            raise Failed(said)
+    return len(functions)
+
+
+def script_help(place):
+    """The script says how it is used, and what is no use of it ends with status 2."""
+    script = TOP / "tools" / "c_library.sh"
+    if "--prefix" not in said_by(script, "--help"):
+        raise Failed("--help doesn't say how to install")
+    for words in ([], ["--prefix"], ["--other"], ["a", "b", "c"]):
+        if subprocess.run([script, *words], capture_output=True, cwd=place.room, check=False).returncode != 2:
+            raise Failed(f"{' '.join(words)} is taken")
+    return 5
+
+
+def python_with_setuptools():
+    """A Python that can build a wheel with no network."""
+    for python in (sys.executable, "/usr/bin/python3"):
+        try:
+            said_by(python, "-c", "import setuptools, pip; assert int(setuptools.__version__.split('.')[0]) >= 71 or __import__('wheel')")
+        except (Failed, OSError):
+            continue
+        return python
+    raise Skipped("there is no Python with pip, setuptools and wheel")
+
+
+def install_pip(place):
+    """pip installs the module with the library in it, and a program finds both. Nothing is written beside the sources."""
+    python, target, sources = python_with_setuptools(), place.room / "target", place.room / "python"
+    shutil.copytree(CLIENTS / "python", sources, ignore=shutil.ignore_patterns("__pycache__"))
+    before = sorted(path.name for path in sources.iterdir())
+    environment = {**without_variables(), "STRING_CACHE_LIBRARY": str(place.library / "libstring_cache.so"), "PIP_ROOT_USER_ACTION": "ignore"}
+    said_by(python, "-m", "pip", "install", *PIP, "--target", target, sources, env=environment)
+    if sorted(path.name for path in sources.iterdir()) != before:
+        raise Failed(f"beside the sources there is {' '.join(path.name for path in sources.iterdir())}")
+    missing = [name for name in ("__init__.py", "libstring_cache.so", "py.typed") if not (target / "string_cache" / name).is_file()]
+    if missing:
+        raise Failed(f"the package has no {' '.join(missing)}")
+    program = "import string_cache as s, importlib.metadata as m; print(s.VERSION, m.version('string-cache'), s.Interner().intern('abc'))"
+    environment = {**without_variables(), "PYTHONPATH": str(target), "PYTHONDONTWRITEBYTECODE": "1"}
+    environment.pop("STRING_CACHE_LIBRARY", None)
+    number, version, word = said_by(python, "-c", program, cwd=place.room, env=environment).split()
+    major, minor, patch = map(int, version.split("."))
+    if int(number) != major * 10000 + minor * 100 + patch or int(word) != 0x63626131:
+        raise Failed(f"the package of version {version} has a library of version {number}")
+    return 3
+
+
+def install_cargo(place):
+    """The crate's example over an installation that pkg-config knows."""
+    cargo, own, crate = tool("cargo"), installed(place), place.room / "rust"
+    tool("pkg-config")
+    shutil.copytree(CLIENTS / "rust", crate, ignore=shutil.ignore_patterns("target", "Cargo.lock"))
+    environment = {**without_variables(), "PKG_CONFIG_PATH": str(own.prefix / "lib" / "pkgconfig"), "RUSTFLAGS": "-D warnings"}
+    environment.pop("STRING_CACHE_DIR", None)
+    words = [cargo, "build", "--offline", "--example", "count_words", "--target-dir", place.room / "target"]
+    said_by(*words, cwd=crate, env=environment)
+    program = place.room / "target" / "debug" / "examples" / "count_words"
+    ran = subprocess.run([program], input=b"a b a longer_name a b\n", capture_output=True, env=without_variables(), check=False)
+    if ran.stdout.split() != b"3 a 2 b 1 longer_name".split():
+        raise Failed(f"count_words prints {ran.stdout!r}")
+    return 1
+
+
+def install_rows():
+    """What is tested of an installation, by its name."""
+    found = {"install pkg-config": install_pkg_config, "install cmake": install_cmake, "install manual": install_pages}
+    found.update({"install help": script_help, "install pip": install_pip, "install cargo": install_cargo})
+    return found
