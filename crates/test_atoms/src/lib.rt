@@ -1,5 +1,6 @@
-//! Rows with worked values of atoms: their words, texts, orders, cases and JSON texts, and how many may hold one. They stand apart from
-//! `string_cache`, since a crate with tests is proved twice, and from `test_sets`, since two crates are proved beside each other.
+//! Rows with worked values of atoms: their words, texts, orders, cases and JSON texts, how many may hold one, and packed static types. They
+//! stand apart from `string_cache`, since a crate with tests is proved twice, and from `test_sets`, since two crates are proved beside each
+//! other.
 #![tactic(auto)]
 
 #[cfg(test)]
@@ -12,6 +13,8 @@ mod holders;
 mod lent;
 #[cfg(test)]
 mod lists;
+#[cfg(test)]
+mod packed;
 #[cfg(test)]
 mod printed;
 #[cfg(test)]

@@ -1,8 +1,8 @@
 //! Sets, tables and worlds of packed static types.
 
-use crate::dishes::Dishes;
-use crate::elements::Elements;
-use crate::misplaced::Misplaced;
+use test_packed::dishes::Dishes;
+use test_packed::elements::Elements;
+use test_packed::misplaced::Misplaced;
 use std::alloc::Global;
 use std::process::Abort;
 use std::sync::Wait;
