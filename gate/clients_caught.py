@@ -10,6 +10,7 @@ the bodies whose names have one of them. Bodies whose row needs a tool that isn'
 """
 
 import argparse
+import os
 import re
 import shutil
 import subprocess
@@ -25,6 +26,8 @@ TOP = Path(__file__).resolve().parent.parent
 BODIES = TOP / "gate" / "clients_caught"
 ARCHIVE = TOP / "crates" / "string_cache_c" / "out" / "libstring_cache_c.a"
 SECONDS = 900  # for one row
+# Most of what a row in Rust takes is the optimiser's work, and here no row is about that.
+UNOPTIMISED = {"CARGO_PROFILE_RELEASE_OPT_LEVEL": "0"}
 # What is said where a program wasn't even built, which is no catch.
 NOT_BUILT = re.compile(r"WRONG: (?:cc|c\+\+|gcc|g\+\+|clang|clang\+\+) ended|could not compile|no test was run")
 
@@ -43,7 +46,7 @@ def copied(folder):
 
 def passes(copy, archive, row):
     """Whether the row passes over a copy. BadEdit where a program wasn't built, and Skipped where a tool isn't there."""
-    how = {"stdin": subprocess.DEVNULL, "stdout": subprocess.PIPE, "stderr": subprocess.STDOUT, "timeout": SECONDS}
+    how = {"stdin": subprocess.DEVNULL, "stdout": subprocess.PIPE, "stderr": subprocess.STDOUT, "timeout": SECONDS, "env": {**os.environ, **UNOPTIMISED}}
     library = copy / "library"
     subprocess.run([copy / "tools" / "c_library.sh", library, archive], check=True, **how)
     ran = subprocess.run([copy / "gate" / "clients.py", "--library", library, "--jobs", "1", row], check=False, **how)

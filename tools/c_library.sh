@@ -43,8 +43,7 @@ prove() {
     progress "$proof" &
     shown=$!
     wait "$proof" || status=$?
-    kill "$shown" 2> "$room/alive" || true
-    wait "$shown" || true
+    { kill -KILL "$shown" && wait "$shown"; } 2> "$room/alive" || true # with no chance to run the trap
     if [[ $status != 0 ]]; then
         tail -n 40 "$room/said" >&2
         echo "c_library: crates/string_cache_c isn't proved, so no library was built" >&2

@@ -16,8 +16,8 @@ use std::collections::HashMap;
 use std::sync::Wait;
 use string_cache::dynamic_set::Set;
 use string_cache::table::Table;
-use string_cache::word::Limits;
-use string_cache::{Atom, EmptyStaticAtomSet, Fault, StaticTables};
+use string_cache::word::{InlineText, Limits};
+use string_cache::{AtomList, EmptyStaticAtomSet, Fault, StaticTables};
 use text_streams::faults::AppFault;
 use text_streams::streams::{Sink, Source, read_text, write_full, write_whole};
 
@@ -34,30 +34,27 @@ impl Interner for Table<EmptyStaticAtomSet> {
     }
 }
 
-/// Interns words in a set, and holds the atom of each place of a dynamic one. Inline and static atoms hold nothing of the
-/// set, so they aren't kept.
+/// Interns words in a set, and holds the atom of each place of a word. That of an inline one would hold nothing of the set, so it
+/// isn't kept.
 #[derive(Drop)]
 struct Holder<'r, 's, R: Wait, Static: StaticTables> {
     rt: &'r R,
-    set: &'s Set<Static>,
-    atoms: Vec<Atom<'s, Static>>,
+    atoms: AtomList<'s, Static>,
 }
 
 impl<'r, 's, R: Wait, Static: StaticTables> Holder<'r, 's, R, Static> {
     fn new(rt: &'r R, set: &'s Set<Static>) -> Self {
         Holder {
             rt,
-            set,
-            atoms: Vec::new(set.allocator()),
+            atoms: AtomList::new(set),
         }
     }
 }
 
 impl<R: Wait, Static: StaticTables> Interner for Holder<'_, '_, R, Static> {
     fn intern(&mut self, word: &str) -> Result<(), Fault> {
-        let atom = Atom::from_str_in(self.rt, self.set, word)?;
-        if atom.is_dynamic() {
-            self.atoms.push(atom)?;
+        if InlineText::new(word).is_none() {
+            self.atoms.push_str(self.rt, word)?;
         }
         Ok(())
     }
@@ -130,7 +127,7 @@ fn list_words<I: Interner, S: Source, K: Sink>(
 }
 
 /// For each word that the reader gives, a line that tells how often it came before. The words are interned in the set,
-/// repeated ones again, and the atoms of dynamic ones are held to the end of the call; others hold nothing of the set.
+/// repeated ones again, and the atom of each place is held to the end of the call; inline ones hold nothing of the set.
 ///
 /// `Read` and `Text`, input that isn't UTF-8, come before anything is written, and so does `Intern(Memory)` while the
 /// input is read. After another fault a beginning of the lines is written.
