@@ -92,7 +92,7 @@ fn pops<R: Wait>(
     left: u128,
 ) -> bool {
     match list.pop() {
-        Some(atom) => is_of(&atom, of.0, of.1) && links(rt, set, left + 1),
+        Some(atom) => is_of(&atom, of.0, of.1) && links(rt, set, left.saturating_add(1)),
         None => false,
     }
 }
@@ -221,7 +221,8 @@ fn long_text_in_a_list(rt: HostRuntime) {
 fn list_ends_under_a_held_lock(rt: HostRuntime) {
     let set = default_set(&rt, rt.alloc());
     let list = list_of(&rt, &set, &["interned", "geometric"]);
-    let held = set.buckets()[0x210].lock(&rt);
+    let bucket = set.buckets().get(0x210).expect(&rt, "a bucket");
+    let held = bucket.lock(&rt);
     drop(list);
     drop(held);
     assert!(rt; links(&rt, &set, 1));

@@ -14,7 +14,10 @@ use test_samples::{One, Short, Twice};
 
 /// Whether the form of the text is inline, with this word.
 fn has_inline_form<S: StaticAtomSet>(text: &str, word: u64) -> bool {
-    matches!(form_of_text::<S>(text), TextForm::Inline(inline) if inline.word() == word)
+    match form_of_text::<S>(text) {
+        TextForm::Inline(inline) => inline.word() == word,
+        TextForm::Static(_) | TextForm::Dynamic(_) => false,
+    }
 }
 
 /// Whether the text has this inline word.
