@@ -1,13 +1,13 @@
 //! Texts of packed static types that are found, and others. The places and hashes of names are those of a program of its own, which was
 //! written from the definitions in Python.
 
-use test_packed::dishes::Dishes;
-use test_packed::elements::Elements;
-use test_packed::misplaced::Misplaced;
 use std::alloc::{AllocError, Global};
 use string_cache::Atom;
 use string_cache::static_sets::{StaticTables, are_perfect, static_text};
 use string_cache::word::static_word;
+use test_packed::dishes::Dishes;
+use test_packed::elements::Elements;
+use test_packed::misplaced::Misplaced;
 
 // These say nothing of what they do, so that each test is proved in a moment.
 

@@ -1,8 +1,5 @@
 //! Sets, tables and worlds of packed static types.
 
-use test_packed::dishes::Dishes;
-use test_packed::elements::Elements;
-use test_packed::misplaced::Misplaced;
 use std::alloc::Global;
 use std::process::Abort;
 use std::sync::Wait;
@@ -13,6 +10,9 @@ use string_cache::table::Table;
 use string_cache::word::{Limits, static_word};
 use string_cache::{Atom, Fault};
 use test_calls::{has_text, interned, links};
+use test_packed::dishes::Dishes;
+use test_packed::elements::Elements;
+use test_packed::misplaced::Misplaced;
 
 // These say nothing of what they do, so that each test is proved in a moment. They take any static type, since the borrow checker doesn't
 // cover a function in which a set, an atom or a table of a packed type stands by name.
