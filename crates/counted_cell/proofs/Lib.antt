@@ -15,3 +15,5 @@ pub mod PlacesLaws
 pub mod PlacesSent
 pub mod Blocks
 pub mod Begun
+pub mod CellLogSteps
+pub mod CellLogFields

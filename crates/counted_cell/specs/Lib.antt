@@ -7,3 +7,5 @@ pub mod Text
 pub mod Cell
 pub mod Reply
 pub mod Ending
+pub mod CellLog
+pub mod CellEntry

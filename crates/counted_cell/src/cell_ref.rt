@@ -35,7 +35,7 @@ impl<T> Model for CellRef<T> {
 /// What a step on the count found there, or left. Where that is 0, no share is left and none will ever be. The steps alone make one.
 #[derive(Drop)]
 pub struct Reading {
-    marker: PhantomData<()>,
+    pub(crate) marker: PhantomData<()>,
     pub ghost name: { CellName } by { cell_name_coded },
     pub ghost count: { ℕ },
 }

@@ -1,4 +1,5 @@
 //! What was read off a cell's count, as values that only a step on the count makes.
+use crate::cell_log::CellLog;
 use crate::cell_ref::{Reading, exclude};
 use crate::share::CellShare;
 use std::marker::Model;
@@ -22,7 +23,7 @@ impl Model for NoShares {
 }
 
 impl NoShares {
-    ghost use Rattle.std.specs.Prelude.{◌≡◌};
+    ghost use Rattle.std.specs.Prelude.{◌≡◌, ◌∷◌};
 
     /// What was read.
     pub fn reading(self) -> Reading
@@ -30,6 +31,14 @@ impl NoShares {
     {
         let Self { reading } = self;
         reading
+    }
+
+    /// Keeps in a log that no share of the cell is left.
+    pub fn bury(self, log: &mut CellLog)
+        ensures { (log.new.name ≡ log.old.name) × (log.new.entries ≡ log.old.entries) × (log.new.gone ≡ self ∷ log.old.gone) }
+    {
+        let Self { reading } = self;
+        log.bury(reading)
     }
 
     /// A law: it is never together with a share of the same cell.

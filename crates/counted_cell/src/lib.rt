@@ -10,6 +10,7 @@
 
 mod block;
 mod block_right;
+mod cell_log;
 mod cell_ref;
 mod content;
 mod ending;
@@ -24,6 +25,7 @@ mod reply;
 mod share;
 mod text;
 
+pub use cell_log::{CellLog, LogSeen};
 pub use cell_ref::{Reading, Receipt};
 pub use ending::Ending;
 pub use evidence::{AtLimit, CountSeen, NoShares, SharesLeft};

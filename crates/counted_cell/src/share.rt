@@ -1,6 +1,8 @@
 //! The shares of a cell.
-ghost use Rattle.std.specs.Prelude.{◌≡◌, true, ◌^◌, ◌<◌, IfErr, IfOk, IfSome};
+ghost use Rattle.std.specs.Prelude.{◌≡◌, ◌≢◌, true, ◌^◌, ◌<◌, ◌++◌, ◌∷◌, [], IfErr, IfOk, IfSome};
+ghost use Rattle.std.specs.List.{AllByRecursion};
 
+use crate::cell_log::{CellLog, LogSeen, lives};
 use crate::cell_ref::{CellRef, Reading, Receipt};
 use crate::content::Content;
 use crate::evidence::{AtLimit, NoShares};
@@ -31,6 +33,7 @@ impl Model for CellShare {
 impl CellShare {
     ghost use Rattle.counted_cell.specs.Counting.{share_right};
     ghost use Rattle.counted_cell.specs.Cell.{IsBehind, share_of};
+    ghost use Rattle.counted_cell.specs.CellEntry.{entry_of};
 
     /// The share whose right it is.
     pub(crate) fn of_ref(cell: CellRef<Content>) -> CellShare
@@ -94,6 +97,20 @@ impl CellShare {
         }
         more.done();
         None
+    }
+
+    /// Enters its cell in a log.
+    pub fn enter(&self, log: &mut CellLog)
+        ensures { (log.new.name ≡ log.old.name) × (log.new.entries ≡ log.old.entries ++ entry_of self.now.cell ∷ []) × (log.new.gone ≡ log.old.gone) }
+    {
+        log.add(&self.cell)
+    }
+
+    /// A law: its cell is none of those that are gone.
+    pub fn outlives(&self, seen: &LogSeen)
+        ensures { AllByRecursion (λ t. t ≢ self.now.cell.name) seen.now.gone }
+    {
+        lives(seen, &self.cell)
     }
 
     /// Takes the share off the count, and tells what that left.

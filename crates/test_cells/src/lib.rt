@@ -5,4 +5,6 @@
 mod cells;
 #[cfg(test)]
 mod chains;
+#[cfg(test)]
+mod named;
 pub mod receipts;

@@ -1,0 +1,4 @@
+pub mod Rows
+pub mod Keeping
+pub mod Agreeing
+pub mod Opening

@@ -1,0 +1,43 @@
+-- The rows of a set, from the last to the first.
+use Rattle.std.proofs.Common.{◌≡◌, ℕ, zero, suc, List, [], ◌∷◌, ◌++◌, length, map, take, slice_index_or, refl, ap, sym, ◌∙◌, subst}
+use Rattle.std.specs.List.{AllByRecursion}
+use Rattle.counted_cell.specs.declared.cell_log.CellLog.{CellLog}
+use Rattle.named_set.specs.Names.{IsEmpty}
+
+abbrev name_of : CellLog → ℕ
+name_of l = l.name
+
+last_of : (xs : List CellLog) (x : CellLog) (rows : List ℕ) → map name_of (xs ++ x ∷ []) ≡ take (length (xs ++ x ∷ [])) rows → (map name_of xs ≡ take (length xs) rows) × (x.name ≡ slice_index_or rows (length xs) 0)
+last_of [] x [] e = absurd (cc e)
+last_of [] x (r ∷ rows) e = (refl, cc e)
+last_of (y ∷ xs) x [] e = absurd (cc e)
+last_of (y ∷ xs) x (r ∷ rows) e =
+    let rest = last_of xs x rows (cc e) in
+    let head : y.name ≡ r = cc e in
+    (cc (head, rest.0), rest.1)
+
+each_front : (xs : List CellLog) (x : CellLog) → AllByRecursion IsEmpty (xs ++ x ∷ []) → AllByRecursion IsEmpty xs × IsEmpty x
+each_front [] x all = (tt, all.0)
+each_front (y ∷ xs) x all = (let rest = each_front xs x all.1 in ((all.0, rest.0), rest.1))
+
+-- without the last row
+pub popped : (ys xs : List CellLog) (x : CellLog) (rows : List ℕ) → ys ≡ xs ++ x ∷ [] → map (λ (l : CellLog). l.name) ys ≡ take (length ys) rows → AllByRecursion IsEmpty ys
+    → (map (λ (l : CellLog). l.name) xs ≡ take (length xs) rows) × (x.name ≡ slice_index_or rows (length xs) 0) × AllByRecursion IsEmpty xs × IsEmpty x
+popped ys xs x rows is names all =
+    let a = last_of xs x rows (subst (λ (zs : List CellLog). map name_of zs ≡ take (length zs) rows) is names) in
+    let b = each_front xs x (subst (λ (zs : List CellLog). AllByRecursion IsEmpty zs) is all) in
+    (a.0, a.1, b.0, b.1)
+
+take_all : (xs : List ℕ) → xs ≡ take (length xs) xs
+take_all [] = refl
+take_all (x ∷ xs) = ap (λ ys. x ∷ ys) (take_all xs)
+
+length_names : (xs : List CellLog) → length (map name_of xs) ≡ length xs
+length_names [] = refl
+length_names (x ∷ xs) = ap suc (length_names xs)
+
+-- at first all are there
+pub all_names : (xs : List CellLog) (rows : List ℕ) → rows ≡ map (λ (l : CellLog). l.name) xs → (map (λ (l : CellLog). l.name) xs ≡ take (length xs) rows) × (length rows ≡ length xs)
+all_names xs rows is =
+    let n : length rows ≡ length xs = ap length is ∙ length_names xs in
+    (sym is ∙ (take_all rows ∙ ap (λ (k : ℕ). take k rows) n), n)

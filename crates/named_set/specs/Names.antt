@@ -1,0 +1,18 @@
+-- What clauses see of the name of a set, and of a set.
+use Rattle.std.specs.Prelude.{◌≡◌, ℕ, List, []}
+use Rattle.text_forms.specs.Bounds.{Bounds}
+use Rattle.counted_cell.specs.declared.cell_log.CellLog.{CellLog}
+
+-- a name that no set has: the names of its logs, and the bits of their number, which is 2 ^ bits
+pub record Fresh : Type 0 where
+  pub logs : List ℕ
+  pub bits : ℕ
+
+-- a log without entries
+abbrev pub IsEmpty : CellLog → Type 0
+IsEmpty l = (l.entries ≡ []) × (l.gone ≡ [])
+
+-- a set: its limits, and the bits of the number of its buckets, of which there are 2 ^ bits
+pub record SetValue : Type 0 where
+  pub limits : Bounds
+  pub bits : ℕ

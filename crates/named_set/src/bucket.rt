@@ -1,0 +1,220 @@
+//! A bucket: what one lock holds.
+
+ghost use Rattle.std.specs.Prelude.{◌≡◌, ◌+◌, ◌<◌, length, slice_index_or, IfErr, IfOk, IfSome, None, Some, slice_get, IsTrue, ◌↔◌};
+ghost use Rattle.text_forms.specs.Faults.{IsInternFault};
+ghost use Rattle.text_forms.specs.Layout.{most_buckets};
+ghost use Rattle.text_forms.specs.Tables.{bucket_of, entry_hash};
+ghost use Rattle.text_forms.specs.declared.faults.Fault.TheVariants.{FullCount};
+ghost use Rattle.counted_cell.specs.Cell.{Cell};
+ghost use Rattle.named_set.specs.Logged.{FoundAt, IsNew, IsSeen, LinksNoMore};
+ghost use Rattle.named_set.specs.Names.{IsEmpty};
+
+use crate::name::SetName;
+use counted_cell::{CellLog, CellShare, Label, LogSeen, NoShares, Owner, ShareReply};
+use std::alloc::Global;
+use std::marker::{Model, PhantomData};
+use std::sync::Wait;
+use text_forms::Fault;
+use text_forms::static_sets::StaticTables;
+use text_forms::word::{Limits, ticket_word};
+
+/// What one lock of a set holds: the cells that are linked, in the order in which they were, and the log of all that ever were, which
+/// takes no memory.
+#[derive(Drop)]
+pub struct Bucket<Static: StaticTables, N: SetName> {
+    owners: Vec<Owner<Global>>,
+    log: CellLog,
+    last: u64,
+    number: u16,
+    alloc: Global,
+    of: PhantomData<(Static, N)>,
+}
+
+impl<Static: StaticTables, N: SetName> Model for Bucket<Static, N> {
+    ghost use Rattle.std.specs.Prelude.{◌≡◌, ◌<◌, length, slice_index_or};
+    ghost use Rattle.std.specs.List.{AllByRecursion};
+    ghost use Rattle.text_forms.specs.Layout.{most_buckets};
+    ghost use Rattle.named_set.specs.Logged.{Kept, IsKept, IsOf};
+
+    ghost Value = { Kept };
+
+    ghost view = { λ b. record { number = b.number; linked = b.owners.items; entries = b.log.entries; gone = b.log.gone } };
+
+    ghost invariant = { λ b. (b.log.name ≡ slice_index_or N.logs b.number 0) × (b.last ≡ length b.log.entries) × (b.number < most_buckets)
+        × IsKept b.number b.owners.items b.log.entries b.log.gone × AllByRecursion (IsOf Static.tables (length N.logs) b.number) b.owners.items };
+}
+
+impl<Static: StaticTables, N: SetName> Bucket<Static, N> {
+    /// A bucket without entries, of this number, with a log without any.
+    pub(crate) fn new(alloc: Global, number: u16, log: CellLog) -> Self
+        requires name { log.name ≡ slice_index_or N.logs number 0 }
+        requires number { number < most_buckets }
+        requires empty { IsEmpty log }
+    {
+        Bucket {
+            owners: Vec::new(alloc),
+            log,
+            last: 0,
+            number,
+            alloc,
+            of: PhantomData,
+        }
+    }
+
+    /// Which bucket of its set it is.
+    pub(crate) fn number(&self) -> u16
+        ensures { result ≡ self.now.number }
+    {
+        self.number
+    }
+
+    /// How many cells are linked.
+    pub(crate) fn len(&self) -> usize
+        ensures { result ≡ length self.now.linked }
+    {
+        self.owners.len()
+    }
+
+    /// A share of the text's cell, which is linked if none is, and what was seen of the log, which shows that no other cell of the text
+    /// is held. `hash` is that of the text.
+    pub(crate) fn intern<R: Wait>(
+        &mut self,
+        rt: &R,
+        text: &str,
+        hash: u64,
+        limits: &Limits,
+    ) -> Result<(CellShare, LogSeen), Fault>
+        requires hash { hash ≡ entry_hash Static.tables text.now }
+        requires here { bucket_of Static.tables (length N.logs) text.now ≡ self.old.number }
+        ensures text { IfOk result (λ made. made.0.cell.text ≡ text.now) }
+        ensures seen { IfOk result (λ made. IsSeen Static.tables N.logs made.1 made.0.cell) }
+        ensures refused { IfErr result IsInternFault }
+    {
+        match self.find(rt, text, hash)? {
+            Some(found) => Ok(found),
+            None => {
+                self.prune();
+                self.link(text, hash, limits)
+            }
+        }
+    }
+
+    /// The same, where a cell of the text is linked that has a share. Cells of the text that have none are taken out.
+    #[tactic(auto, using(crate::proofs::Keeping::seen_at))]
+    pub(crate) fn find<R: Wait>(
+        &mut self,
+        rt: &R,
+        text: &str,
+        hash: u64,
+    ) -> Result<Option<(CellShare, LogSeen)>, Fault>
+        requires hash { hash ≡ entry_hash Static.tables text.now }
+        requires here { bucket_of Static.tables (length N.logs) text.now ≡ self.old.number }
+        ensures text { IfOk result (λ found. IfSome found (λ made. made.0.cell.text ≡ text.now)) }
+        ensures seen { IfOk result (λ found. IfSome found (λ made. IsSeen Static.tables N.logs made.1 made.0.cell)) }
+        ensures absent { IfOk result (λ found. found ≡ None → IsNew text.now self.new.linked) }
+        ensures same { self.new.number ≡ self.old.number }
+        ensures refused { IfErr result (λ fault. fault ≡ FullCount) }
+    {
+        while let Some(at) = self.position(text, hash) {
+            match self.owners[at].add(rt) {
+                ShareReply::Added(share, _) => {
+                    let seen = self.seen();
+                    return Ok(Some((share, seen)));
+                }
+                ShareReply::Full(_) => return Err(Fault::FullCount),
+                ShareReply::Dying(none) => self.take_out(at, none),
+            }
+        }
+        Ok(None)
+    }
+
+    /// Takes out all cells that have no share left.
+    pub(crate) fn prune(&mut self)
+        ensures same { self.new.number ≡ self.old.number }
+        ensures less { LinksNoMore self.old.linked self.new.linked }
+    {
+        let mut at = self.owners.len();
+        while at > 0 {
+            at -= 1;
+            if let Ok(none) = self.owners[at].dying() {
+                self.take_out(at, none);
+            }
+        }
+    }
+
+    // What its log is now.
+    fn seen(&mut self) -> LogSeen
+        ensures same { self.new ≡ self.old }
+        ensures seen { (result.name ≡ slice_index_or N.logs self.old.number 0) × (result.entries ≡ self.old.entries) × (result.gone ≡ self.old.gone) }
+    {
+        self.log.seen()
+    }
+
+    // Where a cell of the text is linked.
+    fn position(&self, text: &str, hash: u64) -> Option<usize>
+        requires { hash ≡ entry_hash Static.tables text.now }
+        ensures { FoundAt self.now.linked text.now result }
+    {
+        for at in 0..self.owners.len() {
+            if self.is_at(at, text, hash) {
+                return Some(at);
+            }
+        }
+        None
+    }
+
+    // Whether the cell that is linked there is one of the text.
+    fn is_at(&self, at: usize, text: &str, hash: u64) -> bool
+        requires within { at < length self.now.linked }
+        requires hash { hash ≡ entry_hash Static.tables text.now }
+        ensures { (c : Cell) × (slice_get self.now.linked at ≡ Some c) × (IsTrue result ↔ (c.text ≡ text.now)) }
+    {
+        let owner = &self.owners[at];
+        owner.label().hash == hash && owner.text() == text
+    }
+
+    // Takes out a cell that has no share left, and keeps that in the log.
+    #[tactic(auto, using(crate::proofs::Keeping::kept_without))]
+    fn take_out(&mut self, at: usize, none: NoShares)
+        requires { (c : Cell) × (slice_get self.old.linked at ≡ Some c) × (none ≡ c.name) }
+        ensures same { self.new.number ≡ self.old.number }
+        ensures one { length self.new.linked + 1 ≡ length self.old.linked }
+        ensures less { LinksNoMore self.old.linked self.new.linked }
+    {
+        none.bury(&mut self.log);
+        drop(self.owners.remove(at));
+    }
+
+    // Links a cell of a text of which none is linked, and enters it in the log.
+    #[tactic(auto, using(crate::proofs::Keeping::kept_with, crate::proofs::Keeping::logged_last))]
+    fn link(
+        &mut self,
+        text: &str,
+        hash: u64,
+        limits: &Limits,
+    ) -> Result<(CellShare, LogSeen), Fault>
+        requires new { IsNew text.now self.old.linked }
+        requires hash { hash ≡ entry_hash Static.tables text.now }
+        requires here { bucket_of Static.tables (length N.logs) text.now ≡ self.old.number }
+        ensures text { IfOk result (λ made. made.0.cell.text ≡ text.now) }
+        ensures seen { IfOk result (λ made. IsSeen Static.tables N.logs made.1 made.0.cell) }
+        ensures refused { IfErr result IsInternFault }
+    {
+        if self.last >= limits.serials() {
+            return Err(Fault::TicketsSpent);
+        }
+        self.owners.reserve(1)?;
+        let serial = self.last + 1;
+        let label = Label {
+            hash,
+            ticket: ticket_word(serial, self.number),
+            limit: limits.holders(),
+        };
+        let (owner, share) = Owner::new(self.alloc, label, 0, text)?;
+        share.enter(&mut self.log);
+        self.owners.push_reserved(owner);
+        self.last = serial;
+        let seen = self.log.seen();
+        Ok((share, seen))
+    }
+}

@@ -1,0 +1,163 @@
+//! A held word: a share of a text's cell, with its number and its set.
+
+ghost use Rattle.std.proofs.Common.{rules};
+ghost use Rattle.std.specs.Cmp.Rules.{comparing, hashing};
+ghost use Rattle.std.specs.Hash as fed;
+ghost use Rattle.std.specs.Prelude.{◌≡◌, ◌↔◌, ◌==◌, IfErr, IfOk, IsTrue};
+ghost use Rattle.text_forms.specs.declared.faults.Fault.TheVariants.{FullCount};
+ghost use Rattle.named_set.specs.Logged.{IsSeen};
+ghost use Rattle.named_set.specs.Words.{AreOneToOne};
+
+use crate::name::SetName;
+use crate::set::NamedSet;
+use counted_cell::{CellShare, LogSeen, Receipt};
+use std::hash::{Hash, Hasher};
+use std::marker::Model;
+use std::sync::Wait;
+use text_forms::Fault;
+use text_forms::static_sets::StaticTables;
+
+/// A word of the set with this name, which is held: one share of its text's cell.
+///
+/// Two that are held are equal exactly if their texts are, whichever threads made them, and `==` compares two numbers. It has 24 bytes.
+/// Its drop subtracts one from the cell's count and never waits. Where it was the last, the lock of the bucket is tried once; if it was
+/// free, cells without shares are taken out of the bucket, and otherwise a later call does that. In a clause it is its word, its text
+/// and the name of its cell.
+pub struct Held<'s, Static: StaticTables, N: SetName> {
+    word: u64,
+    share: CellShare,
+    seen: LogSeen,
+    set: &'s NamedSet<Static, N>,
+}
+
+impl<'s, Static: StaticTables, N: SetName> Model for Held<'s, Static, N> {
+    ghost use Rattle.std.specs.Prelude.{◌≡◌};
+    ghost use Rattle.named_set.specs.Logged.{IsSeen};
+    ghost use Rattle.named_set.specs.Words.{HeldWord, held_word};
+
+    ghost Value = { HeldWord };
+
+    ghost view = { λ h. held_word h.word h.share.cell };
+
+    ghost invariant = { λ h. (h.word ≡ h.share.cell.label.ticket) × IsSeen Static.tables N.logs h.seen h.share.cell };
+}
+
+impl<'s, Static: StaticTables, N: SetName> Drop for Held<'s, Static, N> {
+    #[inline]
+    fn drop(self) {
+        let _ = self.give();
+    }
+}
+
+impl<'s, Static: StaticTables, N: SetName> Held<'s, Static, N> {
+    pub(crate) fn new(
+        share: CellShare,
+        seen: LogSeen,
+        set: &'s NamedSet<Static, N>,
+    ) -> Held<'s, Static, N>
+        requires { IsSeen Static.tables N.logs seen share.cell }
+        ensures { result.text ≡ share.cell.text }
+    {
+        Held {
+            word: share.label().ticket,
+            share,
+            seen,
+            set,
+        }
+    }
+
+    /// Takes the share off the cell's count, and tries the bucket's lock where it was the last.
+    #[inline]
+    fn give(self) -> Receipt
+        ensures { result.name ≡ self.entry.name }
+    {
+        let Self {
+            word: _,
+            share,
+            seen: _,
+            set,
+        } = self;
+        set.give_back(share)
+    }
+
+    /// The word: a number that no other text's word has while both are held.
+    pub fn word(&self) -> u64
+        ensures { result ≡ self.now.word }
+    {
+        self.word
+    }
+
+    /// The text.
+    pub fn text(&self) -> &str
+        ensures { result.now ≡ self.now.text }
+    {
+        self.share.text()
+    }
+
+    /// One more that holds the same word. It is refused for `FullCount` alone, where there are as many as there may be.
+    pub fn clone_held<R: Wait>(&self, rt: &R) -> Result<Held<'s, Static, N>, Fault>
+        ensures same { IfOk result (λ held. held ≡ self.now) }
+        ensures full { IfErr result (λ fault. fault ≡ FullCount) }
+    {
+        match self.share.add(rt) {
+            Ok(share) => Ok(Held {
+                word: self.word,
+                share,
+                seen: self.seen.again(),
+                set: self.set,
+            }),
+            Err(_) => Err(Fault::FullCount),
+        }
+    }
+
+    /// A law: two that are held have one word exactly if they have one text. It does nothing when it runs.
+    #[tactic(auto, using(crate::proofs::Agreeing::words_agree))]
+    pub fn agree<'t>(&self, other: &Held<'t, Static, N>)
+        ensures { AreOneToOne self.now other.now }
+    {
+        self.seen.meet(&other.seen);
+        self.share.outlives(&other.seen);
+        other.share.outlives(&self.seen);
+    }
+
+    /// Whether the texts are the same, by one comparison of two numbers, which reads no text.
+    #[inline]
+    pub fn same<'t>(&self, other: &Held<'t, Static, N>) -> bool
+        ensures { IsTrue result ↔ (self.now.text ≡ other.now.text) }
+    {
+        self.agree(other);
+        self.word == other.word
+    }
+}
+
+/// By one comparison of two numbers, which reads no text and yet tells whether the texts are the same.
+impl<'s, Static: StaticTables, N: SetName> PartialEq for Held<'s, Static, N> {
+    ghost eq = { λ a b. a.word == b.word };
+
+    ghost laws = { Prim.search (comparing, rules) };
+
+    #[inline]
+    fn eq(&self, other: &Self) -> bool
+        ensures word { result ≡ (self.now.word == other.now.word) }
+        ensures text { IsTrue result ↔ (self.now.text ≡ other.now.text) }
+    {
+        self.agree(other);
+        self.word == other.word
+    }
+}
+
+impl<'s, Static: StaticTables, N: SetName> Eq for Held<'s, Static, N> {
+    ghost laws = { Prim.search (comparing, rules) };
+}
+
+/// By the word, which is read from the value itself.
+impl<'s, Static: StaticTables, N: SetName> Hash for Held<'s, Static, N> {
+    ghost hash_input = { λ a. fed.u64 a.word };
+
+    ghost respects_eq = { Prim.search (hashing, rules) };
+
+    #[inline]
+    fn hash<H: Hasher>(&self, state: &mut H) {
+        state.write_u64(self.word);
+    }
+}

@@ -1,0 +1,59 @@
+//! The name of a set, for types to speak of.
+
+ghost use Rattle.std.specs.Prelude.{◌≡◌, IfErr, IfOk};
+ghost use Rattle.text_forms.specs.declared.faults.Fault.TheVariants.{Memory};
+
+use counted_cell::CellLog;
+use std::alloc::Global;
+use std::marker::{Brand, Model};
+use text_forms::Fault;
+use text_forms::word::Buckets;
+
+/// Which set it is, by the names of its buckets' logs. Whoever calls a function that is generic over it picks them.
+pub trait SetName {
+    ghost use Rattle.std.specs.Prelude.{ℕ, List};
+
+    ghost logs: { List ℕ };
+}
+
+/// What stands for the name where a function that is generic over it is called.
+impl SetName for Brand {
+    ghost use Rattle.std.specs.Prelude.{[]};
+
+    ghost logs = { [] };
+}
+
+/// A name that no set has, for a set of some number of buckets. The set that is made with it spends it, so that it is the name's only
+/// one. In a clause it is the names of its logs, and the bits of their number.
+#[derive(Drop)]
+pub struct FreshName {
+    pub(crate) logs: Vec<CellLog>,
+    pub(crate) count: Buckets,
+}
+
+impl Model for FreshName {
+    ghost use Rattle.std.specs.Prelude.{◌≡◌, ◌^◌, map, vec_len};
+    ghost use Rattle.std.specs.List.{AllByRecursion};
+    ghost use Rattle.named_set.specs.Names.{Fresh, IsEmpty};
+
+    ghost Value = { Fresh };
+
+    ghost view = { λ f. record { logs = map (λ l. l.name) f.logs.items; bits = f.count } };
+
+    ghost invariant = { λ f. (vec_len f.logs ≡ 2 ^ f.count) × AllByRecursion IsEmpty f.logs.items };
+}
+
+impl FreshName {
+    /// A name that no set has, for one of this many buckets. It is refused for `Memory` alone.
+    #[tactic(auto, using(crate::proofs::Rows::each_snoc))]
+    pub fn new(alloc: Global, count: Buckets) -> Result<FreshName, Fault>
+        ensures bits { IfOk result (λ name. name.bits ≡ count) }
+        ensures refused { IfErr result (λ fault. fault ≡ Memory) }
+    {
+        let mut logs = Vec::with_capacity(alloc, count.number())?;
+        for _ in 0..count.number() {
+            logs.push(CellLog::new())?;
+        }
+        Ok(FreshName { logs, count })
+    }
+}

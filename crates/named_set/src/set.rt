@@ -1,0 +1,132 @@
+//! The set: buckets behind locks.
+
+ghost use Rattle.std.specs.Prelude.{◌≡◌, IfErr, IfOk, IfSome};
+ghost use Rattle.text_forms.specs.Faults.{IsInternFault};
+ghost use Rattle.text_forms.specs.declared.faults.Fault.TheVariants.{FullCount, Memory};
+
+use crate::bucket::Bucket;
+use crate::held::Held;
+use crate::name::{FreshName, SetName};
+use counted_cell::{CellShare, Receipt};
+use std::alloc::Global;
+use std::marker::Model;
+use std::sync::{Mutex, Wait};
+use text_forms::Fault;
+use text_forms::static_sets::StaticTables;
+use text_forms::word::{Buckets, Limits};
+
+/// The texts of the set with this name, in buckets by their hashes, each behind a lock of its own. Threads share it. In a clause it is
+/// its limits and the bits of the number of its buckets.
+#[derive(Drop)]
+pub struct NamedSet<Static: StaticTables, N: SetName> {
+    buckets: Vec<Mutex<Bucket<Static, N>>>,
+    count: Buckets,
+    limits: Limits,
+}
+
+impl<Static: StaticTables, N: SetName> Model for NamedSet<Static, N> {
+    ghost use Rattle.std.specs.Prelude.{◌≡◌, ◌^◌, length, vec_len};
+    ghost use Rattle.named_set.specs.Names.{SetValue};
+
+    ghost Value = { SetValue };
+
+    ghost view = { λ s. record { limits = s.limits; bits = s.count } };
+
+    ghost invariant = { λ s. (vec_len s.buckets ≡ 2 ^ s.count) × (length N.logs ≡ 2 ^ s.count) };
+}
+
+impl<Static: StaticTables, N: SetName> NamedSet<Static, N> {
+    /// The set with this name, without texts. It spends the name, so that the name has no other set. It is refused for `Memory` alone.
+    #[tactic(auto, using(crate::proofs::Opening::popped, crate::proofs::Opening::all_names))]
+    pub fn new(alloc: Global, name: FreshName, limits: Limits) -> Result<Self, Fault>
+        requires { N.logs ≡ name.logs }
+        ensures limits { IfOk result (λ set. set.limits ≡ limits) }
+        ensures bits { IfOk result (λ set. set.bits ≡ name.bits) }
+        ensures refused { IfErr result (λ fault. fault ≡ Memory) }
+    {
+        let FreshName { mut logs, count } = name;
+        let mut buckets = Vec::with_capacity(alloc, count.number())?;
+        while let Some(log) = logs.pop() {
+            buckets.push(Mutex::new(Bucket::new(alloc, logs.len() as u16, log)))?;
+        }
+        buckets.reverse();
+        Ok(NamedSet {
+            buckets,
+            count,
+            limits,
+        })
+    }
+
+    /// A held word of the text.
+    ///
+    /// `FullCount` comes where the text's word is held as often as the limits allow, `TicketsSpent` where its bucket has given its last
+    /// ticket, and `Memory` where a request for memory is refused. It would also come if the bucket behind the lock had another number
+    /// than the one that was asked for. It never has, but no type tells which value lies behind which lock, so a comparison does.
+    pub fn intern<'s, R: Wait>(&'s self, rt: &R, text: &str) -> Result<Held<'s, Static, N>, Fault>
+        ensures text { IfOk result (λ held. held.text ≡ text.now) }
+        ensures refused { IfErr result IsInternFault }
+    {
+        let (_, hash) = Static::look_up(text);
+        let number = self.count.bucket_of(hash);
+        let mut bucket = self.buckets[usize::from(number)].lock(rt);
+        if bucket.number() != number {
+            return Err(Fault::Memory);
+        }
+        let (share, seen) = bucket.intern(rt, text, hash, &self.limits)?;
+        Ok(Held::new(share, seen, self))
+    }
+
+    /// The held word of the text, if it is held. Nothing is linked. It is refused for `FullCount` alone.
+    pub fn find<'s, R: Wait>(
+        &'s self,
+        rt: &R,
+        text: &str,
+    ) -> Result<Option<Held<'s, Static, N>>, Fault>
+        ensures text { IfOk result (λ found. IfSome found (λ held. held.text ≡ text.now)) }
+        ensures refused { IfErr result (λ fault. fault ≡ FullCount) }
+    {
+        let (_, hash) = Static::look_up(text);
+        let number = self.count.bucket_of(hash);
+        let mut bucket = self.buckets[usize::from(number)].lock(rt);
+        if bucket.number() != number {
+            return Ok(None);
+        }
+        match bucket.find(rt, text, hash)? {
+            Some((share, seen)) => Ok(Some(Held::new(share, seen, self))),
+            None => Ok(None),
+        }
+    }
+
+    /// How many cells are linked: the sum over the buckets, each read under its lock. Beside other threads nothing is said of it.
+    pub fn linked<R: Wait>(&self, rt: &R) -> u128 {
+        let mut sum = 0u128;
+        for bucket in &self.buckets {
+            sum = sum.saturating_add(bucket.lock(rt).len() as u128);
+        }
+        sum
+    }
+
+    /// Gives a share back. Where it was its cell's last, tries the lock of the cell's bucket, once, and prunes the bucket.
+    #[inline]
+    pub(crate) fn give_back(&self, share: CellShare) -> Receipt
+        ensures { result.name ≡ share.cell.name }
+    {
+        let hash = share.label().hash;
+        let (receipt, last) = share.give().parts();
+        if last.is_some() {
+            self.try_prune(hash);
+        }
+        receipt
+    }
+
+    /// Tries the lock of a hash's bucket, once, and prunes the bucket. It stands apart, so that the end of a share that isn't the last stays
+    /// short.
+    #[cold]
+    #[inline(never)]
+    fn try_prune(&self, hash: u64) {
+        let at = usize::from(self.count.bucket_of(hash));
+        if let Some(mut bucket) = self.buckets[at].try_lock() {
+            bucket.prune();
+        }
+    }
+}
