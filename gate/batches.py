@@ -35,6 +35,7 @@ GOAL = re.compile(r"`([^`]*)`")
 ERROR = re.compile(r"^(?:\./)?(proofs/\S+?):\d+:\d+: error: (.*(?:\n  .*)*)", re.MULTILINE)
 GONE = re.compile(r"has no field|is not in scope|has no `|was not admitted|is no name|projects from a record, but|rattle does not read")
 GENERICS = re.compile(r"<[^<>]*>")
+NO_FUNCTION = re.compile(r"has no function `([^`]*)`")  # the check stops at the first name of none
 
 
 @dataclass(eq=False)
@@ -164,10 +165,18 @@ def checker_of(folder):
 
 def check(bodies, folder, only=True):
     """What a check of the functions of these bodies, or else of the whole crate with them, says, in the folder of a copy of their crate,
-    whose texts are its own again afterwards."""
-    functions = [word for body in bodies for word in ("--only", body.function)] if only else []
+    whose texts are its own again afterwards. A name that is no function's is left out, so that it hides nothing of the others."""
+    functions, stops = list(dict.fromkeys(body.function for body in bodies)) if only else [], []
     with replaced(texts_with(bodies, folder)):
-        return said_by(*checker_of(folder), *functions, folder=folder)[1]
+        while True:
+            said = said_by(*checker_of(folder), *(word for function in functions for word in ("--only", function)), folder=folder)[1]
+            found = NO_FUNCTION.search(said)
+            if not found or found[1] not in functions:
+                return "".join([*stops, said])
+            stops.append(said)
+            functions.remove(found[1])
+            if not functions:
+                return "".join(stops)
 
 
 def goals_of(name, text, said):

@@ -272,6 +272,15 @@ class Crate(InSmallRepository):
                     self.assertEqual(found[name][0], well, (name, found[name]))
                     self.assertIn(text, found[name][1], name)
 
+    def test_a_name_of_no_function_hides_no_other(self):
+        wrong = self.placed("wrong", "next", ("wide + 1", "wide + 2"))
+        strays = [SimpleNamespace(function=name, places=[], files={}) for name in ("Texts::next", "nothing")]
+        with tempfile.TemporaryDirectory(prefix="refused-test-") as room:
+            said = batches.check([strays[0], wrong, strays[1]], batches.copies_of(["few"], Path(room))["few"])
+        self.assertEqual(batches.judge("next", said)[0], ["returns"])
+        for stray in strays:
+            self.assertEqual((batches.judge(stray.function, said)[0], f"has no function `{stray.function}`" in said), ([], True))
+
     def test_nothing_is_refused_of_a_crate_that_is_not_proved(self):
         file = self.folder / "src" / "lib.rt"
         file.write_text(CRATE.replace("wide + 1", "wide + 3"), encoding="utf-8")
