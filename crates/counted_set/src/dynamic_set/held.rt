@@ -182,8 +182,13 @@ impl<Static: StaticTables> HeldShare<Static> {
         ensures same { IfOk result (λ held. held ≡ self.now) }
         ensures full { IfErr result (λ fault. fault ≡ Fault.FullCount) }
     {
-        let Ok(share) = self.counted.add(rt) else {
-            return Err(Fault::FullCount);
+        // Another step seldom comes between, so nothing has to wait.
+        let share = match self.counted.try_add() {
+            Some(share) => share,
+            None => match self.counted.add(rt) {
+                Ok(share) => share,
+                Err(_) => return Err(Fault::FullCount),
+            },
         };
         Ok(Held { share, set })
     }
