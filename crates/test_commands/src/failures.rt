@@ -1,18 +1,14 @@
 //! A reader that fails at one of its reads, and a writer that fails at one of its writes, each in turn.
 
-use crate::memory::{Page, Streams};
+use crate::memory::{GIVES, Outcome, Streams};
 use crate::program::EXAMPLE_COUNTS;
-use crate::replay::{OUTPUT, SCRIPT};
-use crate::words::EXAMPLE_LINES;
+use crate::replay::{OUTPUT, SCRIPT, replayed};
+use crate::words::{EXAMPLE_LINES, told_alone, told_in_new_set};
 use commands::count::count_command;
-use commands::replay::replay;
-use commands::words::{words, words_alone};
 use std::alloc::Global;
 use std::process::Abort;
 use std::sync::Wait;
 use std::thread::Threads;
-use string_cache::EmptyStaticAtomSet;
-use string_cache::dynamic_set::Set;
 use test_samples::EXAMPLE;
 use text_streams::faults::AppFault;
 
@@ -43,62 +39,82 @@ impl Call {
     }
 
     /// What it answers and writes over these streams.
-    fn make<R: Threads + Wait + Sync>(
+    fn make<R: Threads + Wait + Sync>(self, rt: &R, alloc: Global, streams: &Streams) -> Outcome {
+        match self {
+            Call::Words => told_in_new_set(rt, alloc, streams),
+            Call::WordsAlone => told_alone(alloc, streams),
+            Call::CountByTwo => counted_by_two(rt, alloc, streams),
+            Call::Replay => replayed(alloc, streams),
+        }
+    }
+
+    /// Whether that is this answer, and these lines.
+    fn gives<R: Threads + Wait + Sync>(
         self,
         rt: &R,
         alloc: Global,
         streams: &Streams,
-    ) -> (Result<(), AppFault>, Page) {
-        let mut reader = streams.reader();
-        let mut writer = streams.writer();
-        let set = match Set::<EmptyStaticAtomSet>::new(alloc) {
-            Ok(set) => set,
-            Err(fault) => return (Err(AppFault::Intern(fault)), writer),
-        };
-        let answer = match self {
-            Call::Words => words(rt, &set, &mut reader, &mut writer),
-            Call::WordsAlone => words_alone(alloc, &mut reader, &mut writer),
-            Call::CountByTwo => count_command(rt, alloc, 2, &mut reader, &mut writer),
-            Call::Replay => replay(alloc, &mut reader, &mut writer),
-        };
-        (answer, writer)
+        answer: Result<(), AppFault>,
+        lines: &[u8],
+    ) -> bool {
+        self.make(rt, alloc, streams).is(answer, lines)
+    }
+
+    /// How many reads it makes, the last of which gives none.
+    fn reads(self) -> u64 {
+        let (input, _) = self.texts();
+        input.len().div_ceil(GIVES) as u64 + 1
     }
 }
 
-/// Ten bytes a read, and then one read that gives none.
-const GIVES: usize = 10;
+fn counted_by_two<R: Threads + Wait + Sync>(rt: &R, alloc: Global, streams: &Streams) -> Outcome {
+    let mut page = streams.writer();
+    let answer = count_command(rt, alloc, 2, &mut streams.reader(), &mut page);
+    Outcome { answer, page }
+}
+
+/// Whether a read that fails is told, and nothing is written then, or there is no such read.
+fn is_read_told<R: Threads + Wait + Sync>(rt: &R, alloc: Global, call: Call, at: u64) -> bool {
+    let (input, output) = call.texts();
+    let streams = Streams::reading(input, at);
+    if at > call.reads() {
+        call.gives(rt, alloc, &streams, Ok(()), output)
+    } else {
+        call.gives(rt, alloc, &streams, Err(AppFault::Read), b"")
+    }
+}
 
 /// Each read fails in turn, the one that would tell the end among them: then nothing is written.
 #[test]
 fn each_read_fails(rt: HostRuntime) {
-    for call in CALLS {
-        let (input, output) = call.texts();
-        let reads = input.len().div_ceil(GIVES) as u64 + 1;
-        for at in 1..=reads + 1 {
-            let mut streams = Streams::ample(input);
-            streams.gives = GIVES;
-            streams.read_fails_at = at;
-            let (answer, written) = call.make(&rt, rt.alloc(), &streams);
-            if at > reads {
-                assert_eq!(rt; answer, Ok(()), "{call:?} at {at}");
-                assert!(rt; written.written() == output, "{call:?} at {at}");
-            } else {
-                assert_eq!(rt; answer, Err(AppFault::Read), "{call:?} at {at}");
-                assert!(rt; written.written().is_empty(), "{call:?} at {at}");
-            }
+    for call in &CALLS {
+        for at in 1..=call.reads().saturating_add(1) {
+            assert!(rt;
+                is_read_told(&rt, rt.alloc(), *call, at),
+                "{call:?} at {at}"
+            );
         }
     }
 }
 
-/// Streams of which each write takes no more than `takes` bytes, and one fails.
-fn writing(text: &[u8], takes: usize, write_fails_at: u64) -> Streams<'_> {
-    Streams {
-        text,
-        gives: usize::MAX,
-        read_fails_at: 0,
-        takes,
-        write_fails_at,
-    }
+/// Whether a write that fails is told, and exactly these bytes are written before it.
+fn is_write_told<R: Threads + Wait + Sync>(
+    rt: &R,
+    alloc: Global,
+    call: Call,
+    (takes, at): (usize, u64),
+    before: &[u8],
+) -> bool {
+    let (input, _) = call.texts();
+    let streams = Streams::writing(input, takes, at);
+    call.gives(rt, alloc, &streams, Err(AppFault::Write), before)
+}
+
+/// Whether all is written where each write takes at most `takes` bytes.
+fn writes_all<R: Threads + Wait + Sync>(rt: &R, alloc: Global, call: Call, takes: usize) -> bool {
+    let (input, output) = call.texts();
+    let streams = Streams::writing(input, takes, 0);
+    call.gives(rt, alloc, &streams, Ok(()), output)
 }
 
 /// Each write of at most `takes` bytes fails in turn: then exactly what was taken before is written.
@@ -108,30 +124,26 @@ fn fail_each_write<R: Threads + Wait + Sync + Abort>(
     call: Call,
     takes: usize,
 ) {
-    let (input, output) = call.texts();
-    let mut taken = 0usize;
+    let (_, output) = call.texts();
+    let mut before = 0usize;
     for at in 1..=output.len() as u64 {
-        if taken >= output.len() {
+        if before >= output.len() {
             break;
         }
-        let (answer, written) = call.make(rt, alloc, &writing(input, takes, at));
-        assert_eq!(rt; answer, Err(AppFault::Write), "{call:?} at {at}");
         assert!(rt;
-            Some(written.written()) == output.get(..taken),
+            is_write_told(rt, alloc, call, (takes, at), &output[..before]),
             "{call:?} at {at}"
         );
-        taken = taken.saturating_add(takes);
+        before = before.saturating_add(takes);
     }
-    let (answer, written) = call.make(rt, alloc, &writing(input, takes, 0));
-    assert_eq!(rt; answer, Ok(()), "{call:?}");
-    assert!(rt; written.written() == output, "{call:?}");
+    assert!(rt; writes_all(rt, alloc, call, takes), "{call:?}");
 }
 
 #[test]
 fn each_write_fails(rt: HostRuntime) {
-    for call in CALLS {
+    for call in &CALLS {
         for takes in [1, 7] {
-            fail_each_write(&rt, rt.alloc(), call, takes);
+            fail_each_write(&rt, rt.alloc(), *call, takes);
         }
     }
 }
@@ -139,19 +151,15 @@ fn each_write_fails(rt: HostRuntime) {
 /// A writer that takes one byte a call and fails at call 41, and one that takes none.
 #[test]
 fn writes_of_the_example_fail(rt: HostRuntime) {
-    for call in [Call::Words, Call::WordsAlone] {
-        for (takes, write_fails_at, wanted) in [
-            (
-                1,
-                41,
-                b"Not seen the word \"here\" before\nNot seen".as_slice(),
-            ),
-            (0, 0, b"".as_slice()),
-        ] {
-            let streams = writing(EXAMPLE, takes, write_fails_at);
-            let (answer, written) = call.make(&rt, rt.alloc(), &streams);
-            assert_eq!(rt; answer, Err(AppFault::Write), "{call:?}");
-            assert!(rt; written.written() == wanted, "{call:?}");
-        }
+    let before = b"Not seen the word \"here\" before\nNot seen";
+    for call in &[Call::Words, Call::WordsAlone] {
+        assert!(rt;
+            is_write_told(&rt, rt.alloc(), *call, (1, 41), before),
+            "{call:?}"
+        );
+        assert!(rt;
+            is_write_told(&rt, rt.alloc(), *call, (0, 0), b""),
+            "{call:?}"
+        );
     }
 }

@@ -1,9 +1,6 @@
 //! What the commands print and answer, of single texts and of a real vocabulary.
 
-use crate::memory::Streams;
-use crate::program::{
-    NOT_TEXT, Run, answer_of, failures_are_told, try_lines, try_runs, words_of_line,
-};
+use crate::program::{NOT_TEXT, Run, try_lines, try_runs};
 use commands::generate::{check_command, generate_command};
 use std::alloc::{AllocError, Global};
 use std::sync::Wait;
@@ -21,55 +18,48 @@ fn tables_of(alloc: Global, key: u64, text: &str) -> Result<String, AllocError> 
     )
 }
 
-/// Whether the program makes these tables of an input.
-fn makes_tables_of<R: Threads + Wait + Sync>(
+/// Whether the program makes the tables of this text, under this key.
+fn are_made<R: Threads + Wait + Sync>(
     rt: &R,
     alloc: Global,
     line: &str,
     input: &[u8],
-    tables: &str,
+    (key, text): (u64, &str),
 ) -> bool {
-    let Ok(args) = words_of_line(alloc, line) else {
-        return false;
-    };
-    let answer = answer_of(rt, alloc, args, &Streams::ample(input));
-    answer.status == 0
-        && answer.output.written() == tables.as_bytes()
-        && answer.faults.written().is_empty()
+    match tables_of(alloc, key, text) {
+        Ok(tables) => Run::Given(line, input, tables.as_bytes()).is_right(rt, alloc),
+        Err(_) => false,
+    }
 }
 
 /// An empty line is the empty text, and the last line feed may lack.
 #[test]
 fn one_text(rt: HostRuntime) {
     let alloc = rt.alloc();
-    let wanted = tables_of(alloc, 0, "sentence").expect(&rt, "a text");
-    assert!(rt; makes_tables_of(&rt, alloc, "generate 0 1", b"sentence", &wanted));
-    assert!(rt; makes_tables_of(&rt, alloc, "generate 0 1", b"sentence\n", &wanted));
-    let wanted = tables_of(alloc, 7, "").expect(&rt, "a text");
-    assert!(rt; makes_tables_of(&rt, alloc, "generate 7 1", b"\n", &wanted));
+    assert!(rt; are_made(&rt, alloc, "generate 0 1", b"sentence", (0, "sentence")));
+    assert!(rt; are_made(&rt, alloc, "generate 0 1", b"sentence\n", (0, "sentence")));
+    assert!(rt; are_made(&rt, alloc, "generate 7 1", b"\n", (7, "")));
 }
+
+static REFUSED: [Run; 5] = [
+    Run::Refused("generate 0 1", b"", b"atoms: no texts\n"),
+    Run::Refused(
+        "generate 0 1",
+        b"same\nsame\n",
+        b"atoms: text listed twice\n",
+    ),
+    Run::Refused(
+        "generate 0 0",
+        b"sentence",
+        b"atoms: no tables within the bound\n",
+    ),
+    Run::Refused("generate 0 1", b"\xff", NOT_TEXT),
+    Run::Refused("check", b"\xff", NOT_TEXT),
+];
 
 #[test]
 fn refused_lists(rt: HostRuntime) {
-    try_runs(
-        &rt,
-        rt.alloc(),
-        &[
-            Run::refused("generate 0 1", b"", b"atoms: no texts\n"),
-            Run::refused(
-                "generate 0 1",
-                b"same\nsame\n",
-                b"atoms: text listed twice\n",
-            ),
-            Run::refused(
-                "generate 0 0",
-                b"sentence",
-                b"atoms: no tables within the bound\n",
-            ),
-            Run::refused("generate 0 1", b"\xff", NOT_TEXT),
-            Run::refused("check", b"\xff", NOT_TEXT),
-        ],
-    );
+    try_runs(&rt, rt.alloc(), &REFUSED);
 }
 
 #[test]
@@ -93,54 +83,66 @@ fn other_arguments(rt: HostRuntime) {
     );
 }
 
+static CHECKED: [Run; 3] = [
+    Run::Given(
+        "check",
+        b"key 0\ndisp 0 0\natom 1122334455667788 sentence\n",
+        b"yes\n",
+    ),
+    Run::Given(
+        "check",
+        b"key 00\ndisp 0 0\natom 1122334455667788 sentence\n",
+        b"no\n",
+    ),
+    Run::Given("check", b"", b"no\n"),
+];
+
 #[test]
 fn checked_texts(rt: HostRuntime) {
-    try_runs(
-        &rt,
-        rt.alloc(),
-        &[
-            Run::given(
-                "check",
-                b"key 0\ndisp 0 0\natom 1122334455667788 sentence\n",
-                b"yes\n",
-            ),
-            Run::given(
-                "check",
-                b"key 00\ndisp 0 0\natom 1122334455667788 sentence\n",
-                b"no\n",
-            ),
-            Run::given("check", b"", b"no\n"),
-        ],
-    );
+    try_runs(&rt, rt.alloc(), &CHECKED);
 }
+
+static STREAM_FAULTS: [Run; 4] = [
+    Run::Unread("generate 0 1", b"a longer sentence"),
+    Run::Unwritten("generate 0 1", b"a longer sentence"),
+    Run::Unread("check", b"a longer sentence"),
+    Run::Unwritten("check", b"a longer sentence"),
+];
 
 #[test]
 fn failing_streams(rt: HostRuntime) {
-    for line in ["generate 0 1", "check"] {
-        assert!(rt;
-            failures_are_told(&rt, rt.alloc(), line, b"a longer sentence"),
-            "at {line:?}"
-        );
+    try_runs(&rt, rt.alloc(), &STREAM_FAULTS);
+}
+
+/// What is printed of the names' tables under this key, if there are any.
+fn names_under(alloc: Global, key: u64) -> Option<Vec<u8>> {
+    let mut made = Io::new(Vec::new(alloc));
+    match generate_command(alloc, key, 1024, &mut Io::new(NAMES.as_bytes()), &mut made) {
+        Ok(()) => Some(made.into_inner()),
+        Err(_) => None,
     }
+}
+
+/// Whether what was printed is checked, with the answer yes.
+fn is_checked(alloc: Global, table: &[u8]) -> bool {
+    let mut answer = Io::new(Vec::new(alloc));
+    let outcome = check_command(alloc, &mut Io::new(table), &mut answer);
+    outcome == Ok(()) && answer.into_inner().as_slice() == b"yes\n".as_slice()
+}
+
+/// Whether what is printed of the names is checked, under the first key of ten that places them.
+fn are_names_checked(alloc: Global) -> bool {
+    for key in 0..10 {
+        if let Some(table) = names_under(alloc, key) {
+            return is_checked(alloc, &table);
+        }
+    }
+    false
 }
 
 /// Several hundred names are placed, and what is printed of them is checked.
 #[test]
 fn vocabulary(rt: HostRuntime) {
-    let alloc = rt.alloc();
     assert!(rt; NAMES.lines().count() > 300);
-    let mut table = Vec::new(alloc);
-    for key in 0..10u64 {
-        if table.is_empty() {
-            let mut made = Io::new(Vec::new(alloc));
-            let names = &mut Io::new(NAMES.as_bytes());
-            if generate_command(alloc, key, 1024, names, &mut made).is_ok() {
-                table = made.into_inner();
-            }
-        }
-    }
-    assert!(rt; !table.is_empty());
-    let mut answer = Io::new(Vec::new(alloc));
-    check_command(alloc, &mut Io::new(table.as_slice()), &mut answer).expect(&rt, "an answer");
-    assert!(rt; answer.into_inner().as_slice() == b"yes\n".as_slice());
+    assert!(rt; are_names_checked(rt.alloc()));
 }

@@ -1,9 +1,10 @@
 //! A reader and a writer over memory, for tests: they give or take few bytes a call, fail at a call of choice, and take no
-//! memory themselves.
+//! memory themselves. What a call over them answers and writes is an `Outcome`.
 
 ghost use Rattle.std.specs.Prelude.{◌≡◌, ◌<◌, ◌≤◌, None, Some, false};
 
 use std::io;
+use text_streams::faults::AppFault;
 use text_streams::streams::{Sink, Source};
 
 /// Gives at most `most` bytes a call, and fails at call `fails_at`, counted from 1 (0: never).
@@ -74,6 +75,9 @@ impl Source for Bytes<'_> {
     }
 }
 
+/// The most bytes of a read where one fails.
+pub const GIVES: usize = 10;
+
 /// How a reader and a writer behave.
 #[derive(Clone, Copy)]
 pub struct Streams<'b> {
@@ -99,6 +103,28 @@ impl<'b> Streams<'b> {
             read_fails_at: 0,
             takes: usize::MAX,
             write_fails_at: 0,
+        }
+    }
+
+    /// Some bytes a read, of which one fails, counted from 1 (0: none).
+    pub fn reading(text: &'b [u8], read_fails_at: u64) -> Streams<'b> {
+        Streams {
+            text,
+            gives: GIVES,
+            read_fails_at,
+            takes: usize::MAX,
+            write_fails_at: 0,
+        }
+    }
+
+    /// At most `takes` bytes a write, of which one fails, counted from 1 (0: none).
+    pub fn writing(text: &'b [u8], takes: usize, write_fails_at: u64) -> Streams<'b> {
+        Streams {
+            text,
+            gives: usize::MAX,
+            read_fails_at: 0,
+            takes,
+            write_fails_at,
         }
     }
 
@@ -181,6 +207,20 @@ impl Sink for Page {
 
     fn failed(&self) -> bool {
         self.failed
+    }
+}
+
+/// What a call answers, and what it writes.
+#[derive(Drop)]
+pub struct Outcome {
+    pub answer: Result<(), AppFault>,
+    pub page: Page,
+}
+
+impl Outcome {
+    /// Whether it is this answer, and these lines are written.
+    pub fn is(&self, answer: Result<(), AppFault>, lines: &[u8]) -> bool {
+        self.answer == answer && self.page.written() == lines
     }
 }
 

@@ -60,7 +60,6 @@ fn words_over_packed_names(rt: HostRuntime) {
 
 #[test]
 fn counts_over_packed_names(rt: HostRuntime) {
-    for both in [false, true] {
-        assert!(rt; are_counted::<PageNames, HostRuntime>(&rt, rt.alloc(), both));
-    }
+    assert!(rt; are_counted::<PageNames, HostRuntime>(&rt, rt.alloc(), false));
+    assert!(rt; are_counted::<PageNames, HostRuntime>(&rt, rt.alloc(), true));
 }

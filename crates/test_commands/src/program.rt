@@ -22,12 +22,23 @@ pub const NO_MEMORY: &[u8] = b"atoms: no memory\n";
 
 pub const NOT_TEXT: &[u8] = b"atoms: input is not UTF-8\n";
 
+const READ_FAILED: &[u8] = b"atoms: read failed\n";
+
+const WRITE_FAILED: &[u8] = b"atoms: write failed\n";
+
 /// What the program answers and writes.
 #[derive(Drop)]
 pub struct Answer {
     pub status: u8,
     pub output: Page,
     pub faults: Page,
+}
+
+impl Answer {
+    /// Whether it is this status, with this output and this line of a fault.
+    pub fn is(&self, status: u8, output: &[u8], faults: &[u8]) -> bool {
+        self.status == status && self.output.written() == output && self.faults.written() == faults
+    }
 }
 
 /// What is run for an outcome of reading the arguments, as `main` does.
@@ -74,89 +85,99 @@ pub fn words_of_line(alloc: Global, line: &str) -> Result<Vec<String>, AllocErro
 }
 
 /// A run of the program: its line of arguments and its input, and what has to come of it.
-#[derive(Clone, Copy)]
-pub struct Run {
-    line: &'static str,
-    input: &'static [u8],
-    status: u8,
-    output: &'static [u8],
-    faults: &'static [u8],
+#[derive(Drop)]
+pub enum Run<'r> {
+    /// It writes this output, and no fault.
+    Given(&'r str, &'r [u8], &'r [u8]),
+    /// It writes this fault's line, and no output.
+    Refused(&'r str, &'r [u8], &'r [u8]),
+    /// The second read fails, which is told, and there is no output.
+    Unread(&'r str, &'r [u8]),
+    /// The writer takes nothing, which is told.
+    Unwritten(&'r str, &'r [u8]),
+    /// The arguments are those of no command.
+    OfNoCommand(&'r str, &'r [u8]),
 }
 
-impl Run {
-    /// One that writes this output, and no fault.
-    pub fn given(line: &'static str, input: &'static [u8], output: &'static [u8]) -> Run {
-        Run {
-            line,
-            input,
-            status: 0,
-            output,
-            faults: b"",
-        }
-    }
+/// Whether this status, output and line of a fault come of a line of arguments over these streams.
+fn comes<R: Threads + Wait + Sync>(
+    rt: &R,
+    alloc: Global,
+    line: &str,
+    streams: &Streams,
+    status: u8,
+    output: &[u8],
+    faults: &[u8],
+) -> bool {
+    let Ok(args) = words_of_line(alloc, line) else {
+        return false;
+    };
+    answer_of(rt, alloc, args, streams).is(status, output, faults)
+}
 
-    /// One that writes this fault's line and no output.
-    pub fn refused(line: &'static str, input: &'static [u8], faults: &'static [u8]) -> Run {
-        Run {
-            line,
-            input,
-            status: 1,
-            output: b"",
-            faults,
-        }
-    }
-
-    /// One whose arguments are those of no command.
-    pub fn of_no_command(line: &'static str) -> Run {
-        Run {
-            line,
-            input: EXAMPLE,
-            status: 2,
-            output: b"",
-            faults: USAGE,
-        }
-    }
-
+impl Run<'_> {
     /// Whether that comes of it.
     pub fn is_right<R: Threads + Wait + Sync>(&self, rt: &R, alloc: Global) -> bool {
-        let Ok(args) = words_of_line(alloc, self.line) else {
-            return false;
-        };
-        let answer = answer_of(rt, alloc, args, &Streams::ample(self.input));
-        answer.status == self.status
-            && answer.output.written() == self.output
-            && answer.faults.written() == self.faults
+        match self {
+            Run::Given(line, input, output) => {
+                comes(rt, alloc, line, &Streams::ample(input), 0, output, b"")
+            }
+            Run::Refused(line, input, faults) => {
+                comes(rt, alloc, line, &Streams::ample(input), 1, b"", faults)
+            }
+            Run::Unread(line, input) => {
+                comes(
+                    rt,
+                    alloc,
+                    line,
+                    &Streams::reading(input, 2),
+                    1,
+                    b"",
+                    READ_FAILED,
+                )
+            }
+            Run::Unwritten(line, input) => {
+                comes(
+                    rt,
+                    alloc,
+                    line,
+                    &Streams::writing(input, 0, 0),
+                    1,
+                    b"",
+                    WRITE_FAILED,
+                )
+            }
+            Run::OfNoCommand(line, input) => {
+                comes(rt, alloc, line, &Streams::ample(input), 2, b"", USAGE)
+            }
+        }
     }
 }
 
 /// Each of these runs has to be right.
 pub fn try_runs<R: Threads + Wait + Sync + Abort>(rt: &R, alloc: Global, runs: &[Run]) {
-    for run in runs {
-        assert!(rt;
-            run.is_right(rt, alloc),
-            "at {:?} of {:?}",
-            run.line,
-            run.input
-        );
+    for (at, run) in runs.iter().enumerate() {
+        assert!(rt; run.is_right(rt, alloc), "at run {at}");
     }
+}
+
+/// Whether the arguments are those of no command.
+fn are_of_no_command<R: Threads + Wait + Sync>(rt: &R, alloc: Global, args: Vec<String>) -> bool {
+    answer_of(rt, alloc, args, &Streams::ample(EXAMPLE)).is(2, b"", USAGE)
 }
 
 #[test]
 fn no_arguments(rt: HostRuntime) {
-    let answer = answer_of(
-        &rt,
-        rt.alloc(),
-        Vec::new(rt.alloc()),
-        &Streams::ample(EXAMPLE),
-    );
-    assert_eq!(rt; answer.status, 2);
-    assert!(rt; answer.faults.written() == USAGE);
+    assert!(rt; are_of_no_command(&rt, rt.alloc(), Vec::new(rt.alloc())));
 }
 
 /// Lines of arguments that are those of no command.
 pub fn try_lines<R: Threads + Wait + Sync + Abort>(rt: &R, alloc: Global, lines: &[&'static str]) {
     for line in lines {
-        assert!(rt; Run::of_no_command(line).is_right(rt, alloc), "at {line:?}");
+        assert!(rt;
+            Run::OfNoCommand(line, EXAMPLE).is_right(rt, alloc),
+            "at {line:?}"
+        );
     }
 }
 
@@ -185,17 +206,18 @@ fn other_arguments(rt: HostRuntime) {
     );
 }
 
+/// The words "count" and " 1".
+fn args_with_a_space(alloc: Global) -> Result<Vec<String>, AllocError> {
+    let mut args = words_of_line(alloc, "count")?;
+    args.push(String::from_str(alloc, " 1")?)?;
+    Ok(args)
+}
+
 /// An argument that begins with a space is no number.
 #[test]
 fn other_number_of_workers(rt: HostRuntime) {
-    let alloc = rt.alloc();
-    let mut args = words_of_line(alloc, "count").expect(&rt, "an answer");
-    args.push(String::from_str(alloc, " 1").expect(&rt, "a text"))
-        .expect(&rt, "room");
-    let answer = answer_of(&rt, alloc, args, &Streams::ample(EXAMPLE));
-    assert_eq!(rt; answer.status, 2);
-    assert!(rt; answer.output.written().is_empty());
-    assert!(rt; answer.faults.written() == USAGE);
+    let args = args_with_a_space(rt.alloc()).expect(&rt, "arguments");
+    assert!(rt; are_of_no_command(&rt, rt.alloc(), args));
 }
 
 pub const EXAMPLE_COUNTS: &[u8] = b"1 a
@@ -217,127 +239,100 @@ pub const EXAMPLE_COUNTS: &[u8] = b"1 a
 
 pub const NO_WORKER: &[u8] = b"atoms: worker not started\n";
 
+static COUNT_RUNS: [Run; 6] = [
+    Run::Given("count 1", EXAMPLE, EXAMPLE_COUNTS),
+    Run::Given("count 2", EXAMPLE, EXAMPLE_COUNTS),
+    Run::Given("count 64", EXAMPLE, EXAMPLE_COUNTS),
+    Run::Given("count 2", b"a", b"1 a\n"),
+    Run::Given("count 3", b"", b""),
+    Run::Refused("count 2", b"\xff", NOT_TEXT),
+];
+
 #[test]
 fn program_of_counts(rt: HostRuntime) {
-    try_runs(
-        &rt,
-        rt.alloc(),
-        &[
-            Run::given("count 1", EXAMPLE, EXAMPLE_COUNTS),
-            Run::given("count 2", EXAMPLE, EXAMPLE_COUNTS),
-            Run::given("count 64", EXAMPLE, EXAMPLE_COUNTS),
-            Run::given("count 2", b"a", b"1 a\n"),
-            Run::given("count 3", b"", b""),
-            Run::refused("count 2", b"\xff", NOT_TEXT),
-        ],
-    );
+    try_runs(&rt, rt.alloc(), &COUNT_RUNS);
 }
+
+static WORD_RUNS: [Run; 3] = [
+    Run::Given("words", EXAMPLE, EXAMPLE_LINES),
+    Run::Given("words", b"", b""),
+    Run::Refused("words", b"\xff", NOT_TEXT),
+];
 
 #[test]
 fn program_of_words(rt: HostRuntime) {
-    try_runs(
-        &rt,
-        rt.alloc(),
-        &[
-            Run::given("words", EXAMPLE, EXAMPLE_LINES),
-            Run::given("words", b"", b""),
-            Run::refused("words", b"\xff", NOT_TEXT),
-        ],
-    );
+    try_runs(&rt, rt.alloc(), &WORD_RUNS);
 }
 
-/// Whether the program writes the fault of a reader that fails at its second read and of a writer that takes nothing, and no output.
-pub fn failures_are_told<R: Threads + Wait + Sync>(
-    rt: &R,
-    alloc: Global,
-    line: &str,
-    input: &[u8],
-) -> bool {
-    let reading = Streams {
-        text: input,
-        gives: 10,
-        read_fails_at: 2,
-        takes: usize::MAX,
-        write_fails_at: 0,
-    };
-    let mut writing = Streams::ample(input);
-    writing.takes = 0;
-    let (Ok(args), Ok(same)) = (words_of_line(alloc, line), words_of_line(alloc, line)) else {
-        return false;
-    };
-    let unread = answer_of(rt, alloc, args, &reading);
-    let unwritten = answer_of(rt, alloc, same, &writing);
-    fails_with(&unread, b"atoms: read failed\n") && fails_with(&unwritten, b"atoms: write failed\n")
-}
-
-/// Whether this fault's line is written, and no output.
-fn fails_with(answer: &Answer, faults: &[u8]) -> bool {
-    answer.status == 1 && answer.faults.written() == faults && answer.output.written().is_empty()
-}
+static STREAM_FAULTS: [Run; 6] = [
+    Run::Unread("words", EXAMPLE),
+    Run::Unwritten("words", EXAMPLE),
+    Run::Unread("count 3", EXAMPLE),
+    Run::Unwritten("count 3", EXAMPLE),
+    Run::Unread("replay", b"1 link\n1 leave\n"),
+    Run::Unwritten("replay", b"1 link\n1 leave\n"),
+];
 
 #[test]
 fn program_fails_at_its_streams(rt: HostRuntime) {
-    for (line, input) in [
-        ("words", EXAMPLE),
-        ("count 3", EXAMPLE),
-        ("replay", b"1 link\n1 leave\n".as_slice()),
-    ] {
-        assert!(rt;
-            failures_are_told(&rt, rt.alloc(), line, input),
-            "at {line:?}"
-        );
-    }
+    try_runs(&rt, rt.alloc(), &STREAM_FAULTS);
+}
+
+/// The status of the program over what is no text, where nothing can be said on standard error.
+fn unsaid_status<R: Threads + Wait + Sync>(
+    rt: &R,
+    alloc: Global,
+    line: &str,
+) -> Result<u8, AllocError> {
+    let args = words_of_line(alloc, line)?;
+    let streams = Streams::ample(b"\xff");
+    Ok(program(
+        rt,
+        alloc,
+        &args,
+        &mut streams.reader(),
+        &mut streams.writer(),
+        &mut Page::new(0, 0),
+    ))
 }
 
 /// What can't be said on standard error changes no status.
 #[test]
 fn faults_fail(rt: HostRuntime) {
-    for (line, status) in [("words", 1), ("jump", 2)] {
-        let args = words_of_line(rt.alloc(), line).expect(&rt, "an answer");
-        let streams = Streams::ample(b"\xff");
-        assert_eq!(rt;
-            program(
-                &rt,
-                rt.alloc(),
-                &args,
-                &mut streams.reader(),
-                &mut streams.writer(),
-                &mut Page::new(0, 0)
-            ),
-            status
-        );
-    }
+    assert!(rt; unsaid_status(&rt, rt.alloc(), "words") == Ok(1));
+    assert!(rt; unsaid_status(&rt, rt.alloc(), "jump") == Ok(2));
+}
+
+/// Faults, and the lines that they are told in.
+const FAULTS: [(AppFault, &[u8]); 10] = [
+    (AppFault::Read, READ_FAILED),
+    (AppFault::Write, WRITE_FAILED),
+    (AppFault::Text, NOT_TEXT),
+    (AppFault::Script(12), b"atoms: line 12: not a step\n"),
+    (AppFault::Worker, NO_WORKER),
+    (AppFault::Intern(Fault::Memory), NO_MEMORY),
+    (
+        AppFault::Intern(Fault::FullCount),
+        b"atoms: count is full\n",
+    ),
+    (
+        AppFault::Intern(Fault::TicketsSpent),
+        b"atoms: tickets are spent\n",
+    ),
+    (AppFault::Intern(Fault::NotText), b"atoms: not a text\n"),
+    (AppFault::Gen(GenFault::Memory), NO_MEMORY),
+];
+
+/// Whether the fault is told in this line, with the status 1.
+fn is_told(fault: AppFault, line: &[u8]) -> bool {
+    let mut faults = Page::wide();
+    refuse(&mut faults, fault) == 1 && faults.written() == line
 }
 
 #[test]
 fn printed_faults(rt: HostRuntime) {
-    for (fault, line) in [
-        (AppFault::Read, b"atoms: read failed\n".as_slice()),
-        (AppFault::Write, b"atoms: write failed\n".as_slice()),
-        (AppFault::Text, NOT_TEXT),
-        (
-            AppFault::Script(12),
-            b"atoms: line 12: not a step\n".as_slice(),
-        ),
-        (AppFault::Worker, b"atoms: worker not started\n".as_slice()),
-        (AppFault::Intern(Fault::Memory), NO_MEMORY),
-        (
-            AppFault::Intern(Fault::FullCount),
-            b"atoms: count is full\n".as_slice(),
-        ),
-        (
-            AppFault::Intern(Fault::TicketsSpent),
-            b"atoms: tickets are spent\n".as_slice(),
-        ),
-        (
-            AppFault::Intern(Fault::NotText),
-            b"atoms: not a text\n".as_slice(),
-        ),
-        (AppFault::Gen(GenFault::Memory), NO_MEMORY),
-    ] {
-        let mut faults = Page::wide();
-        assert_eq!(rt; refuse(&mut faults, fault), 1);
-        assert!(rt; faults.written() == line, "of {fault:?}");
+    for (fault, line) in &FAULTS {
+        assert!(rt; is_told(*fault, line), "of {fault:?}");
     }
 }
 
@@ -379,54 +374,69 @@ pub fn arguments_of(alloc: Global, line: CommandLine) -> Result<Option<Vec<Strin
 
 pub const COUNT_LINE: CommandLine = &[b"atoms", b"count", b"3"];
 
-const EMPTY_LINE: CommandLine = &[];
-
-const NAME_LINE: CommandLine = &[b"atoms"];
+pub const COUNT_WORDS: &[&str] = &["count", "3"];
 
 const BYTES_LINE: CommandLine = &[b"atoms", b"words", b"\xff"];
 
-/// Lines with the arguments that they give, parted by single spaces.
-const WORD_LINES: [(CommandLine, &str); 3] = [
-    (COUNT_LINE, "count 3"),
-    (&[b"atoms", b"generate", b"0", b"1", b"x"], "generate 0 1 x"),
-    (&[b"atoms", b"", b"words"], " words"),
+/// Lines with the arguments that they give.
+const WORD_LINES: [(CommandLine, &[&str]); 5] = [
+    (COUNT_LINE, COUNT_WORDS),
+    (
+        &[b"atoms", b"generate", b"0", b"1", b"x"],
+        &["generate", "0", "1", "x"],
+    ),
+    (&[b"atoms", b"", b"words"], &["", "words"]),
+    (&[], &[]),
+    (&[b"atoms"], &[]),
 ];
 
-#[test]
-fn arguments_without_the_name(rt: HostRuntime) {
-    for (line, words) in WORD_LINES {
-        let args = arguments_of(rt.alloc(), line)
-            .expect(&rt, "an answer")
-            .expect(&rt, "texts");
-        let wanted = words_of_line(rt.alloc(), words).expect(&rt, "an answer");
-        assert!(rt; args.as_slice() == wanted.as_slice(), "of {words:?}");
+/// Whether the arguments are these words.
+pub fn are_words(args: &[String], words: &[&str]) -> bool {
+    for (arg, word) in args.iter().zip(words) {
+        if arg.as_str() != *word {
+            return false;
+        }
     }
-    for line in [EMPTY_LINE, NAME_LINE] {
-        let args = arguments_of(rt.alloc(), line)
-            .expect(&rt, "an answer")
-            .expect(&rt, "texts");
-        assert!(rt; args.is_empty());
+    args.len() == words.len()
+}
+
+/// Whether the line gives these arguments.
+fn gives(alloc: Global, line: CommandLine, words: &[&str]) -> bool {
+    match arguments_of(alloc, line) {
+        Ok(Some(args)) => are_words(&args, words),
+        _ => false,
     }
-    assert!(rt;
-        arguments_of(rt.alloc(), BYTES_LINE)
-            .expect(&rt, "an answer")
-            .is_none()
-    );
 }
 
 #[test]
-fn outcomes_of_arguments(rt: HostRuntime) {
-    let words = words_of_line(rt.alloc(), "words").expect(&rt, "an answer");
-    let jump = words_of_line(rt.alloc(), "jump").expect(&rt, "an answer");
-    for (args, status, faults) in [
-        (Ok(Some(words)), 1, NOT_TEXT),
-        (Ok(Some(jump)), 2, USAGE),
-        (Ok(None), 2, USAGE),
-        (Err(AppFault::Intern(Fault::Memory)), 1, NO_MEMORY),
-    ] {
-        let answer = ran(&rt, rt.alloc(), args, &Streams::ample(b"\xff"));
-        assert_eq!(rt; answer.status, status);
-        assert!(rt; answer.output.written().is_empty());
-        assert!(rt; answer.faults.written() == faults);
+fn arguments_without_the_name(rt: HostRuntime) {
+    for (line, words) in &WORD_LINES {
+        assert!(rt; gives(rt.alloc(), line, words), "of {words:?}");
     }
+    assert!(rt; matches!(arguments_of(rt.alloc(), BYTES_LINE), Ok(None)));
+}
+
+/// Whether nothing is written but this line of a fault, with this status, over input that is no text.
+fn ends<R: Threads + Wait + Sync>(
+    rt: &R,
+    alloc: Global,
+    args: Result<Option<Vec<String>>, AppFault>,
+    status: u8,
+    faults: &[u8],
+) -> bool {
+    ran(rt, alloc, args, &Streams::ample(b"\xff")).is(status, b"", faults)
+}
+
+/// Outcomes that are arguments.
+static WORDS_OR_NONE: [Run; 2] = [
+    Run::Refused("words", b"\xff", NOT_TEXT),
+    Run::OfNoCommand("jump", b"\xff"),
+];
+
+#[test]
+fn outcomes_of_arguments(rt: HostRuntime) {
+    try_runs(&rt, rt.alloc(), &WORDS_OR_NONE);
+    assert!(rt; ends(&rt, rt.alloc(), Ok(None), 2, USAGE));
+    let no_room = Err(AppFault::Intern(Fault::Memory));
+    assert!(rt; ends(&rt, rt.alloc(), no_room, 1, NO_MEMORY));
 }

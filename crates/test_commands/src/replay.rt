@@ -1,18 +1,17 @@
 //! The worked scripts, and scripts that are large or no scripts.
 
-use crate::memory::{Page, Streams};
+use crate::memory::{Outcome, Streams};
 use crate::program::{NOT_TEXT, Run, try_runs};
 use commands::replay::replay;
-use std::alloc::Global;
-use std::test::Fail;
+use std::alloc::{AllocError, Global};
 use text_streams::faults::AppFault;
 use text_streams::streams::Io;
 
 /// What `replay` answers and writes over these streams.
-fn replay_of(alloc: Global, streams: &Streams) -> (Result<(), AppFault>, Page) {
-    let mut writer = streams.writer();
-    let answer = replay(alloc, &mut streams.reader(), &mut writer);
-    (answer, writer)
+pub fn replayed(alloc: Global, streams: &Streams) -> Outcome {
+    let mut page = streams.writer();
+    let answer = replay(alloc, &mut streams.reader(), &mut page);
+    Outcome { answer, page }
 }
 
 /// Scripts with what they print, worked out by hand from the table of steps.
@@ -244,83 +243,104 @@ freed
 #[test]
 fn worked_scripts(rt: HostRuntime) {
     for (script, output) in &WORKED {
-        let is_right = Run::given("replay", script, output).is_right(&rt, rt.alloc());
-        assert!(rt; is_right, "of {script:?}");
+        let run = Run::Given("replay", script, output);
+        assert!(rt; run.is_right(&rt, rt.alloc()), "of {script:?}");
     }
+}
+
+/// Whether the script is refused as no text, and nothing is written.
+fn is_no_text(alloc: Global, script: &[u8]) -> bool {
+    replayed(alloc, &Streams::ample(script)).is(Err(AppFault::Text), b"")
 }
 
 #[test]
 fn not_a_text(rt: HostRuntime) {
-    for script in [b"\xff".as_slice(), b"1 jump\n\xff".as_slice()] {
-        let (answer, written) = replay_of(rt.alloc(), &Streams::ample(script));
-        assert_eq!(rt; answer, Err(AppFault::Text));
-        assert!(rt; written.written().is_empty());
-    }
+    assert!(rt; is_no_text(rt.alloc(), b"\xff"));
+    assert!(rt; is_no_text(rt.alloc(), b"1 jump\n\xff"));
 }
 
 pub const SCRIPT: &[u8] = b"1 intern interned\n1 link\n2 clone e1\n1 leave\n2 give e1\n";
 
 pub const OUTPUT: &[u8] = b"taken\nlinked e1 serial 1\ncloned 2\nleft\ngiven 1\nheld e1 1\n";
 
-/// A script that takes several reads, and an output of more than one piece.
-#[test]
-fn more_than_one_piece(rt: HostRuntime) -> Result<(), Fail> {
-    let alloc = rt.alloc();
+/// Whether the script is replayed with these lines, of any size.
+fn prints(alloc: Global, script: &str, lines: &str) -> bool {
+    let mut writer = Io::new(Vec::new(alloc));
+    let answer = replay(alloc, &mut Io::new(script.as_bytes()), &mut writer);
+    answer == Ok(()) && writer.into_inner().as_slice() == lines.as_bytes()
+}
+
+/// A sweep of each bucket below 6000.
+fn script_of_sweeps(alloc: Global) -> Result<String, AllocError> {
     let mut script = String::new(alloc);
-    let mut lines = String::new(alloc);
     for bucket in 0..6000u32 {
         write!(script, "1 sweep {bucket}\n1 leave\n")?;
-        lines.push_str(if bucket < 4096 {
-            "taken\nleft\n"
-        } else {
-            "no\nno\n"
-        })?;
     }
-    let mut writer = Io::new(Vec::new(alloc));
-    replay(alloc, &mut Io::new(script.as_bytes()), &mut writer)?;
-    assert!(rt; writer.into_inner().as_slice() == lines.as_bytes());
-    assert_eq!(rt;
-        replay(alloc, &mut Io::new(script.as_bytes()), &mut Page::wide()),
-        Err(AppFault::Write)
-    );
-    Ok(())
+    Ok(script)
+}
+
+/// What that prints: there are 4096 buckets.
+fn lines_of_sweeps(alloc: Global) -> Result<String, AllocError> {
+    let mut lines = "taken\nleft\n".repeat(alloc, 4096)?;
+    lines.push_str("no\nno\n".repeat(alloc, 1904)?.as_str())?;
+    Ok(lines)
+}
+
+/// Whether the lines come in several writes, of which a later one fails.
+fn come_in_pieces(alloc: Global) -> Result<bool, AllocError> {
+    let script = script_of_sweeps(alloc)?;
+    let lines = lines_of_sweeps(alloc)?;
+    let written = replayed(alloc, &Streams::ample(script.as_bytes()));
+    Ok(prints(alloc, &script, &lines) && written.answer == Err(AppFault::Write))
+}
+
+/// A script that takes several reads, and an output of more than one piece.
+#[test]
+fn more_than_one_piece(rt: HostRuntime) {
+    assert!(rt; come_in_pieces(rt.alloc()) == Ok(true));
+}
+
+/// A pass over a bucket, and behind it 550 steps that aren't enabled, each of a text of 2,000 bytes.
+fn large_script_of(alloc: Global) -> Result<String, AllocError> {
+    let text = "abcdefghijklmnopqrst".repeat(alloc, 100)?;
+    let mut script = String::from_str(alloc, "1 sweep 0\n")?;
+    for _ in 0..550 {
+        writeln!(script, "1 intern {text}")?;
+    }
+    Ok(script)
+}
+
+/// What that prints.
+fn lines_of_the_large_script(alloc: Global) -> Result<String, AllocError> {
+    let mut lines = String::from_str(alloc, "taken\n")?;
+    for _ in 0..550 {
+        lines.push_str("no\n")?;
+    }
+    Ok(lines)
 }
 
 /// More than a megabyte of long lines.
 #[test]
 fn large_script(rt: HostRuntime) {
-    let alloc = rt.alloc();
-    let mut text = String::new(alloc);
-    for _ in 0..100 {
-        text.push_str("abcdefghijklmnopqrst").expect(&rt, "room");
-    }
-    let mut script = String::from_str(alloc, "1 sweep 0\n").expect(&rt, "a text");
-    let mut lines = String::from_str(alloc, "taken\n").expect(&rt, "a text");
-    for _ in 0..550 {
-        writeln!(script, "1 intern {text}").expect(&rt, "an answer");
-        lines.push_str("no\n").expect(&rt, "room");
-    }
+    let script = large_script_of(rt.alloc()).expect(&rt, "room");
     assert!(rt; script.len() > 1_100_000);
-    let mut writer = Io::new(Vec::new(alloc));
-    replay(alloc, &mut Io::new(script.as_bytes()), &mut writer).expect(&rt, "an answer");
-    assert!(rt; writer.into_inner().as_slice() == lines.as_bytes());
+    let lines = lines_of_the_large_script(rt.alloc()).expect(&rt, "room");
+    assert!(rt; prints(rt.alloc(), &script, &lines));
 }
+
+static RUNS: [Run; 5] = [
+    Run::Given("replay", SCRIPT, OUTPUT),
+    Run::Given("replay", b"", b""),
+    Run::Refused("replay", b"1 jump", b"atoms: line 1: not a step\n"),
+    Run::Refused(
+        "replay",
+        b"1 link\n1 jump\n1 jump\n",
+        b"atoms: line 2: not a step\n",
+    ),
+    Run::Refused("replay", b"\xff", NOT_TEXT),
+];
 
 #[test]
 fn program_of_scripts(rt: HostRuntime) {
-    try_runs(
-        &rt,
-        rt.alloc(),
-        &[
-            Run::given("replay", SCRIPT, OUTPUT),
-            Run::given("replay", b"", b""),
-            Run::refused("replay", b"1 jump", b"atoms: line 1: not a step\n"),
-            Run::refused(
-                "replay",
-                b"1 link\n1 jump\n1 jump\n",
-                b"atoms: line 2: not a step\n",
-            ),
-            Run::refused("replay", b"\xff", NOT_TEXT),
-        ],
-    );
+    try_runs(&rt, rt.alloc(), &RUNS);
 }

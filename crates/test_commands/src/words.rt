@@ -2,11 +2,11 @@
 
 ghost use Rattle.std.specs.Prelude.{None, false};
 
-use crate::memory::{Bytes, Page, Streams};
+use crate::memory::{Bytes, Outcome, Streams};
 use commands::words::{words, words_alone};
-use std::alloc::Global;
+use std::alloc::{AllocError, Global};
+use std::process::Abort;
 use std::sync::Wait;
-use std::test::Fail;
 use std::{io, str};
 use string_cache::dynamic_set::Set;
 use string_cache::word::Limits;
@@ -37,32 +37,29 @@ Seen the word \"text\" 1 times
 Seen the word \"and\" 2 times
 ";
 
-/// What words are interned in.
-#[derive(Clone, Copy, Debug)]
-enum Over {
-    Table,
-    Set,
+/// What `words` answers and writes over these streams and this set.
+pub fn told_in<R: Wait>(rt: &R, set: &Set<EmptyStaticAtomSet>, streams: &Streams) -> Outcome {
+    let mut page = streams.writer();
+    let answer = words(rt, set, &mut streams.reader(), &mut page);
+    Outcome { answer, page }
 }
 
-const WAYS: [Over; 2] = [Over::Table, Over::Set];
-
-/// What is answered and written over these streams.
-fn tell<R: Wait>(
-    rt: &R,
-    alloc: Global,
-    over: Over,
-    streams: &Streams,
-) -> (Result<(), AppFault>, Page) {
-    let mut reader = streams.reader();
-    let mut writer = streams.writer();
-    let answer = match over {
-        Over::Table => words_alone(alloc, &mut reader, &mut writer),
-        Over::Set => match Set::<EmptyStaticAtomSet>::new(alloc) {
-            Ok(set) => words(rt, &set, &mut reader, &mut writer),
-            Err(fault) => Err(AppFault::Intern(fault)),
+/// The same over a new set.
+pub fn told_in_new_set<R: Wait>(rt: &R, alloc: Global, streams: &Streams) -> Outcome {
+    match Set::<EmptyStaticAtomSet>::new(alloc) {
+        Ok(set) => told_in(rt, &set, streams),
+        Err(fault) => Outcome {
+            answer: Err(AppFault::Intern(fault)),
+            page: streams.writer(),
         },
-    };
-    (answer, writer)
+    }
+}
+
+/// What `words_alone` answers and writes over these streams.
+pub fn told_alone(alloc: Global, streams: &Streams) -> Outcome {
+    let mut page = streams.writer();
+    let answer = words_alone(alloc, &mut streams.reader(), &mut page);
+    Outcome { answer, page }
 }
 
 /// Texts with their lines.
@@ -77,57 +74,78 @@ const TEXTS: [(&[u8], &[u8]); 5] = [
     (b"\x1c", b"Not seen the word \"\x1c\" before\n"),
 ];
 
-/// Whether exactly the lines of the text are written.
-fn is_told<R: Wait>(rt: &R, alloc: Global, over: Over, text: &[u8], lines: &[u8]) -> bool {
-    let (answer, written) = tell(rt, alloc, over, &Streams::ample(text));
-    answer == Ok(()) && written.written() == lines
+/// Whether a set and a table give this answer and these lines of the text.
+fn are_told<R: Wait>(
+    rt: &R,
+    alloc: Global,
+    text: &[u8],
+    answer: Result<(), AppFault>,
+    lines: &[u8],
+) -> bool {
+    let streams = Streams::ample(text);
+    told_alone(alloc, &streams).is(answer, lines)
+        && told_in_new_set(rt, alloc, &streams).is(answer, lines)
 }
 
 #[test]
 fn words_of_texts(rt: HostRuntime) {
     for (text, lines) in &TEXTS {
-        for over in WAYS {
-            assert!(rt;
-                is_told(&rt, rt.alloc(), over, text, lines),
-                "over {over:?} of {text:?}"
-            );
-        }
+        assert!(rt;
+            are_told(&rt, rt.alloc(), text, Ok(()), lines),
+            "of {text:?}"
+        );
     }
 }
 
 #[test]
 fn not_a_text(rt: HostRuntime) {
-    for over in WAYS {
-        let (answer, written) = tell(&rt, rt.alloc(), over, &Streams::ample(b"\xff"));
-        assert_eq!(rt; answer, Err(AppFault::Text), "over {over:?}");
-        assert!(rt; written.written().is_empty(), "over {over:?}");
-    }
+    assert!(rt; are_told(&rt, rt.alloc(), b"\xff", Err(AppFault::Text), b""));
 }
 
-/// So many different words, each a number of six digits behind the same beginning, and their lines.
-fn numbered_words(alloc: Global, front: &str, count: u32) -> Result<(String, String), Fail> {
+/// So many different words, each a number of six digits behind the same beginning.
+fn numbered_words(alloc: Global, front: &str, count: u32) -> Result<String, AllocError> {
     let mut text = String::new(alloc);
-    let mut lines = String::new(alloc);
     for n in 0..count {
         write!(text, "{front}{n:06} ")?;
+    }
+    Ok(text)
+}
+
+/// Their lines.
+fn numbered_lines(alloc: Global, front: &str, count: u32) -> Result<String, AllocError> {
+    let mut lines = String::new(alloc);
+    for n in 0..count {
         writeln!(lines, "Not seen the word \"{front}{n:06}\" before")?;
     }
-    Ok((text, lines))
+    Ok(lines)
+}
+
+/// Whether the lines of a text are written, of any size.
+fn are_lines(alloc: Global, text: &str, lines: &str) -> bool {
+    let mut writer = Io::new(Vec::new(alloc));
+    let answer = words_alone(alloc, &mut Io::new(text.as_bytes()), &mut writer);
+    answer == Ok(()) && writer.into_inner().as_slice() == lines.as_bytes()
+}
+
+/// The same of a set.
+fn are_lines_in<R: Wait>(rt: &R, set: &Set<EmptyStaticAtomSet>, text: &str, lines: &str) -> bool {
+    let mut writer = Io::new(Vec::new(set.allocator()));
+    let answer = words(rt, set, &mut Io::new(text.as_bytes()), &mut writer);
+    answer == Ok(()) && writer.into_inner().as_slice() == lines.as_bytes()
+}
+
+/// Whether the lines of so many words come in several writes, of which a later one fails.
+fn come_in_pieces(alloc: Global, front: &str, count: u32) -> Result<bool, AllocError> {
+    let text = numbered_words(alloc, front, count)?;
+    let lines = numbered_lines(alloc, front, count)?;
+    let written = told_alone(alloc, &Streams::ample(text.as_bytes()));
+    Ok(are_lines(alloc, &text, &lines) && written.answer == Err(AppFault::Write))
 }
 
 /// Many lines come in several writes, of which a later one fails.
 #[test]
-fn more_than_one_piece(rt: HostRuntime) -> Result<(), Fail> {
-    let alloc = rt.alloc();
-    let (text, lines) = numbered_words(alloc, "word", 3000)?;
-    let mut writer = Io::new(Vec::new(alloc));
-    words_alone(alloc, &mut Io::new(text.as_bytes()), &mut writer)?;
-    assert!(rt; writer.into_inner().as_slice() == lines.as_bytes());
-    assert_eq!(rt;
-        words_alone(alloc, &mut Io::new(text.as_bytes()), &mut Page::wide()),
-        Err(AppFault::Write)
-    );
-    Ok(())
+fn more_than_one_piece(rt: HostRuntime) {
+    assert!(rt; come_in_pieces(rt.alloc(), "word", 3000) == Ok(true));
 }
 
 /// Takes all bytes, and notes how many come in each of the first two writes, and how many writes there are.
@@ -158,36 +176,43 @@ impl Sink for Sizes {
     }
 }
 
-/// A piece is written once the lines have 65,536 bytes, as those of 1,024 words have here: each line has 64, in 60 characters.
-#[test]
-fn lines_come_in_pieces(rt: HostRuntime) -> Result<(), Fail> {
-    let (text, _) = numbered_words(rt.alloc(), "smörgåsbordsmörgåsbordbord", 3000)?;
+/// How many writes the lines of a text come in, and the bytes of the first two.
+fn sizes_of(alloc: Global, text: &str) -> Result<(u64, usize, usize), AppFault> {
     let mut sizes = Sizes {
         writes: 0,
         first: 0,
         second: 0,
     };
-    words_alone(rt.alloc(), &mut Io::new(text.as_bytes()), &mut sizes)?;
-    assert!(rt; sizes.writes == 3);
-    assert!(rt; sizes.first == 65_536 && sizes.second == 65_536);
-    Ok(())
+    words_alone(alloc, &mut Io::new(text.as_bytes()), &mut sizes)?;
+    Ok((sizes.writes, sizes.first, sizes.second))
+}
+
+/// A piece is written once the lines have 65,536 bytes, as those of 1,024 words have here: each line has 64, in 60 characters.
+#[test]
+fn lines_come_in_pieces(rt: HostRuntime) {
+    let text = numbered_words(rt.alloc(), "smörgåsbordsmörgåsbordbord", 3000).expect(&rt, "room");
+    assert!(rt; sizes_of(rt.alloc(), &text) == Ok((3, 65_536, 65_536)));
+}
+
+/// Whether the lines of 550 words with this beginning, which have more than a megabyte, are written over the set.
+fn are_large<R: Wait>(
+    rt: &R,
+    set: &Set<EmptyStaticAtomSet>,
+    front: &str,
+) -> Result<bool, AllocError> {
+    let text = numbered_words(set.allocator(), front, 550)?;
+    let lines = numbered_lines(set.allocator(), front, 550)?;
+    Ok(text.len() > 1_100_000 && are_lines_in(rt, set, &text, &lines))
 }
 
 /// More than a megabyte of long words.
 #[test]
-fn large_text(rt: HostRuntime) -> Result<(), Fail> {
-    let alloc = rt.alloc();
-    let mut front = String::new(alloc);
-    for _ in 0..100 {
-        front.push_str("abcdefghijklmnopqrst").expect(&rt, "room");
-    }
-    let (text, lines) = numbered_words(alloc, &front, 550)?;
-    assert!(rt; text.len() > 1_100_000);
-    let set: Set<EmptyStaticAtomSet> = Set::new(alloc).expect(&rt, "a set");
-    let mut writer = Io::new(Vec::new(alloc));
-    words(&rt, &set, &mut Io::new(text.as_bytes()), &mut writer).expect(&rt, "an answer");
-    assert!(rt; writer.into_inner().as_slice() == lines.as_bytes());
-    Ok(())
+fn large_text(rt: HostRuntime) {
+    let front = "abcdefghijklmnopqrst"
+        .repeat(rt.alloc(), 100)
+        .expect(&rt, "room");
+    let set = Set::<EmptyStaticAtomSet>::new(rt.alloc()).expect(&rt, "a set");
+    assert!(rt; are_large(&rt, &set, &front) == Ok(true));
 }
 
 /// Whether the atom of a text is dynamic.
@@ -195,19 +220,16 @@ fn is_dynamic<R: Wait>(rt: &R, set: &Set<EmptyStaticAtomSet>, text: &str) -> Res
     Ok(Atom::from_str_in(rt, set, text)?.is_dynamic())
 }
 
+/// Those of the example that are.
+const DYNAMIC_WORDS: [&str; 4] = ["sentence", "tokenised", "interned", "repeated"];
+
 #[test]
 fn dynamic_words_of_the_example(rt: HostRuntime) {
-    let set: Set<EmptyStaticAtomSet> = Set::new(rt.alloc()).expect(&rt, "a set");
-    let longer = ["sentence", "tokenised", "interned", "repeated"];
-    for word in str::from_utf8(EXAMPLE)
-        .expect(&rt, "a text")
-        .split_whitespace()
-    {
-        assert_eq!(rt;
-            is_dynamic(&rt, &set, word).expect(&rt, "an answer"),
-            longer.contains(&word),
-            "of {word:?}"
-        );
+    let set = Set::<EmptyStaticAtomSet>::new(rt.alloc()).expect(&rt, "a set");
+    let text = str::from_utf8(EXAMPLE).expect(&rt, "a text");
+    for word in text.split_whitespace() {
+        let is_longer = DYNAMIC_WORDS.contains(&word);
+        assert!(rt; is_dynamic(&rt, &set, word) == Ok(is_longer), "of {word:?}");
     }
 }
 
@@ -252,91 +274,97 @@ impl<R: Wait> Sink for Watcher<'_, R> {
     }
 }
 
+/// Whether so many entries are linked while the lines of the text are written, and none after it.
+fn are_held<R: Wait>(rt: &R, set: &Set<EmptyStaticAtomSet>, text: &str, linked: u128) -> bool {
+    let mut writer = Watcher::new(rt, set, "");
+    let answer = words(rt, set, &mut Bytes::whole(text.as_bytes()), &mut writer);
+    answer == Ok(()) && writer.linked == linked && set.linked(rt) == 0
+}
+
 /// Each dynamic word is linked once while the lines are written, and goes with the last of its atoms.
 #[test]
-fn words_are_held_to_the_end(rt: HostRuntime) -> Result<(), Fail> {
-    let alloc = rt.alloc();
-    let set: Set<EmptyStaticAtomSet> = Set::new(alloc).expect(&rt, "a set");
-    let (many, _) = numbered_words(alloc, "word", 3000)?;
-    for (text, linked) in [
-        ("interned tokenised interned short", 2),
-        (many.as_str(), 3000),
-    ] {
-        let mut writer = Watcher::new(&rt, &set, "");
-        words(&rt, &set, &mut Bytes::whole(text.as_bytes()), &mut writer).expect(&rt, "an answer");
-        assert!(rt; writer.linked == linked);
-        assert!(rt; set.linked(&rt) == 0);
-    }
-    Ok(())
+fn words_are_held_to_the_end(rt: HostRuntime) {
+    let set = Set::<EmptyStaticAtomSet>::new(rt.alloc()).expect(&rt, "a set");
+    assert!(rt; are_held(&rt, &set, "interned tokenised interned short", 2));
+    let many = numbered_words(rt.alloc(), "word", 3000).expect(&rt, "room");
+    assert!(rt; are_held(&rt, &set, &many, 3000));
+}
+
+/// Whether interning this text gives this answer while the lines of others are written.
+fn is_answer_meanwhile<R: Wait>(
+    rt: &R,
+    set: &Set<EmptyStaticAtomSet>,
+    text: &'static str,
+    answer: Result<(), Fault>,
+) -> bool {
+    let mut writer = Watcher::new(rt, set, text);
+    let others = &mut Bytes::whole(b"interned tokenised");
+    words(rt, set, others, &mut writer) == Ok(()) && writer.answer == answer
+}
+
+/// A new set with these limits.
+pub fn set_with(
+    rt: &impl Abort,
+    alloc: Global,
+    holders: u64,
+    serials: u64,
+) -> Set<EmptyStaticAtomSet> {
+    let limits = Limits::new(holders, serials).expect(rt, "limits");
+    Set::with_limits(alloc, limits).expect(rt, "a set")
 }
 
 /// Where an entry has one holder at most, a word of the text is refused to others while the lines are written, and another
 /// text isn't.
 #[test]
 fn words_are_interned_themselves(rt: HostRuntime) {
-    let limits = Limits::new(1, 9).expect(&rt, "limits");
-    let set: Set<EmptyStaticAtomSet> = Set::with_limits(rt.alloc(), limits).expect(&rt, "a set");
-    for (text, answer) in [
-        ("interned", Err(Fault::FullCount)),
-        ("tokenised", Err(Fault::FullCount)),
-        ("repeated", Ok(())),
-    ] {
-        let mut writer = Watcher::new(&rt, &set, text);
-        words(
-            &rt,
-            &set,
-            &mut Bytes::whole(b"interned tokenised"),
-            &mut writer,
-        )
-        .expect(&rt, "an answer");
-        assert_eq!(rt; writer.answer, answer, "of {text:?}");
-    }
+    let set = set_with(&rt, rt.alloc(), 1, 9);
+    let full = Err(Fault::FullCount);
+    assert!(rt; is_answer_meanwhile(&rt, &set, "interned", full));
+    assert!(rt; is_answer_meanwhile(&rt, &set, "tokenised", full));
+    assert!(rt; is_answer_meanwhile(&rt, &set, "repeated", Ok(())));
 }
 
-/// What `words` answers and writes of a text over this set.
-fn words_in<R: Wait>(
+/// Whether this is the answer to the text, and nothing stays linked.
+fn is_answer<R: Wait>(
     rt: &R,
     set: &Set<EmptyStaticAtomSet>,
     text: &[u8],
-) -> (Result<(), AppFault>, Page) {
-    let mut writer = Page::wide();
-    let answer = words(rt, set, &mut Bytes::whole(text), &mut writer);
-    (answer, writer)
+    answer: Result<(), AppFault>,
+) -> bool {
+    told_in(rt, set, &Streams::ample(text)).answer == answer && set.linked(rt) == 0
 }
 
 /// Each place of a word is a holder, also of one that came before.
 #[test]
-fn holders_are_full(rt: HostRuntime) -> Result<(), Fail> {
-    let limits = Limits::new(2, 9).expect(&rt, "limits");
-    let set: Set<EmptyStaticAtomSet> = Set::with_limits(rt.alloc(), limits)?;
-    for (text, wanted) in [
-        (b"interned. interned.".as_slice(), Ok(())),
-        (
-            b"interned. interned. interned.".as_slice(),
-            Err(AppFault::Intern(Fault::FullCount)),
-        ),
-    ] {
-        let (answer, _) = words_in(&rt, &set, text);
-        assert_eq!(rt; answer, wanted, "of {text:?}");
-        assert!(rt; set.linked(&rt) == 0);
-    }
-    Ok(())
+fn holders_are_full(rt: HostRuntime) {
+    let set = set_with(&rt, rt.alloc(), 2, 9);
+    assert!(rt; is_answer(&rt, &set, b"interned. interned.", Ok(())));
+    let full = Err(AppFault::Intern(Fault::FullCount));
+    assert!(rt; is_answer(&rt, &set, b"interned. interned. interned.", full));
+}
+
+/// Whether this is answered, and these lines are written, of the text "interned".
+fn is_told_in<R: Wait>(
+    rt: &R,
+    set: &Set<EmptyStaticAtomSet>,
+    answer: Result<(), AppFault>,
+    lines: &[u8],
+) -> bool {
+    told_in(rt, set, &Streams::ample(b"interned")).is(answer, lines)
 }
 
 /// A ticket isn't given again to a word whose atoms are gone.
 #[test]
 fn tickets_are_spent(rt: HostRuntime) {
-    let limits = Limits::new(9, 1).expect(&rt, "limits");
-    let set: Set<EmptyStaticAtomSet> = Set::with_limits(rt.alloc(), limits).expect(&rt, "a set");
-    for (wanted, lines) in [
-        (
+    let set = set_with(&rt, rt.alloc(), 9, 1);
+    assert!(rt;
+        is_told_in(
+            &rt,
+            &set,
             Ok(()),
-            b"Not seen the word \"interned\" before\n".as_slice(),
-        ),
-        (Err(AppFault::Intern(Fault::TicketsSpent)), b"".as_slice()),
-    ] {
-        let (answer, written) = words_in(&rt, &set, b"interned");
-        assert_eq!(rt; answer, wanted);
-        assert!(rt; written.written() == lines);
-    }
+            b"Not seen the word \"interned\" before\n"
+        )
+    );
+    let spent = Err(AppFault::Intern(Fault::TicketsSpent));
+    assert!(rt; is_told_in(&rt, &set, spent, b""));
 }

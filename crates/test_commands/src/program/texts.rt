@@ -8,25 +8,25 @@ use std::sync::Wait;
 use std::thread::Threads;
 use text_streams::streams::Io;
 
-/// The status, the output and the fault's line of the program over an input of any size.
-fn ran_over<R: Threads + Wait + Sync>(
+/// What the program writes of an input of any size, without a fault.
+fn output_of<R: Threads + Wait + Sync>(
     rt: &R,
     alloc: Global,
     line: &str,
     input: &[u8],
-) -> Result<(u8, Vec<u8>, Page), AllocError> {
-    let args = words_of_line(alloc, line)?;
+) -> Option<Vec<u8>> {
+    let Ok(args) = words_of_line(alloc, line) else {
+        return None;
+    };
     let mut output = Io::new(Vec::new(alloc));
     let mut faults = Page::wide();
-    let status = program(
-        rt,
-        alloc,
-        &args,
-        &mut Io::new(input),
-        &mut output,
-        &mut faults,
-    );
-    Ok((status, output.into_inner(), faults))
+    let input = &mut Io::new(input);
+    if program(rt, alloc, &args, input, &mut output, &mut faults) == 0
+        && faults.written().is_empty()
+    {
+        return Some(output.into_inner());
+    }
+    None
 }
 
 /// Whether the program writes this output, and no fault.
@@ -34,11 +34,13 @@ fn writes<R: Threads + Wait + Sync>(
     rt: &R,
     alloc: Global,
     line: &str,
-    input: &str,
-    output: &str,
-) -> Result<bool, AllocError> {
-    let (status, written, faults) = ran_over(rt, alloc, line, input.as_bytes())?;
-    Ok(status == 0 && written.as_slice() == output.as_bytes() && faults.written().is_empty())
+    input: &[u8],
+    output: &[u8],
+) -> bool {
+    match output_of(rt, alloc, line, input) {
+        Some(written) => written.as_slice() == output,
+        None => false,
+    }
 }
 
 /// A command, its input and its output.
@@ -105,30 +107,12 @@ Seen the word \"interned\" 2 times
     ),
 ];
 
-/// Whether the program writes the output of a row.
-fn is_written<R: Threads + Wait + Sync>(rt: &R, alloc: Global, row: &Row) -> bool {
-    let (line, input, output) = *row;
-    matches!(writes(rt, alloc, line, input, output), Ok(true))
-}
-
 #[test]
 fn beyond_ascii(rt: HostRuntime) {
-    for row in &ROWS {
-        assert!(rt; is_written(&rt, rt.alloc(), row), "{row:?}");
+    for (line, input, output) in &ROWS {
+        let is_written = writes(&rt, rt.alloc(), line, input.as_bytes(), output.as_bytes());
+        assert!(rt; is_written, "{line:?} of {input:?}");
     }
-}
-
-/// A text of three bytes a character, this many thousand characters long.
-fn long_text(alloc: Global, thousands: u32) -> Result<String, AllocError> {
-    let mut thousand = String::new(alloc);
-    for _ in 0..1000 {
-        thousand.push_str("字")?;
-    }
-    let mut text = String::new(alloc);
-    for _ in 0..thousands {
-        text.push_str(thousand.as_str())?;
-    }
-    Ok(text)
 }
 
 /// A text with the lines that `words` and `count` write of it.
@@ -140,12 +124,12 @@ struct Told {
 }
 
 impl Told {
-    /// The one word "interned".
+    /// The one word "interned", which will come 351 times.
     fn of_interned(alloc: Global) -> Result<Told, AllocError> {
         Ok(Told {
             text: String::from_str(alloc, "interned")?,
             words: String::from_str(alloc, "Not seen the word \"interned\" before\n")?,
-            counts: String::new(alloc),
+            counts: String::from_str(alloc, "351 interned\n")?,
         })
     }
 
@@ -161,62 +145,93 @@ impl Told {
 
 /// More than two megabytes: each of 350 long words comes twice, and between them the same word 351 times.
 fn two_megabytes(alloc: Global) -> Result<Told, AllocError> {
-    let word = long_text(alloc, 1)?;
+    let word = "字".repeat(alloc, 1_000)?;
     let mut told = Told::of_interned(alloc)?;
-    told.counts.push_str("351 interned\n")?;
     for n in 1..=350 {
         told.go_on(&word, n)?;
     }
     Ok(told)
 }
 
+/// Whether the program writes this output of the text.
+fn is_told<R: Threads + Wait + Sync>(
+    rt: &R,
+    alloc: Global,
+    line: &str,
+    text: &str,
+    output: &str,
+) -> bool {
+    writes(rt, alloc, line, text.as_bytes(), output.as_bytes())
+}
+
+/// Whether the words are told, and counted by one worker and by three.
+fn are_told<R: Threads + Wait + Sync>(rt: &R, alloc: Global, told: &Told) -> bool {
+    is_told(rt, alloc, "words", &told.text, &told.words)
+        && is_told(rt, alloc, "count 1", &told.text, &told.counts)
+        && is_told(rt, alloc, "count 3", &told.text, &told.counts)
+}
+
 #[test]
 fn two_megabytes_of_words(rt: HostRuntime) {
-    let alloc = rt.alloc();
-    let Told {
-        text,
-        words,
-        counts,
-    } = two_megabytes(alloc).expect(&rt, "room");
-    assert!(rt; text.len() > 2_000_000);
-    assert!(rt; writes(&rt, alloc, "words", &text, &words).expect(&rt, "an answer"));
-    assert!(rt; writes(&rt, alloc, "count 1", &text, &counts).expect(&rt, "an answer"));
-    assert!(rt; writes(&rt, alloc, "count 3", &text, &counts).expect(&rt, "an answer"));
+    let told = two_megabytes(rt.alloc()).expect(&rt, "room");
+    assert!(rt; told.text.len() > 2_000_000);
+    assert!(rt; are_told(&rt, rt.alloc(), &told));
+}
+
+/// Whether the text is interned by a script.
+fn is_interned<R: Threads + Wait + Sync>(
+    rt: &R,
+    alloc: Global,
+    text: &str,
+) -> Result<bool, AllocError> {
+    let script = format!(in alloc; "1 intern {text}\n1 link\n1 leave\n")?;
+    let replies = "taken\nlinked e1 serial 1\nleft\nheld e1 1\n";
+    Ok(is_told(rt, alloc, "replay", &script, replies))
+}
+
+/// Whether the text's table has this hash under the key 5, and is checked.
+fn is_placed<R: Threads + Wait + Sync>(
+    rt: &R,
+    alloc: Global,
+    text: &str,
+    hash: &str,
+) -> Result<bool, AllocError> {
+    let table = format!(in alloc; "key 5\ndisp 0 0\natom {hash} {text}\n")?;
+    Ok(
+        is_told(rt, alloc, "generate 5 1", text, &table)
+            && is_told(rt, alloc, "check", &table, "yes\n"),
+    )
 }
 
 /// One text of more than two megabytes. Its hash was worked out by another program.
 #[test]
 fn two_megabytes_in_a_line(rt: HostRuntime) {
-    let alloc = rt.alloc();
-    let text = long_text(alloc, 700).expect(&rt, "room");
+    let text = "字".repeat(rt.alloc(), 700_000).expect(&rt, "room");
     assert!(rt; text.len() > 2_000_000);
-    let script = format!(in alloc; "1 intern {text}\n1 link\n1 leave\n").expect(&rt, "room");
-    let replies = "taken\nlinked e1 serial 1\nleft\nheld e1 1\n";
-    assert!(rt; writes(&rt, alloc, "replay", &script, replies).expect(&rt, "an answer"));
-    let table = format!(in alloc; "key 5\ndisp 0 0\natom cbd6f7cf3f1ece22 {text}\n").expect(
-        &rt, "room",
-    );
-    assert!(rt; writes(&rt, alloc, "generate 5 1", &text, &table).expect(&rt, "an answer"));
-    assert!(rt; writes(&rt, alloc, "check", &table, "yes\n").expect(&rt, "an answer"));
+    assert!(rt; is_interned(&rt, rt.alloc(), &text) == Ok(true));
+    assert!(rt; is_placed(&rt, rt.alloc(), &text, "cbd6f7cf3f1ece22") == Ok(true));
+}
+
+/// A list of 1,000 names.
+fn thousand(alloc: Global) -> Result<String, AllocError> {
+    let mut names = String::new(alloc);
+    for n in 1000..2000 {
+        writeln!(names, "{n} 字字字字字字字字字字字字字字字字字字字字字字字字字")?;
+    }
+    Ok(names)
+}
+
+/// Whether the names have a table text of more than 100,000 bytes, which is checked.
+fn have_table<R: Threads + Wait + Sync>(rt: &R, alloc: Global, names: &str) -> bool {
+    match output_of(rt, alloc, "generate 0 2048", names.as_bytes()) {
+        Some(table) => table.len() > 100_000 && writes(rt, alloc, "check", &table, b"yes\n"),
+        None => false,
+    }
 }
 
 /// A list of 1,000 names, and its table text of more than 100,000 bytes.
 #[test]
 fn thousand_names(rt: HostRuntime) {
-    let alloc = rt.alloc();
-    let mut names = String::new(alloc);
-    for n in 1000..2000 {
-        writeln!(names, "{n} 字字字字字字字字字字字字字字字字字字字字字字字字字").expect(&rt, "room");
-    }
-    let (status, table, faults) = ran_over(&rt, alloc, "generate 0 2048", names.as_bytes()).expect(
-        &rt,
-        "an answer",
-    );
-    assert_eq!(rt; status, 0);
-    assert!(rt; faults.written().is_empty());
-    assert!(rt; table.len() > 100_000);
-    let (status, answer, faults) = ran_over(&rt, alloc, "check", &table).expect(&rt, "an answer");
-    assert_eq!(rt; status, 0);
-    assert!(rt; faults.written().is_empty());
-    assert!(rt; answer.as_slice() == b"yes\n".as_slice());
+    let names = thousand(rt.alloc()).expect(&rt, "room");
+    assert!(rt; have_table(&rt, rt.alloc(), &names));
 }

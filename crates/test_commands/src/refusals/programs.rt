@@ -2,18 +2,18 @@
 
 ghost use Rattle.std.specs.Prelude.{◌≤◌};
 
-use crate::memory::{Bytes, Lost, Page, Streams};
-use crate::program::{COUNT_LINE, NO_MEMORY, answer_of, arguments_of, words_of_line};
-use crate::replay::WORKED;
-use crate::words::EXAMPLE_LINES;
-use commands::replay::replay;
-use commands::words::{words, words_alone};
+use crate::memory::{Bytes, Lost, Outcome, Streams};
+use crate::program::{
+    Answer, COUNT_LINE, COUNT_WORDS, NO_MEMORY, answer_of, are_words, arguments_of, words_of_line,
+};
+use crate::replay::{WORKED, replayed};
+use crate::words::{EXAMPLE_LINES, told_alone, told_in};
+use commands::words::words_alone;
 use std::alloc::{AllocError, Global};
 use std::io::Print;
 use std::process::Abort;
 use std::str;
 use std::sync::Wait;
-use std::test::Fail;
 use std::thread::Threads;
 use string_cache::dynamic_set::Set;
 use string_cache::{Atom, EmptyStaticAtomSet};
@@ -22,91 +22,128 @@ use test_samples::{EXAMPLE, EXAMPLE_COUNTS};
 use text_streams::faults::AppFault;
 use word_counts::count::{Open, count};
 
+/// Whether a call wrote its output, or a beginning of these lines till it was refused.
+fn is_right(first: &Outcome, lines: &[u8], output: &[u8]) -> bool {
+    match End::of(&first.answer) {
+        End::Given => first.is(Ok(()), output),
+        _ => lines.starts_with(first.page.written()),
+    }
+}
+
+/// Whether the words of the example are told over the set, in a watched call and in another.
+fn are_told_in<R: Wait + Print>(rt: &R, set: &Set<EmptyStaticAtomSet>) -> bool {
+    let streams = Streams::ample(EXAMPLE);
+    begin(rt);
+    let first = told_in(rt, set, &streams);
+    finish(rt, End::of(&first.answer));
+    is_right(&first, EXAMPLE_LINES, EXAMPLE_LINES)
+        && set.linked(rt) == 0
+        && told_in(rt, set, &streams).is(Ok(()), EXAMPLE_LINES)
+}
+
 #[test]
 fn words_in_a_set(rt: HostRuntime) {
     let set = Set::<EmptyStaticAtomSet>::new(rt.alloc()).expect(&rt, "a set");
-    let mut page = Page::wide();
-    begin(&rt);
-    let answer = words(&rt, &set, &mut Bytes::whole(EXAMPLE), &mut page);
-    let ended = End::of(&answer);
-    finish(&rt, ended);
-    assert!(rt; set.linked(&rt) == 0);
-    if matches!(ended, End::Refused) {
-        assert!(rt; EXAMPLE_LINES.starts_with(page.written()));
-        page = Page::wide();
-        words(&rt, &set, &mut Bytes::whole(EXAMPLE), &mut page).expect(&rt, "an answer");
-    } else {
-        answer.expect(&rt, "an answer");
-    }
-    assert!(rt; page.written() == EXAMPLE_LINES);
+    assert!(rt; are_told_in(&rt, &set));
+}
+
+/// Whether they are told in a table, in a watched call and in another.
+fn are_told_alone(rt: &impl Print, alloc: Global) -> bool {
+    let streams = Streams::ample(EXAMPLE);
+    begin(rt);
+    let first = told_alone(alloc, &streams);
+    finish(rt, End::of(&first.answer));
+    is_right(&first, EXAMPLE_LINES, EXAMPLE_LINES)
+        && told_alone(alloc, &streams).is(Ok(()), EXAMPLE_LINES)
 }
 
 #[test]
 fn words_in_a_table(rt: HostRuntime) {
-    let mut page = Page::wide();
-    begin(&rt);
-    let answer = words_alone(rt.alloc(), &mut Bytes::whole(EXAMPLE), &mut page);
-    let ended = End::of(&answer);
-    finish(&rt, ended);
-    if matches!(ended, End::Refused) {
-        assert!(rt; EXAMPLE_LINES.starts_with(page.written()));
-        page = Page::wide();
-        words_alone(rt.alloc(), &mut Bytes::whole(EXAMPLE), &mut page).expect(&rt, "an answer");
-    } else {
-        answer.expect(&rt, "an answer");
-    }
-    assert!(rt; page.written() == EXAMPLE_LINES);
+    assert!(rt; are_told_alone(&rt, rt.alloc()));
 }
 
-/// 100 different words of eight bytes, each of which the table holds with bytes of its own.
-#[test]
-fn many_words_in_a_table(rt: HostRuntime) -> Result<(), Fail> {
-    let alloc = rt.alloc();
+/// 100 different words of eight bytes.
+fn hundred_words(alloc: Global) -> Result<String, AllocError> {
     let mut text = String::new(alloc);
     for n in 0..100 {
         write!(text, "word{n:04} ")?;
     }
-    at_last(&rt, || {
+    Ok(text)
+}
+
+/// 100 different words of eight bytes, each of which the table holds with bytes of its own.
+#[test]
+fn many_words_in_a_table(rt: HostRuntime) {
+    let alloc = rt.alloc();
+    let text = hundred_words(alloc).expect(&rt, "room");
+    let answer = at_last(&rt, || {
         words_alone(alloc, &mut Bytes::whole(text.as_bytes()), &mut Lost)
-    })?;
-    Ok(())
+    });
+    assert!(rt; answer == Ok(()));
 }
 
-/// What a worked script prints.
-fn worked_script_is_replayed<R: Print + Abort>(
-    rt: &R,
-    alloc: Global,
-    (script, output): (&[u8], &[u8]),
-) -> Result<(), Fail> {
-    let mut page = Page::wide();
+/// Whether a worked script prints its output, in a watched call and in another. Where the first is refused, it prints nothing.
+fn is_replayed(rt: &impl Print, alloc: Global, (script, output): (&[u8], &[u8])) -> bool {
+    let streams = Streams::ample(script);
     begin(rt);
-    let answer = replay(alloc, &mut Bytes::whole(script), &mut page);
-    let ended = End::of(&answer);
-    finish(rt, ended);
-    if matches!(ended, End::Refused) {
-        assert!(rt; page.written().is_empty());
-        page = Page::wide();
-        replay(alloc, &mut Bytes::whole(script), &mut page)?;
-    } else {
-        answer?;
+    let first = replayed(alloc, &streams);
+    finish(rt, End::of(&first.answer));
+    is_right(&first, b"", output) && replayed(alloc, &streams).is(Ok(()), output)
+}
+
+#[test]
+fn script_with_a_dying_entry_is_replayed(rt: HostRuntime) {
+    assert!(rt; is_replayed(&rt, rt.alloc(), WORKED[0]));
+}
+
+#[test]
+fn script_with_limits_is_replayed(rt: HostRuntime) {
+    assert!(rt; is_replayed(&rt, rt.alloc(), WORKED[1]));
+}
+
+#[test]
+fn script_without_room_is_replayed(rt: HostRuntime) {
+    assert!(rt; is_replayed(&rt, rt.alloc(), WORKED[2]));
+}
+
+/// Whether the example has its counts by this many workers.
+fn are_counted<R: Threads + Wait + Sync>(
+    rt: &R,
+    set: &Set<EmptyStaticAtomSet>,
+    text: &str,
+    n: u32,
+) -> Result<bool, AppFault>
+    requires low { 1 ≤ n }
+    requires high { n ≤ 64 }
+{
+    let counts = count(rt, set, text, n, &Open)?;
+    Ok(are(&counts, &EXAMPLE_COUNTS))
+}
+
+/// Whether a watched answer is yes, or tells of a refusal.
+fn is_yes(first: &Result<bool, AppFault>) -> bool {
+    match End::of(first) {
+        End::Given => *first == Ok(true),
+        _ => true,
     }
-    assert!(rt; page.written() == output);
-    Ok(())
 }
 
-#[test]
-fn script_with_a_dying_entry_is_replayed(rt: HostRuntime) -> Result<(), Fail> {
-    worked_script_is_replayed(&rt, rt.alloc(), WORKED[0])
-}
-
-#[test]
-fn script_with_limits_is_replayed(rt: HostRuntime) -> Result<(), Fail> {
-    worked_script_is_replayed(&rt, rt.alloc(), WORKED[1])
-}
-
-#[test]
-fn script_without_room_is_replayed(rt: HostRuntime) -> Result<(), Fail> {
-    worked_script_is_replayed(&rt, rt.alloc(), WORKED[2])
+/// Counts the example over the set, and answers the fault that came.
+fn example_is_counted_in<R: Threads + Wait + Sync + Print + Abort>(
+    rt: &R,
+    set: &Set<EmptyStaticAtomSet>,
+    n: u32,
+) -> Option<AppFault>
+    requires low { 1 ≤ n }
+    requires high { n ≤ 64 }
+{
+    let text = str::from_utf8(EXAMPLE).expect(rt, "a text");
+    begin(rt);
+    let first = are_counted(rt, set, text, n);
+    finish(rt, End::of(&first));
+    assert!(rt; is_yes(&first) && set.linked(rt) == 0);
+    assert!(rt; are_counted(rt, set, text, n) == Ok(true) && set.linked(rt) == 0);
+    first.err()
 }
 
 /// Counts the example by this many workers, and answers the fault that came. After it nothing stays linked, and the call made again
@@ -120,22 +157,7 @@ pub fn example_is_counted<R: Threads + Wait + Sync + Print + Abort>(
     requires high { n ≤ 64 }
 {
     let set = Set::<EmptyStaticAtomSet>::new(alloc).expect(rt, "a set");
-    let text = str::from_utf8(EXAMPLE).expect(rt, "a text");
-    begin(rt);
-    let answer = count(rt, &set, text, n, &Open);
-    let ended = End::of(&answer);
-    finish(rt, ended);
-    let is_right = match &answer {
-        Ok(counts) => are(counts, &EXAMPLE_COUNTS),
-        Err(_) => matches!(ended, End::Refused),
-    };
-    let fault = answer.err();
-    assert!(rt; is_right && set.linked(rt) == 0);
-    let again = count(rt, &set, text, n, &Open).expect(rt, "counts");
-    assert!(rt; are(&again, &EXAMPLE_COUNTS));
-    drop(again);
-    assert!(rt; set.linked(rt) == 0);
-    fault
+    example_is_counted_in(rt, &set, n)
 }
 
 #[test]
@@ -179,6 +201,20 @@ fn are_many(counts: &[(Atom<'_, EmptyStaticAtomSet>, u64)]) -> bool {
     }
 }
 
+/// Whether that text has its counts by this many workers.
+fn many_are_right<R: Threads + Wait + Sync>(
+    rt: &R,
+    set: &Set<EmptyStaticAtomSet>,
+    text: &str,
+    n: u32,
+) -> Result<bool, AppFault>
+    requires low { 1 ≤ n }
+    requires high { n ≤ 64 }
+{
+    let counts = count(rt, set, text, n, &Open)?;
+    Ok(are_many(&counts))
+}
+
 /// Counts a text of so many words that lists of them are worth a thread, by this many workers, and answers the fault that came.
 pub fn many_are_counted<R: Threads + Wait + Sync + Print + Abort>(
     rt: &R,
@@ -191,20 +227,24 @@ pub fn many_are_counted<R: Threads + Wait + Sync + Print + Abort>(
     let set = Set::<EmptyStaticAtomSet>::new(alloc).expect(rt, "a set");
     let text = text_of_many(alloc).expect(rt, "room");
     begin(rt);
-    let answer = count(rt, &set, &text, n, &Open);
-    let ended = End::of(&answer);
-    finish(rt, ended);
-    let is_right = match &answer {
-        Ok(counts) => are_many(counts),
-        Err(_) => matches!(ended, End::Refused),
-    };
-    assert!(rt; is_right);
+    let answer = many_are_right(rt, &set, &text, n);
+    finish(rt, End::of(&answer));
+    assert!(rt; is_yes(&answer));
     answer.err()
 }
 
 #[test]
 fn counts_of_many_by_four(rt: HostRuntime) {
     let _ = many_are_counted(&rt, rt.alloc(), 4);
+}
+
+/// Whether the program wrote its output or, where it was refused, this line of a fault and a beginning of the output.
+fn is_answer(answer: &Answer, output: &[u8], refusal: &[u8]) -> bool {
+    if answer.status == 1 {
+        answer.faults.written() == refusal && output.starts_with(answer.output.written())
+    } else {
+        answer.is(0, output, b"")
+    }
 }
 
 /// The whole program over a line of arguments, an input and the output that it has. Where it is refused, this line tells the fault.
@@ -216,17 +256,12 @@ pub fn line_is_run<R: Threads + Wait + Sync + Print + Abort>(
     refusal: &[u8],
 ) {
     let args = words_of_line(alloc, line).expect(rt, "an answer");
+    let streams = Streams::ample(input);
     begin(rt);
-    let answer = answer_of(rt, alloc, args, &Streams::ample(input));
+    let answer = answer_of(rt, alloc, args, &streams);
     let is_refused = answer.status == 1;
     finish(rt, if is_refused { End::Refused } else { End::Given });
-    if is_refused {
-        assert!(rt; answer.faults.written() == refusal);
-        assert!(rt; output.starts_with(answer.output.written()));
-    } else {
-        assert!(rt; answer.faults.written().is_empty());
-        assert!(rt; answer.output.written() == output);
-    }
+    assert!(rt; is_answer(&answer, output, refusal));
 }
 
 #[test]
@@ -259,10 +294,15 @@ fn program_checks_tables(rt: HostRuntime) {
     line_is_run(&rt, rt.alloc(), "check", (TABLE_TEXT, b"yes\n"), NO_MEMORY);
 }
 
+/// Whether the arguments of a line are given at last.
+fn are_read(rt: &impl Print, alloc: Global) -> bool {
+    match at_last(rt, || arguments_of(alloc, COUNT_LINE)) {
+        Ok(Some(args)) => are_words(&args, COUNT_WORDS),
+        _ => false,
+    }
+}
+
 #[test]
 fn arguments_are_read(rt: HostRuntime) {
-    let alloc = rt.alloc();
-    let wanted = words_of_line(alloc, "count 3").expect(&rt, "an answer");
-    let args = at_last(&rt, || arguments_of(alloc, COUNT_LINE)).expect(&rt, "an answer");
-    assert!(rt; args.expect(&rt, "texts").as_slice() == wanted.as_slice());
+    assert!(rt; are_read(&rt, rt.alloc()));
 }

@@ -4,10 +4,12 @@
 
 use super::programs::{example_is_counted, line_is_run, many_are_counted};
 use crate::program::{EXAMPLE_COUNTS, NO_WORKER};
+use crate::words::set_with;
+use std::io::Print;
 use std::sync::Wait;
 use std::sync::atomic::{AtomicU64, Ordering};
+use std::thread::Threads;
 use string_cache::dynamic_set::Set;
-use string_cache::word::Limits;
 use string_cache::{Atom, EmptyStaticAtomSet, Fault};
 use test_refusals::{End, begin, finish};
 use test_samples::EXAMPLE;
@@ -93,29 +95,56 @@ fn program_counts(rt: HostRuntime) {
     );
 }
 
-/// The first worker is refused a holder. Its fault is answered where it was started, whether or not the second was.
-#[test]
-fn lower_fault_is_answered(rt: HostRuntime) {
-    let limits = Limits::new(1, 9).expect(&rt, "limits");
-    let set = Set::<EmptyStaticAtomSet>::with_limits(rt.alloc(), limits).expect(&rt, "a set");
-    let held = Atom::from_str_in(&rt, &set, "interned").expect(&rt, "an atom");
-    let gate = Entries::new();
-    begin(&rt);
-    let answer = count(&rt, &set, "interned tokenised", 2, &gate);
-    let entries = gate.counts();
+/// The fault of two workers.
+fn fault_of_two<R: Threads + Wait + Sync>(
+    rt: &R,
+    set: &Set<EmptyStaticAtomSet>,
+    gate: &Entries,
+) -> Option<AppFault> {
+    count(rt, set, "interned tokenised", 2, gate).err()
+}
+
+/// Whether the fault is that of the first worker, or where that wasn't started, tells so.
+fn is_lower_fault<R: Threads + Wait + Sync + Print>(
+    rt: &R,
+    set: &Set<EmptyStaticAtomSet>,
+    gate: &Entries,
+) -> bool {
+    begin(rt);
+    let fault = fault_of_two(rt, set, gate);
+    let (first, second) = gate.counts();
+    let are_started = first == 1 && second == 1;
     finish(
-        &rt,
-        if entries == (1, 1) {
+        rt,
+        if are_started {
             End::Given
         } else {
             End::Refused
         },
     );
-    let wanted = if entries.0 == 1 {
+    let wanted = if first == 1 {
         AppFault::Intern(Fault::FullCount)
     } else {
         AppFault::Worker
     };
-    assert!(rt; answer.err() == Some(wanted));
-    assert!(rt; set.linked(&rt) == 1 && held.eq_str("interned"));
+    fault == Some(wanted)
+}
+
+/// Whether that is so where the first worker's word has its only holder, which alone stays linked.
+fn lower_fault_is_told<R: Threads + Wait + Sync + Print>(
+    rt: &R,
+    set: &Set<EmptyStaticAtomSet>,
+) -> bool {
+    let Ok(held) = Atom::from_str_in(rt, set, "interned") else {
+        return false;
+    };
+    let is_lower = is_lower_fault(rt, set, &Entries::new());
+    is_lower && set.linked(rt) == 1 && held.eq_str("interned")
+}
+
+/// The first worker is refused a holder. Its fault is answered where it was started, whether or not the second was.
+#[test]
+fn lower_fault_is_answered(rt: HostRuntime) {
+    let set = set_with(&rt, rt.alloc(), 1, 9);
+    assert!(rt; lower_fault_is_told(&rt, &set));
 }

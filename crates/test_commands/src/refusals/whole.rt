@@ -4,7 +4,9 @@ use crate::memory::{Bytes, Lost};
 use commands::count::count_command;
 use commands::words::words_command;
 use std::alloc::{AllocError, Global};
-use std::test::Fail;
+use std::io::Print;
+use std::sync::Wait;
+use std::thread::Threads;
 use test_refusals::{End, begin, finish};
 
 /// The words, one after another, and once more.
@@ -16,33 +18,30 @@ fn text_of_words(alloc: Global) -> Result<String, AllocError> {
     Ok(text)
 }
 
-#[test]
-fn words_are_told(rt: HostRuntime) -> Result<(), Fail> {
-    let text = text_of_words(rt.alloc())?;
-    begin(&rt);
-    let answer = words_command(
-        &rt,
-        rt.alloc(),
-        &mut Bytes::whole(text.as_bytes()),
-        &mut Lost,
-    );
-    finish(&rt, End::of(&answer));
-    answer?;
-    Ok(())
+/// Whether a watched call tells the words of the text.
+fn are_told<R: Wait + Print>(rt: &R, alloc: Global, text: &str) -> bool {
+    begin(rt);
+    let answer = words_command(rt, alloc, &mut Bytes::whole(text.as_bytes()), &mut Lost);
+    finish(rt, End::of(&answer));
+    answer == Ok(())
 }
 
 #[test]
-fn words_are_counted(rt: HostRuntime) -> Result<(), Fail> {
-    let text = text_of_words(rt.alloc())?;
-    begin(&rt);
-    let answer = count_command(
-        &rt,
-        rt.alloc(),
-        2,
-        &mut Bytes::whole(text.as_bytes()),
-        &mut Lost,
-    );
-    finish(&rt, End::of(&answer));
-    answer?;
-    Ok(())
+fn words_are_told(rt: HostRuntime) {
+    let text = text_of_words(rt.alloc()).expect(&rt, "room");
+    assert!(rt; are_told(&rt, rt.alloc(), &text));
+}
+
+/// Whether two workers count them in a watched call.
+fn are_counted<R: Threads + Wait + Sync + Print>(rt: &R, alloc: Global, text: &str) -> bool {
+    begin(rt);
+    let answer = count_command(rt, alloc, 2, &mut Bytes::whole(text.as_bytes()), &mut Lost);
+    finish(rt, End::of(&answer));
+    answer == Ok(())
+}
+
+#[test]
+fn words_are_counted(rt: HostRuntime) {
+    let text = text_of_words(rt.alloc()).expect(&rt, "room");
+    assert!(rt; are_counted(&rt, rt.alloc(), &text));
 }
