@@ -64,12 +64,8 @@ fn is_packed_as(text: &str, bytes: [u8; 8]) -> bool {
 
 #[test]
 fn inline_words_as_bytes(rt: HostRuntime) {
-    for (text, bytes) in [
-        ("a", [0x11, 0x61, 0, 0, 0, 0, 0, 0]),
-        ("é", [0x21, 0xc3, 0xa9, 0, 0, 0, 0, 0]),
-    ] {
-        assert!(rt; is_packed_as(text, bytes), "of {text:?}");
-    }
+    assert!(rt; is_packed_as("a", [0x11, 0x61, 0, 0, 0, 0, 0, 0]));
+    assert!(rt; is_packed_as("é", [0x21, 0xc3, 0xa9, 0, 0, 0, 0, 0]));
 }
 
 /// Whether the text is an inline text, whose word is that of the text.
@@ -112,22 +108,24 @@ fn is_no_word(word: u64) -> bool {
     form_of(word).is_none() && unpack_inline(word).is_none()
 }
 
+const NO_WORDS: [u64; 11] = [
+    0,
+    3,
+    6,
+    0x05,
+    0x81,
+    0xff11,
+    0x80_c021,
+    0x80a0_ed31,
+    0x4000,
+    0x7ffc,
+    0xfffc,
+];
+
 #[test]
 fn words_of_nothing(rt: HostRuntime) {
-    for word in [
-        0u64,
-        3,
-        6,
-        0x05,
-        0x81,
-        0xff11,
-        0x80_c021,
-        0x80a0_ed31,
-        0x4000,
-        0x7ffc,
-        0xfffc,
-    ] {
-        assert!(rt; is_no_word(word), "of {word:#x}");
+    for word in &NO_WORDS {
+        assert!(rt; is_no_word(*word), "of {word:#x}");
     }
 }
 
@@ -167,11 +165,13 @@ fn are_greatest(holders: u64, serials: u64) -> bool {
     Limits::new(holders, serials) == Some(Limits::greatest())
 }
 
+const NO_LIMITS: [(u64, u64); 4] = [(0, 1), (1, 0), (HOLDER_BOUND, 1), (1, SERIAL_BOUND)];
+
 #[test]
 fn limits(rt: HostRuntime) {
     assert!(rt; (HOLDER_BOUND, SERIAL_BOUND) == (1 << 63, 1 << 48));
-    for (holders, serials) in [(0, 1), (1, 0), (HOLDER_BOUND, 1), (1, SERIAL_BOUND)] {
-        assert!(rt; Limits::new(holders, serials).is_none());
+    for (holders, serials) in &NO_LIMITS {
+        assert!(rt; Limits::new(*holders, *serials).is_none());
     }
     assert!(rt; are_limits(1, 1));
     assert!(rt; are_greatest(HOLDER_BOUND - 1, SERIAL_BOUND - 1));
@@ -189,11 +189,13 @@ fn has_number(bits: u8, number: usize) -> bool {
         && buckets.bucket_of(0xffff_ffff_ffff_0000) == 0
 }
 
+const NUMBERS: [(u8, usize); 4] = [(0, 1), (1, 2), (12, 4096), (14, MOST_BUCKETS)];
+
 #[test]
 fn numbers_of_buckets(rt: HostRuntime) {
     assert!(rt; MOST_BUCKETS == 16384);
-    for (bits, number) in [(0, 1), (1, 2), (12, 4096), (14, MOST_BUCKETS)] {
-        assert!(rt; has_number(bits, number), "of {bits}");
+    for (bits, number) in &NUMBERS {
+        assert!(rt; has_number(*bits, *number), "of {bits}");
     }
     assert!(rt; Buckets::new(15).is_none() && Buckets::new(255).is_none());
     assert!(rt; Buckets::usual().bits() == 12);
@@ -214,29 +216,33 @@ fn has_hashes(text: &str, key: u64, hashes: Hashes) -> bool {
 }
 
 /// OpenSSL's SIPHASH with 1 and 3 rounds, 16 bytes of output, and the key's 8 bytes behind 8 zeros.
+const HASHES: [(&str, u64, u32, u32, u32); 9] = [
+    ("", 0, 0x2134_935d, 0x61d9_b40d, 0x31fb_3303),
+    ("a", 0, 0x3710_b5e8, 0x72fb_f647, 0x5537_0408),
+    ("sentence", 0, 0xed02_e6f1, 0x6c03_c165, 0x56e9_3a5c),
+    ("interned", 0, 0x556a_6dba, 0x06a4_7210, 0x56f7_56b3),
+    ("tokenised", 0, 0xfc55_973d, 0xb973_7e77, 0x81fd_b514),
+    ("abcdefgh", 0, 0xdc89_567d, 0x86f9_a2c5, 0x7188_184f),
+    (
+        "here is a sentence of text that will be tokenised and",
+        0,
+        0x12c7_060b,
+        0x0b77_4f15,
+        0x1e34_b306,
+    ),
+    ("interned", 1, 0x64b5_e15c, 0xa38a_6cc9, 0xcc77_1d20),
+    ("interned", u64::MAX, 0xb30e_2215, 0x9496_46a2, 0xadd9_dbaa),
+];
+
 #[test]
 fn hashes(rt: HostRuntime) {
-    for (text, key, g, f1, f2) in [
-        ("", 0, 0x2134_935d, 0x61d9_b40d, 0x31fb_3303),
-        ("a", 0, 0x3710_b5e8, 0x72fb_f647, 0x5537_0408),
-        ("sentence", 0, 0xed02_e6f1, 0x6c03_c165, 0x56e9_3a5c),
-        ("interned", 0, 0x556a_6dba, 0x06a4_7210, 0x56f7_56b3),
-        ("tokenised", 0, 0xfc55_973d, 0xb973_7e77, 0x81fd_b514),
-        ("abcdefgh", 0, 0xdc89_567d, 0x86f9_a2c5, 0x7188_184f),
-        (
-            "here is a sentence of text that will be tokenised and",
-            0,
-            0x12c7_060b,
-            0x0b77_4f15,
-            0x1e34_b306,
-        ),
-        ("interned", 1, 0x64b5_e15c, 0xa38a_6cc9, 0xcc77_1d20),
-        ("interned", u64::MAX, 0xb30e_2215, 0x9496_46a2, 0xadd9_dbaa),
-    ] {
-        assert!(rt;
-            has_hashes(text, key, Hashes { g, f1, f2 }),
-            "of {text:?}, {key}"
-        );
+    for (text, key, g, f1, f2) in &HASHES {
+        let hashes = Hashes {
+            g: *g,
+            f1: *f1,
+            f2: *f2,
+        };
+        assert!(rt; has_hashes(text, *key, hashes), "of {text:?}, {key}");
     }
     assert!(rt; hash("sentence", 0).entry_hash() == 0xed02_e6f1_6c03_c165);
 }

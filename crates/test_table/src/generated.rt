@@ -1,7 +1,6 @@
 //! What no contract says: lists that are placed, and texts that come from outside.
 
-use std::alloc::Global;
-use std::test::Fail;
+use std::alloc::{AllocError, Global};
 use string_cache_core::Fault;
 use string_cache_core::phf::{Hashes, hash};
 use string_cache_core::static_sets::check_parts;
@@ -28,7 +27,7 @@ fn checked(alloc: Global, text: &str) -> Result<bool, Fault> {
 }
 
 /// The texts `word0000`, `word0001` and so on, below `count`.
-fn numbered(alloc: Global, count: usize) -> Result<Vec<String>, Fail> {
+fn numbered(alloc: Global, count: usize) -> Result<Vec<String>, AllocError> {
     let mut texts = Vec::new(alloc);
     for i in 0..count {
         texts.push(format!(in alloc; "word{i:04}")?)?;
@@ -36,7 +35,7 @@ fn numbered(alloc: Global, count: usize) -> Result<Vec<String>, Fail> {
     Ok(texts)
 }
 
-fn lent(alloc: Global, texts: &[String]) -> Result<Vec<&str>, Fail> {
+fn lent(alloc: Global, texts: &[String]) -> Result<Vec<&str>, AllocError> {
     let mut list = Vec::new(alloc);
     for text in texts {
         list.push(text.as_str())?;
@@ -44,99 +43,113 @@ fn lent(alloc: Global, texts: &[String]) -> Result<Vec<&str>, Fail> {
     Ok(list)
 }
 
-#[test]
-fn one_text(rt: HostRuntime) -> Result<(), Fail> {
-    let alloc = rt.alloc();
-    let tables = tables_of(alloc, &["sentence"], 0, 1)?;
-    assert_eq!(rt; tables.key, 0);
-    assert!(rt; tables.disps.as_slice() == [(0u32, 0u32)].as_slice());
-    assert_eq!(rt; tables.atoms.len(), 1);
-    assert_eq!(rt; tables.atoms[0].as_str(), "sentence");
-    let hashes = hash("sentence", 0);
-    let number = u64::from(hashes.g) << 32 | u64::from(hashes.f1);
-    assert!(rt; tables.hashes.as_slice() == [number].as_slice());
+/// Whether what is printed of the tables is the table text of perfect tables.
+fn are_checked(alloc: Global, tables: &Tables) -> Result<bool, Fault> {
+    let text = format!(in alloc; "{tables}")?;
+    checked(alloc, &text)
+}
+
+/// Whether these are the tables of the text "sentence" under the key 0, its entry's hash being this number.
+fn are_of_sentence(tables: &Tables, number: u64) -> bool {
+    tables.key == 0
+        && tables.disps.as_slice() == [(0u32, 0u32)].as_slice()
+        && tables.atoms.len() == 1
+        && tables.atoms[0].as_str() == "sentence"
+        && tables.hashes.as_slice() == [number].as_slice()
+}
+
+/// Whether the tables of "sentence" print so.
+fn print_as(alloc: Global, tables: &Tables, number: u64) -> Result<bool, AllocError> {
     let printed = format!(in alloc; "{tables}")?;
     let wanted = format!(in alloc; "key 0\ndisp 0 0\natom {number:016x} sentence\n")?;
-    assert_eq!(rt; printed.as_str(), wanted.as_str());
-    assert!(rt; checked(alloc, &printed)?);
-    Ok(())
+    Ok(printed.as_str() == wanted.as_str())
 }
 
 #[test]
-fn refused_lists(rt: HostRuntime) -> Result<(), Fail> {
-    let alloc = rt.alloc();
-    for (list, bound, fault, text) in [
-        ([].as_slice(), 1, GenFault::EmptyList, "no texts"),
-        (
-            ["sentence", "sen\ntence", "sentence"].as_slice(),
-            1,
-            GenFault::LineFeed,
-            "text with a line feed",
-        ),
-        (
-            ["sentence", "interned", "sentence"].as_slice(),
-            1,
-            GenFault::Doubled,
-            "text listed twice",
-        ),
-        (
-            ["sentence"].as_slice(),
-            0,
-            GenFault::NotPlaced,
-            "no tables within the bound",
-        ),
-        (
-            ["sentence", "interned", "sentence"].as_slice(),
-            0,
-            GenFault::Doubled,
-            "text listed twice",
-        ),
-    ] {
-        assert!(rt; tables_of(alloc, list, 0, bound).err() == Some(fault));
-        assert_eq!(rt; format!(in alloc; "{fault}")?.as_str(), text);
-    }
-    assert_eq!(rt;
-        format!(in alloc; "{}", GenFault::Memory)?.as_str(),
-        "no memory"
-    );
-    Ok(())
+fn one_text(rt: HostRuntime) {
+    let hashes = hash("sentence", 0);
+    let number = u64::from(hashes.g) << 32 | u64::from(hashes.f1);
+    let tables = tables_of(rt.alloc(), &["sentence"], 0, 1).expect(&rt, "tables");
+    assert!(rt; are_of_sentence(&tables, number));
+    assert!(rt; print_as(rt.alloc(), &tables, number) == Ok(true));
+    assert!(rt; are_checked(rt.alloc(), &tables) == Ok(true));
 }
 
-/// The fault that comes of these texts, with the one at `to` like that at `from`.
-fn fault_of_double(
+/// Lists, each with a bound and the fault that comes of it.
+const REFUSED: [(&[&str], u32, GenFault); 5] = [
+    (&[], 1, GenFault::EmptyList),
+    (
+        &["sentence", "sen\ntence", "sentence"],
+        1,
+        GenFault::LineFeed,
+    ),
+    (&["sentence", "interned", "sentence"], 1, GenFault::Doubled),
+    (&["sentence"], 0, GenFault::NotPlaced),
+    (&["sentence", "interned", "sentence"], 0, GenFault::Doubled),
+];
+
+/// What is printed of the faults.
+const FAULTS: [(GenFault, &str); 5] = [
+    (GenFault::EmptyList, "no texts"),
+    (GenFault::LineFeed, "text with a line feed"),
+    (GenFault::Doubled, "text listed twice"),
+    (GenFault::NotPlaced, "no tables within the bound"),
+    (GenFault::Memory, "no memory"),
+];
+
+/// Whether this fault comes of the list under the key 0.
+fn is_refused(alloc: Global, list: &[&str], bound: u32, fault: GenFault) -> bool {
+    tables_of(alloc, list, 0, bound).err() == Some(fault)
+}
+
+/// Whether the fault is printed so.
+fn tells(alloc: Global, fault: GenFault, text: &str) -> Result<bool, AllocError> {
+    Ok(format!(in alloc; "{fault}")?.as_str() == text)
+}
+
+#[test]
+fn refused_lists(rt: HostRuntime) {
+    for (list, bound, fault) in &REFUSED {
+        assert!(rt; is_refused(rt.alloc(), list, *bound, *fault), "of {list:?}");
+    }
+    for (fault, text) in &FAULTS {
+        assert!(rt; tells(rt.alloc(), *fault, text) == Ok(true), "of {text:?}");
+    }
+}
+
+/// Whether the texts are refused once the one at `to` is like that at `from`.
+fn is_double_refused(
     alloc: Global,
     texts: &[String],
     from: usize,
     to: usize,
-) -> Result<Option<GenFault>, Fail> {
+) -> Result<bool, AllocError> {
     let mut list = Vec::new(alloc);
     for (i, text) in texts.iter().enumerate() {
         let twice = if i == to { texts.get(from) } else { None };
         list.push(twice.unwrap_or(text).as_str())?;
     }
-    Ok(tables_of(alloc, &list, 0, 1024).err())
+    Ok(is_refused(alloc, &list, 1024, GenFault::Doubled))
 }
 
 /// Wherever the two equal texts stand among a thousand: side by side, far apart, or in the place of each other.
+const PLACES: [(usize, usize); 5] = [(0, 1), (0, 999), (999, 0), (499, 500), (17, 801)];
+
 #[test]
-fn doubled_texts(rt: HostRuntime) -> Result<(), Fail> {
-    let alloc = rt.alloc();
-    let texts = numbered(alloc, 1000)?;
-    for (from, to) in &[(0usize, 1usize), (0, 999), (999, 0), (499, 500), (17, 801)] {
-        let fault = fault_of_double(alloc, &texts, *from, *to)?;
-        assert!(rt; fault == Some(GenFault::Doubled), "of {from} and {to}");
+fn doubled_texts(rt: HostRuntime) {
+    let texts = numbered(rt.alloc(), 1000).expect(&rt, "texts");
+    for (from, to) in &PLACES {
+        let is_refused = is_double_refused(rt.alloc(), &texts, *from, *to);
+        assert!(rt; is_refused == Ok(true), "of {from} and {to}");
     }
-    Ok(())
 }
 
 /// A text that is listed three times, and between them others of its pair of displacements.
+const THREE_TIMES: [&str; 5] = ["sentence", "interned", "sentence", "tokenised", "sentence"];
+
 #[test]
-fn text_listed_three_times(rt: HostRuntime) -> Result<(), Fail> {
-    let alloc = rt.alloc();
-    let list = ["sentence", "interned", "sentence", "tokenised", "sentence"];
-    let found = tables_of(alloc, &list, 0, 1024);
-    assert!(rt; found.err() == Some(GenFault::Doubled));
-    Ok(())
+fn text_listed_three_times(rt: HostRuntime) {
+    assert!(rt; is_refused(rt.alloc(), &THREE_TIMES, 1024, GenFault::Doubled));
 }
 
 /// Xor and wrapping sum of the numbers.
@@ -151,7 +164,7 @@ fn xor_and_sum(numbers: &[u64]) -> (u64, u64) {
 }
 
 /// The texts `name_of_element_N_x`, N being 7919, 15838 and so on modulo 1,000,003.
-fn spread(alloc: Global, count: u64) -> Result<Vec<String>, Fail> {
+fn spread(alloc: Global, count: u64) -> Result<Vec<String>, AllocError> {
     let mut texts = Vec::new(alloc);
     for i in 0..count {
         let number = i.wrapping_mul(7919) % 1_000_003;
@@ -160,27 +173,33 @@ fn spread(alloc: Global, count: u64) -> Result<Vec<String>, Fail> {
     Ok(texts)
 }
 
+/// Whether xor and sum of the hashes, and the number of displacements, are those of a thousand texts and one.
+fn are_of_many(alloc: Global, tables: &Tables) -> bool {
+    let wanted = (0xa53f_e03c_a4ac_91ebu64, 0xb218_f2a5_e4b2_b187u64);
+    xor_and_sum(&tables.hashes) == wanted
+        && tables.disps.len() == 201
+        && are_checked(alloc, tables) == Ok(true)
+}
+
+/// Whether the tables of these texts and of one more are so.
+fn are_placed_with(alloc: Global, texts: &[String], other: &str) -> Result<bool, GenFault> {
+    let mut list = lent(alloc, texts)?;
+    list.push(other)?;
+    let tables = tables_of(alloc, &list, 0, 2048)?;
+    Ok(are_of_many(alloc, &tables))
+}
+
 /// A thousand texts and one beyond ASCII. By a program in Python, written from what is stated of the hash, xor and sum of their entries'
 /// hashes are these.
 #[test]
-fn thousand_and_one_texts(rt: HostRuntime) -> Result<(), Fail> {
-    let alloc = rt.alloc();
-    let texts = spread(alloc, 1000)?;
-    let mut list = lent(alloc, &texts)?;
-    list.push("味噌汁")?;
-    let tables = tables_of(alloc, &list, 0, 2048)?;
-    let wanted = (0xa53f_e03c_a4ac_91ebu64, 0xb218_f2a5_e4b2_b187u64);
-    assert!(rt; xor_and_sum(&tables.hashes) == wanted);
-    assert!(rt; tables.disps.len() == 201);
-    assert!(rt; checked(alloc, &format!(in alloc; "{tables}")?)?);
-    Ok(())
+fn thousand_and_one_texts(rt: HostRuntime) {
+    let texts = spread(rt.alloc(), 1000).expect(&rt, "texts");
+    assert!(rt; are_placed_with(rt.alloc(), &texts, "味噌汁") == Ok(true));
 }
 
 /// Names of several scripts under two pairs of displacements, as a program in Python placed them that was written from what is stated of the
 /// hash and of places, with another search.
-#[test]
-fn text_of_another_program(rt: HostRuntime) -> Result<(), Fail> {
-    let atoms = "atom ee9d42ffbc5d841a 味噌汁
+const NAMES: &str = "atom ee9d42ffbc5d841a 味噌汁
 atom fd9460e8e024ebc2 gołąbki
 atom cb0d452761586807 שקשוקה
 atom c9cea4fccea8d648 sauerkraut
@@ -189,81 +208,136 @@ atom 9f0d8fed70392973 bouillabaisse
 atom bb1cbbc265467a6b борщ зелёный
 atom d6b28c12c11d6bd6 café au lait
 ";
-    let alloc = rt.alloc();
-    for (pairs, yes) in &[
-        ("disp 198 0\ndisp 196 3", true),
-        ("disp 196 3\ndisp 198 0", false),
-    ] {
-        let text = format!(in alloc; "key 3\n{pairs}\n{atoms}")?;
-        assert!(rt; checked(alloc, &text)? == *yes, "of {pairs}");
-    }
-    Ok(())
+
+/// Whether the names are perfect tables under these pairs.
+fn are_names_checked(alloc: Global, pairs: &str) -> Result<bool, Fault> {
+    let text = format!(in alloc; "key 3\n{pairs}\n{NAMES}")?;
+    checked(alloc, &text)
 }
 
-/// Of the texts below a hundred the first two whose f2 differ in the lowest bit: with no displacement they have two places.
 #[test]
-fn two_texts(rt: HostRuntime) -> Result<(), Fail> {
-    let alloc = rt.alloc();
-    let texts = numbered(alloc, 100)?;
-    let mut found = None;
-    for (i, text) in texts.iter().enumerate() {
-        for earlier in &texts[..i] {
-            let differ = (hash(text, 0).f2 ^ hash(earlier, 0).f2) & 1 == 1;
-            if differ && found.is_none() {
-                found = Some((earlier.as_str(), text.as_str()));
-            }
+fn text_of_another_program(rt: HostRuntime) {
+    assert!(rt; are_names_checked(rt.alloc(), "disp 198 0\ndisp 196 3") == Ok(true));
+    assert!(rt; are_names_checked(rt.alloc(), "disp 196 3\ndisp 198 0") == Ok(false));
+}
+
+/// Whether the f2 of the texts differ in the lowest bit: with no displacement they have two places.
+fn differ(text: &str, other: &str) -> bool {
+    (hash(text, 0).f2 ^ hash(other, 0).f2) & 1 == 1
+}
+
+/// The first of the texts before this one from which it differs so.
+fn other_of<'t>(earlier: &'t [String], text: &str) -> Option<&'t str> {
+    for other in earlier {
+        if differ(text, other) {
+            return Some(other.as_str());
         }
     }
-    let (first, second) = found.expect(&rt, "two such texts");
+    None
+}
+
+/// Whether the two are placed with no displacement, and what is printed of that is checked.
+fn is_pair_placed(alloc: Global, first: &str, second: &str) -> Result<bool, GenFault> {
     let tables = tables_of(alloc, &[first, second], 0, 1)?;
-    assert!(rt; tables.disps.as_slice() == [(0u32, 0u32)].as_slice());
-    assert!(rt; checked(alloc, &format!(in alloc; "{tables}")?)?);
-    Ok(())
+    let is_checked = are_checked(alloc, &tables) == Ok(true);
+    Ok(is_checked && tables.disps.as_slice() == [(0u32, 0u32)].as_slice())
+}
+
+/// Whether the first two of the texts that differ are placed so.
+fn is_first_pair_placed(alloc: Global, texts: &[String]) -> Result<bool, GenFault> {
+    for (i, text) in texts.iter().enumerate() {
+        if let Some(other) = other_of(&texts[..i], text) {
+            return is_pair_placed(alloc, other, text);
+        }
+    }
+    Ok(false)
+}
+
+/// Of the texts below a hundred the first two whose f2 differ in the lowest bit.
+#[test]
+fn two_texts(rt: HostRuntime) {
+    let texts = numbered(rt.alloc(), 100).expect(&rt, "texts");
+    assert!(rt; is_first_pair_placed(rt.alloc(), &texts) == Ok(true));
+}
+
+/// Whether the tables are made under this key. `None` where anything but their bound is in the way.
+fn is_placed(alloc: Global, list: &[&str], key: u64) -> Option<bool> {
+    match tables_of(alloc, list, key, 1024) {
+        Ok(_) => Some(true),
+        Err(GenFault::NotPlaced) => Some(false),
+        Err(_) => None,
+    }
+}
+
+/// Whether they are made under one of four keys, and nothing else is in the way under the others.
+fn are_placed(alloc: Global, list: &[&str]) -> bool {
+    let mut are_placed = false;
+    for key in 0..4u64 {
+        match is_placed(alloc, list, key) {
+            Some(is_placed) => are_placed = are_placed || is_placed,
+            None => return false,
+        }
+    }
+    are_placed
+}
+
+/// Whether that is so of so many texts.
+fn are_numbered_placed(alloc: Global, count: usize) -> Result<bool, AllocError> {
+    let texts = numbered(alloc, count)?;
+    let list = lent(alloc, &texts)?;
+    Ok(are_placed(alloc, &list))
 }
 
 /// Short lists are placed by one of the first four keys: more first displacements are tried than there are texts.
 #[test]
-fn short_lists(rt: HostRuntime) -> Result<(), Fail> {
-    let alloc = rt.alloc();
+fn short_lists(rt: HostRuntime) {
     for count in 9..21 {
-        let texts = numbered(alloc, count)?;
-        let list = lent(alloc, &texts)?;
-        let mut is_placed = false;
-        for key in 0..4u64 {
-            match tables_of(alloc, &list, key, 1024) {
-                Ok(_) => is_placed = true,
-                Err(fault) => assert!(rt; fault == GenFault::NotPlaced),
-            }
-        }
-        assert!(rt; is_placed, "of {count} texts");
+        assert!(rt;
+            are_numbered_placed(rt.alloc(), count) == Ok(true),
+            "of {count} texts"
+        );
     }
-    Ok(())
+}
+
+/// Whether no tables were found within the bound.
+fn is_not_placed(answer: &Result<Tables, GenFault>) -> bool {
+    matches!(answer, Err(GenFault::NotPlaced))
 }
 
 /// The tables of the names, under the first of a hundred keys that has some.
 fn tables_of_names(alloc: Global, names: &[&str]) -> Result<Tables, GenFault> {
-    for key in 0..99u64 {
-        match tables_of(alloc, names, key, 1024) {
-            Err(GenFault::NotPlaced) => {}
-            answer => return answer,
+    for key in 0..100u64 {
+        let answer = tables_of(alloc, names, key, 1024);
+        if !is_not_placed(&answer) {
+            return answer;
         }
     }
-    tables_of(alloc, names, 99, 1024)
+    Err(GenFault::NotPlaced)
+}
+
+/// Whether these tables of 61 texts are perfect.
+fn are_perfect(alloc: Global, tables: &Tables) -> Result<bool, AllocError> {
+    let atoms = lent(alloc, &tables.atoms)?;
+    Ok(
+        tables.disps.len() == 13
+            && tables.atoms.len() == 61
+            && check_parts(tables.key, &tables.disps, &atoms, &tables.hashes),
+    )
+}
+
+/// The tables of so many texts.
+fn tables_of_numbered(alloc: Global, count: usize) -> Result<Tables, GenFault> {
+    let texts = numbered(alloc, count)?;
+    let list = lent(alloc, &texts)?;
+    tables_of_names(alloc, &list)
 }
 
 /// A list of more than five texts is placed by one of the first keys.
 #[test]
-fn sixty_one_texts(rt: HostRuntime) -> Result<(), Fail> {
-    let alloc = rt.alloc();
-    let texts = numbered(alloc, 61)?;
-    let list = lent(alloc, &texts)?;
-    let tables = tables_of_names(alloc, &list)?;
-    assert_eq!(rt; tables.disps.len(), 13);
-    assert_eq!(rt; tables.atoms.len(), 61);
-    let atoms = lent(alloc, &tables.atoms)?;
-    assert!(rt; check_parts(tables.key, &tables.disps, &atoms, &tables.hashes));
-    assert!(rt; checked(alloc, &format!(in alloc; "{tables}")?)?);
-    Ok(())
+fn sixty_one_texts(rt: HostRuntime) {
+    let tables = tables_of_numbered(rt.alloc(), 61).expect(&rt, "tables");
+    assert!(rt; are_perfect(rt.alloc(), &tables) == Ok(true));
+    assert!(rt; are_checked(rt.alloc(), &tables) == Ok(true));
 }
 
 /// Of these three texts the first two have the places 0 and 1 with no displacement, and the third 0, as 4294966296 is 3 * 1431655432.
@@ -288,44 +362,68 @@ fn small_displacements_come_first(rt: HostRuntime) {
     assert!(rt; found == Some((2, 0)));
 }
 
+const FIVE: [&str; 5] = [
+    "sentence",
+    "interned",
+    "tokenised",
+    "repeated",
+    "figcaption",
+];
+
+const THREE: [&str; 3] = ["sentence", "interned", "tokenised"];
+
+/// Whether the first pair is a small one, with a first displacement above 0.
+fn are_small(tables: &Tables) -> bool {
+    match tables.disps.first() {
+        Some((first, second)) => *first > 0 && *first < 1000 && *second < 1000,
+        None => false,
+    }
+}
+
+/// Whether that is so of the texts' tables at the greatest bound, and what is printed of them is checked.
+fn are_placed_at_once(alloc: Global, list: &[&str]) -> Result<bool, GenFault> {
+    let tables = tables_of(alloc, list, 0, u32::MAX)?;
+    let are_checked = are_checked(alloc, &tables) == Ok(true);
+    Ok(are_checked && are_small(&tables))
+}
+
 /// Three and five texts that small displacements place are placed at once at the greatest bound. With a first displacement of 0
 /// they aren't placed.
 #[test]
 fn greatest_bound(rt: HostRuntime) {
-    let alloc = rt.alloc();
-    let names = [
-        "sentence",
-        "interned",
-        "tokenised",
-        "repeated",
-        "figcaption",
-    ];
-    for count in [3, 5] {
-        let tables = tables_of(alloc, &names[..count], 0, u32::MAX).expect(&rt, "tables");
-        let printed = format!(in alloc; "{tables}").expect(&rt, "memory");
-        assert!(rt; checked(alloc, &printed).expect(&rt, "memory"));
-        let (first, second) = *tables.disps.first().expect(&rt, "a pair");
-        assert!(rt; first > 0 && first < 1000 && second < 1000);
+    assert!(rt; are_placed_at_once(rt.alloc(), &THREE) == Ok(true));
+    assert!(rt; are_placed_at_once(rt.alloc(), &FIVE) == Ok(true));
+}
+
+/// Whether the texts' places differ by an even number whatever the displacements.
+fn differ_evenly(text: &str, other: &str) -> bool {
+    let (one, other) = (hash(text, 0), hash(other, 0));
+    (one.f1 ^ other.f1) & 1 == 0 && (one.f2 ^ other.f2) & 1 == 0
+}
+
+/// Whether each other text that differs so from the first can't be placed with it, and there is such a text.
+fn are_hopeless(alloc: Global, texts: &[String]) -> bool {
+    let Some((first, others)) = texts.split_first() else {
+        return false;
+    };
+    let mut is_refused_once = false;
+    for other in others {
+        if differ_evenly(first, other) {
+            let pair = [first.as_str(), other.as_str()];
+            if !is_refused(alloc, &pair, u32::MAX, GenFault::NotPlaced) {
+                return false;
+            }
+            is_refused_once = true;
+        }
     }
+    is_refused_once
 }
 
 /// Two texts whose places differ by an even number whatever the displacements: a search without bound ends.
 #[test]
-fn hopeless_search(rt: HostRuntime) -> Result<(), Fail> {
-    let alloc = rt.alloc();
-    let texts = numbered(alloc, 100)?;
-    let mut is_refused = false;
-    for (i, text) in texts.iter().enumerate() {
-        let (one, other) = (hash(&texts[0], 0), hash(text, 0));
-        let is_even = (one.f1 ^ other.f1) & 1 == 0 && (one.f2 ^ other.f2) & 1 == 0;
-        if i > 0 && is_even {
-            let found = tables_of(alloc, &[texts[0].as_str(), text.as_str()], 0, u32::MAX);
-            assert!(rt; found.err() == Some(GenFault::NotPlaced));
-            is_refused = true;
-        }
-    }
-    assert!(rt; is_refused);
-    Ok(())
+fn hopeless_search(rt: HostRuntime) {
+    let texts = numbered(rt.alloc(), 100).expect(&rt, "texts");
+    assert!(rt; are_hopeless(rt.alloc(), &texts));
 }
 
 /// Texts, and whether each is the table text of perfect tables.
@@ -401,33 +499,47 @@ const TABLE_TEXTS: [(&str, bool); 32] = [
 ];
 
 #[test]
-fn table_texts(rt: HostRuntime) -> Result<(), Fail> {
-    for (text, yes) in TABLE_TEXTS {
-        assert!(rt; checked(rt.alloc(), text)? == yes, "of {text:?}");
+fn table_texts(rt: HostRuntime) {
+    for (text, yes) in &TABLE_TEXTS {
+        assert!(rt; checked(rt.alloc(), text) == Ok(*yes), "of {text:?}");
     }
-    Ok(())
+}
+
+/// Texts, and the numbers that they spell.
+const NUMBERS: [(&str, Option<u64>); 12] = [
+    ("0", Some(0)),
+    ("7", Some(7)),
+    ("10", Some(10)),
+    ("18446744073709551615", Some(u64::MAX)),
+    ("18446744073709551616", None),
+    ("", None),
+    ("00", None),
+    ("07", None),
+    ("+7", None),
+    ("-7", None),
+    (" 7", None),
+    ("7 ", None),
+];
+
+fn spells(text: &str, number: Option<u64>) -> bool {
+    number_of(text) == number
+}
+
+fn spells_short(text: &str, number: Option<u32>) -> bool {
+    short_number_of(text) == number
+}
+
+fn spells_after(text: &str, word: &str, number: Option<u64>) -> bool {
+    number_after(text, word) == number
 }
 
 #[test]
 fn spelled_numbers(rt: HostRuntime) {
-    for (text, number) in [
-        ("0", Some(0)),
-        ("7", Some(7)),
-        ("10", Some(10)),
-        ("18446744073709551615", Some(u64::MAX)),
-        ("18446744073709551616", None),
-        ("", None),
-        ("00", None),
-        ("07", None),
-        ("+7", None),
-        ("-7", None),
-        (" 7", None),
-        ("7 ", None),
-    ] {
-        assert_eq!(rt; number_of(text), number, "of {text:?}");
+    for (text, number) in &NUMBERS {
+        assert!(rt; spells(text, *number), "of {text:?}");
     }
-    assert_eq!(rt; short_number_of("4294967295"), Some(u32::MAX));
-    assert_eq!(rt; short_number_of("4294967296"), None);
-    assert_eq!(rt; number_after("key 5", "key "), Some(5));
-    assert_eq!(rt; number_after("key5", "key "), None);
+    assert!(rt; spells_short("4294967295", Some(u32::MAX)));
+    assert!(rt; spells_short("4294967296", None));
+    assert!(rt; spells_after("key 5", "key ", Some(5)));
+    assert!(rt; spells_after("key5", "key ", None));
 }

@@ -29,32 +29,34 @@ fn is_bad_at(alloc: Global, script: &str, line: u64) -> bool {
 
 /// A text is the rest of its line as it stands, the last line may lack its line feed, and numbers reach their bounds. A
 /// text of 7 bytes is inline and takes no bucket, so a byte that got lost would show.
+const GOOD: [(&str, &str); 16] = [
+    ("", ""),
+    ("limits 1 1", ""),
+    ("limits 9223372036854775807 281474976710655\n", ""),
+    ("buckets 0", ""),
+    ("limits 1 1\nbuckets 14\n", ""),
+    ("1 link", "no\n"),
+    (
+        "4294967295 sweep 4294967295\n1 sweep 0\n1 leave\n1 add e18446744073709551615\n1 free e10",
+        "no\ntaken\nleft\nno\nno\n",
+    ),
+    ("1 intern  a", "no\n"),
+    ("1 intern a b", "no\n"),
+    ("1 intern  ", "no\n"),
+    ("1 intern a\r\n", "no\n"),
+    ("1 intern  234567", "no\n"),
+    ("1 intern  2345678", "taken\n"),
+    ("1 intern 1234567 ", "taken\n"),
+    ("1 intern 1234567\r\n", "taken\n"),
+    (
+        "1 intern interned\r\n1 link\n1 leave\n1 intern interned\n1 add e1\n",
+        "taken\nlinked e1 serial 1\nleft\ntaken\nno\nheld e1 1\n",
+    ),
+];
+
 #[test]
 fn good_lines(rt: HostRuntime) {
-    for (script, output) in [
-        ("", ""),
-        ("limits 1 1", ""),
-        ("limits 9223372036854775807 281474976710655\n", ""),
-        ("buckets 0", ""),
-        ("limits 1 1\nbuckets 14\n", ""),
-        ("1 link", "no\n"),
-        (
-            "4294967295 sweep 4294967295\n1 sweep 0\n1 leave\n1 add e18446744073709551615\n1 free e10",
-            "no\ntaken\nleft\nno\nno\n",
-        ),
-        ("1 intern  a", "no\n"),
-        ("1 intern a b", "no\n"),
-        ("1 intern  ", "no\n"),
-        ("1 intern a\r\n", "no\n"),
-        ("1 intern  234567", "no\n"),
-        ("1 intern  2345678", "taken\n"),
-        ("1 intern 1234567 ", "taken\n"),
-        ("1 intern 1234567\r\n", "taken\n"),
-        (
-            "1 intern interned\r\n1 link\n1 leave\n1 intern interned\n1 add e1\n",
-            "taken\nlinked e1 serial 1\nleft\ntaken\nno\nheld e1 1\n",
-        ),
-    ] {
+    for (script, output) in &GOOD {
         assert!(rt; gives(rt.alloc(), script, output), "of {script:?}");
     }
 }
@@ -153,44 +155,41 @@ fn bad_lines(rt: HostRuntime) {
 }
 
 /// The first bad line is named.
+const NAMED: [(&str, u64); 19] = [
+    ("\n", 1),
+    ("\n\n", 1),
+    ("\n1 link", 1),
+    ("1 link\n\n", 2),
+    ("limits 1 1\n\n", 2),
+    ("1 jump\n1 jump", 1),
+    ("1 sweep 1\n1 leave\n1 jump\n1 link\n1 jump\n", 3),
+    ("limits 1 1\nlimits 1 1\n", 2),
+    ("1 link\nlimits 1 1\n", 2),
+    ("1 link\n1 link\r\n1 link\n", 2),
+    ("limits 1 1\n1 link\n0 link", 3),
+    ("buckets 1\nbuckets 1\n", 2),
+    ("1 link\nbuckets 1\n", 2),
+    ("buckets 1\nlimits 1 1\n", 2),
+    ("limits 1 1\nbuckets 15\n", 2),
+    ("limits 1 1\nbuckets 1\nbuckets 1\n", 3),
+    ("limits 1 1\nbuckets 1\nlimits 1 1\n", 3),
+    ("limits 1 1\n1 link\nbuckets 1\n", 3),
+    ("limits 1 1\nbuckets 1\n1 link\n0 link", 4),
+];
+
 #[test]
 fn bad_line_is_named(rt: HostRuntime) {
-    for (script, line) in [
-        ("\n", 1),
-        ("\n\n", 1),
-        ("\n1 link", 1),
-        ("1 link\n\n", 2),
-        ("limits 1 1\n\n", 2),
-        ("1 jump\n1 jump", 1),
-        ("1 sweep 1\n1 leave\n1 jump\n1 link\n1 jump\n", 3),
-        ("limits 1 1\nlimits 1 1\n", 2),
-        ("1 link\nlimits 1 1\n", 2),
-        ("1 link\n1 link\r\n1 link\n", 2),
-        ("limits 1 1\n1 link\n0 link", 3),
-        ("buckets 1\nbuckets 1\n", 2),
-        ("1 link\nbuckets 1\n", 2),
-        ("buckets 1\nlimits 1 1\n", 2),
-        ("limits 1 1\nbuckets 15\n", 2),
-        ("limits 1 1\nbuckets 1\nbuckets 1\n", 3),
-        ("limits 1 1\nbuckets 1\nlimits 1 1\n", 3),
-        ("limits 1 1\n1 link\nbuckets 1\n", 3),
-        ("limits 1 1\nbuckets 1\n1 link\n0 link", 4),
-    ] {
-        assert!(rt; is_bad_at(rt.alloc(), script, line), "of {script:?}");
+    for (script, line) in &NAMED {
+        assert!(rt; is_bad_at(rt.alloc(), script, *line), "of {script:?}");
     }
 }
 
 /// More steps than are kept before they are made.
 #[test]
 fn many_steps(rt: HostRuntime) {
-    let alloc = rt.alloc();
-    let mut script = String::new(alloc);
-    let mut lines = String::new(alloc);
-    for _ in 0..5000 {
-        script.push_str("1 leave\n").expect(&rt, "room");
-        lines.push_str("no\n").expect(&rt, "room");
-    }
-    assert!(rt; gives(alloc, &script, &lines));
+    let script = "1 leave\n".repeat(rt.alloc(), 5000).expect(&rt, "room");
+    let lines = "no\n".repeat(rt.alloc(), 5000).expect(&rt, "room");
+    assert!(rt; gives(rt.alloc(), &script, &lines));
 }
 
 #[test]
@@ -208,10 +207,7 @@ fn tells(alloc: Global, fault: ScriptFault, text: &str) -> Result<bool, AllocErr
 
 #[test]
 fn printed_faults(rt: HostRuntime) {
-    for (fault, text) in [
-        (ScriptFault::NotAStep(12), "line 12: not a step"),
-        (ScriptFault::Memory, "no memory"),
-    ] {
-        assert!(rt; tells(rt.alloc(), fault, text) == Ok(true), "of {text:?}");
-    }
+    let bad = ScriptFault::NotAStep(12);
+    assert!(rt; tells(rt.alloc(), bad, "line 12: not a step") == Ok(true));
+    assert!(rt; tells(rt.alloc(), ScriptFault::Memory, "no memory") == Ok(true));
 }

@@ -290,14 +290,14 @@ const BUCKETS: [(u8, u32); 15] = [
 
 #[test]
 fn sweeps_of_the_last_buckets(rt: HostRuntime) {
-    for (bits, number) in BUCKETS {
+    for (bits, number) in &BUCKETS {
         let rows = [
             (1, Do::Sweep(number.saturating_sub(1)), Taken),
             (1, Do::Leave, Left),
-            (1, Do::Sweep(number), No),
+            (1, Do::Sweep(*number), No),
             (1, Do::Give(1), No),
         ];
-        let buckets = Buckets::new(bits).expect(&rt, "bits");
+        let buckets = Buckets::new(*bits).expect(&rt, "bits");
         check_in(&rt, rt.alloc(), Limits::greatest(), buckets, &rows, &[]);
     }
 }
@@ -380,14 +380,24 @@ fn count_of(replies: &[StepReply], reply: StepReply) -> usize {
     replies.iter().filter(|other| **other == reply).count()
 }
 
+// Whether these are the replies to those steps.
+fn are_many(replies: &[StepReply]) -> bool {
+    replies.len() == 20_003
+        && count_of(replies, Cloned { holders: 2 }) == 10_000
+        && count_of(replies, Given { left: 1 }) == 10_000
+}
+
+// Whether they come of one run.
+fn come_of_one_run(alloc: Global, world: &mut Plain) -> Result<bool, Fault> {
+    let steps = many_steps(alloc)?;
+    let mut given = Vec::new(alloc);
+    run(world, &steps, &mut given)?;
+    Ok(are_many(&given))
+}
+
 #[test]
 fn twenty_thousand_steps_in_one_run(rt: HostRuntime) {
-    let steps = many_steps(rt.alloc()).expect(&rt, "steps");
     let mut world = new_world(&rt, rt.alloc());
-    let mut given = Vec::new(rt.alloc());
-    run(&mut world, &steps, &mut given).expect(&rt, "replies");
-    assert!(rt; given.len() == 20_003);
-    assert!(rt; count_of(&given, Cloned { holders: 2 }) == 10_000);
-    assert!(rt; count_of(&given, Given { left: 1 }) == 10_000);
-    assert!(rt; world.count(1) == Some(1));
+    assert!(rt; come_of_one_run(rt.alloc(), &mut world) == Ok(true));
+    assert!(rt; are_held(&world, &[1]));
 }
