@@ -2,10 +2,9 @@
 
 use counted_cell::{Label, Owner};
 use example_sets::{
-    Compared, DISHES_TABLES, Dishes, Priced, TAGS, Tag, Tags, agree, agree_in_scope, compare_names,
-    compute_something, finds_all, header_name, is_field, large_set, length_by_share, load,
-    price_of, price_of_text, priced_json, prints_well, save, set_price, tables_of_names, take_next,
-    through_json,
+    Compared, Dishes, Priced, Tag, Tags, agree, agree_in_scope, compare_names, compute_something,
+    finds_all, header_name, is_field, large_set, length_by_share, load, price_of, price_of_text,
+    priced_json, prints_well, save, set_price, tables_of_names, take_next, through_json,
 };
 use node_chain::NodeChain;
 use std::alloc::Global;
@@ -13,119 +12,189 @@ use std::cmp::Ordering;
 use std::collections::HashMap;
 use std::process::Abort;
 use std::sync::Wait;
-use std::test::Fail;
+use std::thread::Threads;
 use string_cache::dynamic_set::Set;
+use string_cache::static_sets::{StaticAtomSet, StaticTables};
 use string_cache::{Atom, DefaultAtom, EmptyStaticAtomSet, Fault};
+
+/// A set without static texts.
+type DefaultSet = Set<EmptyStaticAtomSet>;
+
+fn new_set<Static: StaticTables>(rt: &impl Abort, alloc: Global) -> Set<Static> {
+    Set::new(alloc).expect(rt, "a set")
+}
+
+/// The atom of a text.
+fn intern<'s, R: Wait + Abort, Static: StaticTables>(
+    rt: &R,
+    set: &'s Set<Static>,
+    text: &str,
+) -> Atom<'s, Static> {
+    Atom::from_str_in(rt, set, text).expect(rt, "an atom")
+}
+
+/// Two names; whether they are one, their order, and whether the second is the first in capitals.
+const NAMES: [(&str, &str, bool, Ordering, bool); 3] = [
+    ("pear tree", "pear tree", true, Ordering::Equal, false),
+    ("pear tree", "plum", false, Ordering::Less, false),
+    ("pear tree", "PEAR TREE", false, Ordering::Greater, true),
+];
+
+/// What is found of two names where the first costs 40.
+fn compared<R: Wait>(rt: &R, alloc: Global, first: &str, second: &str) -> Option<Compared> {
+    compare_names(rt, alloc, first, second, 40).ok()
+}
+
+#[test]
+fn names_compare(rt: HostRuntime) {
+    for (first, second, is_same, order, is_in_capitals) in &NAMES {
+        let wanted = Compared {
+            is_same: *is_same,
+            order: *order,
+            is_in_capitals: *is_in_capitals,
+            price: if *is_same { Some(40) } else { None },
+        };
+        assert!(rt;
+            compared(&rt, rt.alloc(), first, second) == Some(wanted),
+            "of {second:?}"
+        );
+    }
+}
+
+/// What a text stands for.
+fn matched<R: Wait + Abort>(rt: &R, set: &DefaultSet, text: &str) -> u32 {
+    compute_something(&intern(rt, set, text))
+}
+
+#[test]
+fn texts_are_matched(rt: HostRuntime) {
+    let set = new_set(&rt, rt.alloc());
+    for (text, wanted) in &[("foo", 1), ("bar", 2), ("baz", 3), ("", 0)] {
+        assert!(rt; matched(&rt, &set, text) == *wanted, "of {text:?}");
+    }
+}
+
+/// Whether two names of a header have one atom, of this text.
+fn are_one_header<R: Wait + Abort>(
+    rt: &R,
+    set: &DefaultSet,
+    first: &str,
+    second: &str,
+    text: &str,
+) -> bool {
+    let name = header_name(rt, set, first).expect(rt, "an atom");
+    name.as_str() == text && name == header_name(rt, set, second).expect(rt, "an atom")
+}
+
+#[test]
+fn headers_have_small_letters(rt: HostRuntime) {
+    let set = new_set(&rt, rt.alloc());
+    assert!(rt; are_one_header(&rt, &set, "Content-Type", "CONTENT-TYPE", "content-type"));
+}
+
+/// Whether the atom is written as a value that is read back as the atom.
+fn goes_through_json<R: Wait>(rt: &R, set: &DefaultSet, atom: &DefaultAtom<'_>) -> bool {
+    match through_json(rt, set.allocator(), set, atom) {
+        Ok(back) => back == *atom,
+        Err(_) => false,
+    }
+}
+
+/// Whether this is the JSON text of the atom.
+fn is_saved_as(alloc: Global, atom: &DefaultAtom<'_>, json: &str) -> bool {
+    match save(alloc, atom) {
+        Ok(text) => text.as_str() == json,
+        Err(_) => false,
+    }
+}
+
+/// Whether the atom of a JSON text is this one. `None` where it has none.
+fn is_loaded<R: Wait>(
+    rt: &R,
+    set: &DefaultSet,
+    json: &str,
+    atom: &DefaultAtom<'_>,
+) -> Option<bool> {
+    match load(rt, set.allocator(), set, json) {
+        Ok(loaded) => Some(loaded == *atom),
+        Err(_) => None,
+    }
+}
+
+/// Whether a text's atom goes through this JSON text and no other.
+fn goes_through<R: Wait + Abort>(rt: &R, set: &DefaultSet, text: &str, json: &str) -> bool {
+    let atom = intern(rt, set, text);
+    goes_through_json(rt, set, &atom)
+        && is_saved_as(set.allocator(), &atom, json)
+        && is_loaded(rt, set, json, &atom) == Some(true)
+        && is_loaded(rt, set, "7", &atom).is_none()
+        && is_loaded(rt, set, "interned", &atom).is_none()
+}
+
+#[test]
+fn atoms_go_through_json(rt: HostRuntime) {
+    let set = new_set(&rt, rt.alloc());
+    assert!(rt; goes_through(&rt, &set, "interned", "\"interned\""));
+}
 
 /// What names cost.
 type Prices<'s> = HashMap<DefaultAtom<'s>, u32>;
 
-#[test]
-fn names_compare(rt: HostRuntime) {
-    for (first, second, is_same, order, is_in_capitals) in [
-        ("pear tree", "pear tree", true, Ordering::Equal, false),
-        ("pear tree", "plum", false, Ordering::Less, false),
-        ("pear tree", "PEAR TREE", false, Ordering::Greater, true),
-    ] {
-        let found = compare_names(&rt, rt.alloc(), first, second, 40).expect(&rt, "atoms");
-        let wanted = Compared {
-            is_same,
-            order,
-            is_in_capitals,
-            price: if is_same { Some(40) } else { None },
-        };
-        assert_eq!(rt; found, wanted, "of {first:?} and {second:?}");
-    }
-}
-
-#[test]
-fn texts_are_matched(rt: HostRuntime) -> Result<(), Fail> {
-    let set = Set::new(rt.alloc())?;
-    for (text, wanted) in [("foo", 1), ("bar", 2), ("baz", 3), ("", 0)] {
-        let found = compute_something(&DefaultAtom::from_str_in(&rt, &set, text)?);
-        assert_eq!(rt; found, wanted, "of {text:?}");
-    }
-    Ok(())
-}
-
-#[test]
-fn headers_have_small_letters(rt: HostRuntime) -> Result<(), Fail> {
-    let set = Set::new(rt.alloc())?;
-    let name = header_name(&rt, &set, "Content-Type")?;
-    assert_eq!(rt; name.as_str(), "content-type");
-    assert_eq!(rt; name, header_name(&rt, &set, "CONTENT-TYPE")?);
-    Ok(())
-}
-
-#[test]
-fn atoms_go_through_json(rt: HostRuntime) -> Result<(), Fail> {
-    let set = Set::new(rt.alloc())?;
-    let atom = DefaultAtom::from_str_in(&rt, &set, "interned")?;
-    assert_eq!(rt; through_json(&rt, rt.alloc(), &set, &atom)?, atom);
-    let json = save(rt.alloc(), &atom)?;
-    assert_eq!(rt; json.as_str(), "\"interned\"");
-    let loaded = load(&rt, rt.alloc(), &set, json.as_str()).expect(&rt, "a JSON text");
-    assert_eq!(rt; loaded, atom);
-    for json in ["7", "interned"] {
-        assert!(rt; load(&rt, rt.alloc(), &set, json).is_err(), "of {json}");
-    }
-    Ok(())
-}
-
 /// A price list with one name.
-fn one_price<'s, R: Wait>(
-    rt: &R,
-    alloc: Global,
-    set: &'s Set<EmptyStaticAtomSet>,
-) -> Result<Prices<'s>, Fault> {
-    let mut prices = HashMap::new(alloc);
-    let pear = DefaultAtom::from_str_in(rt, set, "pear tree")?;
-    set_price(&mut prices, pear, 40)?;
-    Ok(prices)
+fn one_price<'s, R: Wait + Abort>(rt: &R, set: &'s DefaultSet) -> Prices<'s> {
+    let mut prices = HashMap::new(set.allocator());
+    set_price(&mut prices, intern(rt, set, "pear tree"), 40).expect(rt, "room");
+    prices
+}
+
+/// What a price list with one name has for a text, by its atom.
+fn priced_by_atom<R: Wait + Abort>(rt: &R, set: &DefaultSet, name: &str) -> Option<u32> {
+    price_of(&one_price(rt, set), &intern(rt, set, name))
 }
 
 #[test]
-fn prices_are_found_by_text(rt: HostRuntime) -> Result<(), Fail> {
-    let set = Set::new(rt.alloc())?;
-    let prices = one_price(&rt, rt.alloc(), &set)?;
-    let again = DefaultAtom::from_str_in(&rt, &set, "pear tree")?;
-    let plum = DefaultAtom::from_str_in(&rt, &set, "plum tree")?;
-    assert_eq!(rt; price_of(&prices, &again), Some(40));
-    assert_eq!(rt; price_of(&prices, &plum), None);
-    Ok(())
+fn prices_are_found_by_text(rt: HostRuntime) {
+    let set = new_set(&rt, rt.alloc());
+    for (name, price) in &[("pear tree", Some(40u32)), ("plum tree", None)] {
+        assert!(rt; priced_by_atom(&rt, &set, name) == *price, "of {name:?}");
+    }
 }
 
 /// What a price list with one name has for a text.
-fn priced<R: Wait>(rt: &R, alloc: Global, name: &str) -> Result<Option<u32>, Fault> {
-    let set = Set::new(alloc)?;
-    let prices = one_price(rt, alloc, &set)?;
-    price_of_text(rt, &set, &prices, name)
+fn priced<R: Wait + Abort>(rt: &R, set: &DefaultSet, name: &str) -> Result<Option<u32>, Fault> {
+    price_of_text(rt, set, &one_price(rt, set), name)
 }
 
 #[test]
-fn prices_are_found_without_interning(rt: HostRuntime) -> Result<(), Fail> {
-    assert_eq!(rt; priced(&rt, rt.alloc(), "pear tree")?, Some(40));
-    assert_eq!(rt; priced(&rt, rt.alloc(), "plum tree")?, None); // dynamic
-    assert_eq!(rt; priced(&rt, rt.alloc(), "plum")?, None); // inline
-    Ok(())
+fn prices_are_found_without_interning(rt: HostRuntime) {
+    let set = new_set(&rt, rt.alloc());
+    for (name, price) in &[
+        ("pear tree", Some(40u32)),
+        ("plum tree", None), // dynamic
+        ("plum", None), // inline
+    ] {
+        assert!(rt; priced(&rt, &set, name) == Ok(*price), "of {name:?}");
+    }
 }
 
-/// The JSON text of a price.
-fn json_of_price<R: Wait>(rt: &R, alloc: Global, name: &str, price: u32) -> Option<String> {
-    let set = Set::new(alloc).ok()?;
-    let name = DefaultAtom::from_str_in(rt, &set, name).ok()?;
-    priced_json(alloc, &Priced { name, price }).ok()
-}
-
-fn is_json_of_price<R: Wait>(rt: &R, alloc: Global, name: &str, price: u32, wanted: &str) -> bool {
-    match json_of_price(rt, alloc, name, price) {
-        Some(json) => json.as_str() == wanted,
-        None => false,
+/// Whether this is the JSON text of a price.
+fn is_json_of_price<R: Wait + Abort>(
+    rt: &R,
+    set: &DefaultSet,
+    name: &str,
+    price: u32,
+    wanted: &str,
+) -> bool {
+    let name = intern(rt, set, name);
+    match priced_json(set.allocator(), &Priced { name, price }) {
+        Ok(json) => json.as_str() == wanted,
+        Err(_) => false,
     }
 }
 
 #[test]
 fn prices_are_written_as_json(rt: HostRuntime) {
+    let set = new_set(&rt, rt.alloc());
     for (name, price, wanted) in &[
         ("tea", 3u32, r#"{"name":"tea","price":3}"#),
         (
@@ -135,22 +204,22 @@ fn prices_are_written_as_json(rt: HostRuntime) {
         ),
     ] {
         assert!(rt;
-            is_json_of_price(&rt, rt.alloc(), name, *price, wanted),
+            is_json_of_price(&rt, &set, name, *price, wanted),
             "of {name:?}"
         );
     }
 }
 
-fn has_large_set<R: Wait>(rt: &R, alloc: Global) -> Result<bool, Fault> {
-    let set = large_set(alloc)?;
-    let atom = DefaultAtom::from_str_in(rt, &set, "pear tree")?;
-    Ok(atom.is_dynamic() && set.linked(rt) == 1)
+/// Whether the text is dynamic, and the only one that the set links.
+fn is_linked<R: Wait + Abort>(rt: &R, set: &DefaultSet, text: &str) -> bool {
+    let atom = intern(rt, set, text);
+    atom.is_dynamic() && set.linked(rt) == 1
 }
 
 #[test]
-fn a_large_set_takes_texts(rt: HostRuntime) -> Result<(), Fail> {
-    assert!(rt; has_large_set(&rt, rt.alloc())?);
-    Ok(())
+fn a_large_set_takes_texts(rt: HostRuntime) {
+    let set = large_set(rt.alloc()).expect(&rt, "a set");
+    assert!(rt; is_linked(&rt, &set, "pear tree"));
 }
 
 /// How many texts the tables of some names have.
@@ -163,54 +232,53 @@ fn texts_in_tables(alloc: Global, names: &[&str]) -> Option<usize> {
 
 #[test]
 fn tables_are_made_of_names(rt: HostRuntime) {
-    assert_eq!(rt;
-        texts_in_tables(rt.alloc(), &["figcaption", "m\u{f6}hrensuppe"]),
-        Some(2)
-    );
-    assert_eq!(rt;
-        texts_in_tables(rt.alloc(), &["figcaption", "figcaption"]),
-        None
-    );
-    assert_eq!(rt; texts_in_tables(rt.alloc(), &[]), None);
+    let names = ["figcaption", "m\u{f6}hrensuppe"];
+    assert!(rt; texts_in_tables(rt.alloc(), &names) == Some(2));
+    assert!(rt; texts_in_tables(rt.alloc(), &["figcaption", "figcaption"]).is_none());
+    assert!(rt; texts_in_tables(rt.alloc(), &[]).is_none());
 }
 
-/// How many bytes one share more sees of the text of a cell, which has its only share where it is full.
+/// How many bytes one share more sees of the text of a cell, which has its only share where at most one may have it.
 fn bytes_by_share<R: Wait>(rt: &R, alloc: Global, text: &str, is_full: bool) -> Option<usize> {
     let label = Label {
         hash: 8,
         ticket: 7,
         limit: if is_full { 1 } else { 2 },
     };
-    let (owner, first) = Owner::new(alloc, label, 9, text).ok()?;
-    let len = length_by_share(rt, &owner);
-    drop(first.give());
-    len
+    match Owner::new(alloc, label, 9, text) {
+        Ok((owner, first)) => {
+            let len = length_by_share(rt, &owner);
+            drop(first.give());
+            len
+        }
+        Err(_) => None,
+    }
 }
 
 #[test]
 fn a_cell_is_read_by_a_share(rt: HostRuntime) {
-    assert_eq!(rt;
-        bytes_by_share(&rt, rt.alloc(), "pear tree", false),
-        Some(9)
-    );
-    assert_eq!(rt; bytes_by_share(&rt, rt.alloc(), "pear tree", true), None);
+    assert!(rt; bytes_by_share(&rt, rt.alloc(), "pear tree", false) == Some(9));
+    assert!(rt; bytes_by_share(&rt, rt.alloc(), "pear tree", true).is_none());
 }
 
-/// The first two items that are taken out of a chain of two numbers.
-fn taken(alloc: Global, first: u64, second: u64) -> Option<(Option<u64>, Option<u64>)> {
+/// Whether these two items, and no other, are taken out of the chain.
+fn takes_two(chain: &mut NodeChain<u64>, first: u64, second: u64) -> bool {
+    take_next(chain) == Some(first)
+        && take_next(chain) == Some(second)
+        && take_next(chain).is_none()
+}
+
+/// Whether two items are taken out of a chain in the order in which they stand in it.
+fn are_taken(alloc: Global, first: u64, second: u64) -> bool {
     let mut chain = NodeChain::new(alloc);
-    chain.add_head(second).ok()?;
-    chain.add_head(first).ok()?;
-    let found = (take_next(&mut chain), take_next(&mut chain));
-    if take_next(&mut chain).is_some() {
-        return None;
-    }
-    Some(found)
+    chain.add_head(second).is_ok()
+        && chain.add_head(first).is_ok()
+        && takes_two(&mut chain, first, second)
 }
 
 #[test]
 fn items_are_taken_out_in_order(rt: HostRuntime) {
-    assert_eq!(rt; taken(rt.alloc(), 40, 7), Some((Some(40), Some(7))));
+    assert!(rt; are_taken(rt.alloc(), 40, 7));
 }
 
 #[test]
@@ -220,35 +288,74 @@ fn printed_tables_are_accepted(rt: HostRuntime) {
     assert!(rt; prints_well(rt.alloc(), &[], 0).is_err());
 }
 
-#[test]
-fn threads_agree(rt: HostRuntime) -> Result<(), Fail> {
-    assert!(rt; agree(&rt, rt.alloc(), "tokenised", "tokenised")?);
-    assert!(rt; !agree(&rt, rt.alloc(), "tokenised", "tokenized")?);
+/// Whether the atoms of two threads are equal in a set of their own. `None` where one is refused.
+fn agreed<R: Threads + Wait + Sync>(
+    rt: &R,
+    alloc: Global,
+    left: &str,
+    right: &str,
+) -> Option<bool> {
+    agree(rt, alloc, left, right).ok()
+}
 
-    let set = Set::new(rt.alloc())?;
-    assert!(rt; agree_in_scope(&rt, &set, "tokenised", "tokenised")?);
-    assert!(rt; !agree_in_scope(&rt, &set, "tokenised", "tokenized")?);
-    assert_eq!(rt; set.linked(&rt), 0); // their atoms are gone
-    Ok(())
+/// The same in this set.
+fn agreed_in_scope<R: Threads + Wait + Sync>(
+    rt: &R,
+    set: &DefaultSet,
+    left: &str,
+    right: &str,
+) -> Option<bool> {
+    agree_in_scope(rt, set, left, right).ok()
+}
+
+/// Whether both are so of two texts, and nothing is left in the set.
+fn do_agree<R: Threads + Wait + Sync>(
+    rt: &R,
+    set: &DefaultSet,
+    left: &str,
+    right: &str,
+    wanted: bool,
+) -> bool {
+    agreed(rt, set.allocator(), left, right) == Some(wanted)
+        && agreed_in_scope(rt, set, left, right) == Some(wanted)
+        && set.linked(rt) == 0 // their atoms are gone
+}
+
+#[test]
+fn threads_agree(rt: HostRuntime) {
+    let set = new_set(&rt, rt.alloc());
+    for (left, right, wanted) in &[
+        ("tokenised", "tokenised", true),
+        ("tokenised", "tokenized", false),
+    ] {
+        assert!(rt; do_agree(&rt, &set, left, right, *wanted), "of {right:?}");
+    }
+}
+
+/// Whether the tables that the type has are well made.
+fn are_checked<S: StaticAtomSet>() -> bool {
+    S::get().check()
 }
 
 /// Whether the tag of a name is static, and whether it is a field's.
-fn told_of_tag<R: Wait>(rt: &R, set: &Set<Tags>, name: &str) -> Result<(bool, bool), Fault> {
-    let tag = Atom::<Tags>::from_str_in(rt, set, name)?;
-    Ok((tag.is_static(), is_field(&tag)))
+fn told_of_tag<R: Wait + Abort>(rt: &R, set: &Set<Tags>, name: &str) -> (bool, bool) {
+    let tag = intern(rt, set, name);
+    (tag.is_static(), is_field(&tag))
 }
 
 #[test]
-fn tags_are_static(rt: HostRuntime) -> Result<(), Fail> {
-    assert!(rt; TAGS.check());
+fn tags_are_static(rt: HostRuntime) {
+    assert!(rt; are_checked::<Tags>());
     assert!(rt; finds_all::<Tags>(&["figcaption", "textarea", "template"]));
     assert!(rt; !finds_all::<Tags>(&["figcaption", "sentence"]));
-    let set = Set::new(rt.alloc())?;
-    for (name, is_static) in [("textarea", true), ("table", false), ("sentence", false)] {
-        let found = told_of_tag(&rt, &set, name)?;
-        assert_eq!(rt; found, (is_static, name == "textarea"), "of {name}");
+    let set = new_set(&rt, rt.alloc());
+    for (name, told) in &[
+        ("textarea", (true, true)),
+        ("table", (false, false)),
+        ("sentence", (false, false)),
+    ] {
+        assert!(rt; told_of_tag(&rt, &set, name) == *told, "of {name}");
     }
-    Ok(())
 }
 
 /// A type that `tools/static_type.py` wrote, over names of several scripts.
@@ -260,13 +367,13 @@ fn dishes_are_static(rt: HostRuntime) {
         "soup \"du jour\" \\ bread",
         "minestrone",
     ];
-    assert!(rt; DISHES_TABLES.check());
+    assert!(rt; are_checked::<Dishes>());
     assert!(rt; finds_all::<Dishes>(&names));
     assert!(rt; !finds_all::<Dishes>(&["cafe au lait"]));
 }
 
 #[test]
 fn an_atom_has_24_bytes(rt: HostRuntime) {
-    assert_eq!(rt; size_of::<DefaultAtom>(), 24);
-    assert_eq!(rt; size_of::<Tag>(), 24);
+    assert!(rt; size_of::<DefaultAtom>() == 24);
+    assert!(rt; size_of::<Tag>() == 24);
 }
