@@ -133,5 +133,6 @@ fn forgets_two(program: &mut Program) -> bool {
 
 #[test]
 fn functions_are_all_forgotten(rt: HostRuntime) {
-    assert!(rt; forgets_two(&mut of_tables(&rt, rt.alloc())));
+    let mut program = of_tables(&rt, rt.alloc());
+    assert!(rt; forgets_two(&mut program));
 }

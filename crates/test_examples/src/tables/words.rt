@@ -114,17 +114,20 @@ fn words_have_first_bytes(rt: HostRuntime) {
     assert!(rt; first_byte(&table, 0).is_none()); // no word
 }
 
-/// The text of a name that the table lends, by the name's word.
-fn lent<'t>(table: &'t Plain, name: &str) -> Option<&'t str> {
-    lent_text(table, table.get(name)?)
+/// Whether a name has a word, for which the table lends this text: none where it is inline.
+fn lends(table: &Plain, name: &str, text: Option<&str>) -> bool {
+    match table.get(name) {
+        Some(word) => lent_text(table, word) == text,
+        None => false,
+    }
 }
 
 #[test]
 fn texts_are_lent(rt: HostRuntime) {
     let table = filled(&rt, rt.alloc(), &["pear tree"]);
-    assert!(rt; table.get("plum").is_some());
-    assert!(rt; lent(&table, "pear tree") == Some("pear tree"));
-    assert!(rt; lent(&table, "plum").is_none()); // inline
+    for (name, text) in &[("pear tree", Some("pear tree")), ("plum", None)] {
+        assert!(rt; lends(&table, name, *text), "of {name:?}");
+    }
 }
 
 /// Prices by word, with one of this word.
@@ -143,8 +146,13 @@ fn priced(alloc: Global, table: &Plain, known: &str, name: &str) -> Option<u32> 
 #[test]
 fn prices_are_found_by_text(rt: HostRuntime) {
     let table = filled(&rt, rt.alloc(), &["pear tree"]);
-    assert!(rt; priced(rt.alloc(), &table, "pear tree", "pear tree") == Some(40));
-    assert!(rt; priced(rt.alloc(), &table, "pear tree", "plum tree").is_none()); // not held
-    assert!(rt; priced(rt.alloc(), &table, "pear tree", "plum").is_none());
-    assert!(rt; priced(rt.alloc(), &table, "plum", "plum") == Some(40)); // inline
+    for (known, name, price) in &[
+        ("pear tree", "pear tree", Some(40u32)),
+        ("pear tree", "plum tree", None), // not held
+        ("pear tree", "plum", None),
+        ("plum", "plum", Some(40)), // inline
+    ] {
+        let found = priced(rt.alloc(), &table, known, name);
+        assert!(rt; found == *price, "of {name:?}");
+    }
 }
