@@ -120,6 +120,22 @@ fn print_end<R: Wait + Print>(rt: &R, set: &Set<EmptyStaticAtomSet>) -> Result<(
     Ok(())
 }
 
+/// The limits that the first two arguments ask for.
+fn limits_of(holders: &str, serials: &str) -> Result<Limits> {
+    let Some(limits) = Limits::new(holders.parse::<u64>()?, serials.parse::<u64>()?) else {
+        bail!("no set has these limits");
+    };
+    Ok(limits)
+}
+
+/// The number of buckets that the third argument asks for.
+fn buckets_of(bits: &str) -> Result<Buckets> {
+    let Some(buckets) = Buckets::new(bits.parse::<u8>()?) else {
+        bail!("no set has this many buckets");
+    };
+    Ok(buckets)
+}
+
 /// The set that the first three arguments ask for.
 fn set_of(
     rt: &impl AllocGlobal,
@@ -127,14 +143,9 @@ fn set_of(
     serials: &str,
     bits: &str,
 ) -> Result<Set<EmptyStaticAtomSet>> {
-    let Some(limits) = Limits::new(holders.parse::<u64>()?, serials.parse::<u64>()?) else {
-        bail!("no set has these limits");
-    };
-    let Some(buckets) = Buckets::new(bits.parse::<u8>()?) else {
-        bail!("no set has this many buckets");
-    };
-    let set = Set::with_buckets(rt.alloc(), limits, buckets)?;
-    Ok(set)
+    let limits = limits_of(holders, serials)?;
+    let buckets = buckets_of(bits)?;
+    Ok(Set::with_buckets(rt.alloc(), limits, buckets)?)
 }
 
 fn main(rt: HostRuntime) -> Result<()> {
