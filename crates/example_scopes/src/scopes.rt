@@ -2,7 +2,8 @@
 
 use crate::letters::is_keyword;
 use indexmap::IndexMap;
-use std::alloc::Global;
+use std::alloc::{AllocError, Global};
+use std::fmt;
 use std::fmt::Write;
 use string_cache_core::static_sets::EmptyStaticAtomSet;
 use string_cache_core::table::Table;
@@ -23,6 +24,17 @@ struct Scope {
     line: u64,
     /// By their words, each of which the table holds once.
     names: IndexMap<u64, Usage>,
+}
+
+impl Scope {
+    /// Counts a name once more. `false` where this block doesn't have it.
+    fn count(&mut self, word: u64) -> bool {
+        let Some(usage) = self.names.get_mut(&word) else {
+            return false;
+        };
+        usage.times = usage.times.saturating_add(1);
+        true
+    }
 }
 
 /// The blocks that are open, and what is told of those that ended.
@@ -48,7 +60,7 @@ impl Scopes {
     }
 
     /// A block begins in this line.
-    pub fn open(&mut self, line: u64) -> Result<(), anyhow::Error> {
+    pub fn open(&mut self, line: u64) -> Result<(), AllocError> {
         let names = IndexMap::new(self.alloc);
         self.open.push(Scope { line, names })?;
         Ok(())
@@ -74,8 +86,7 @@ impl Scopes {
     /// Counts a name once more, in the innermost block that has it. `false` where none has.
     fn count(&mut self, word: u64) -> bool {
         for scope in self.open.iter_mut().rev() {
-            if let Some(usage) = scope.names.get_mut(&word) {
-                usage.times = usage.times.saturating_add(1);
+            if scope.count(word) {
                 return true;
             }
         }
@@ -92,26 +103,43 @@ impl Scopes {
 
     /// The text ends in this line, and so does each block that is still open. What is told of all.
     pub fn end(mut self, line: u64) -> Result<String, anyhow::Error> {
-        for _ in 0..self.open.len() {
-            self.end_last(line)?;
-        }
+        self.end_all(line)?;
         Ok(self.lines)
     }
 
+    /// Tells of the names of each block, the innermost first, and gives them up.
+    fn end_all(&mut self, line: u64) -> fmt::Result {
+        for _ in 0..self.open.len() {
+            self.end_last(line)?;
+        }
+        Ok(())
+    }
+
     /// Tells of the names of the innermost block, and gives them up.
-    fn end_last(&mut self, line: u64) -> Result<(), anyhow::Error> {
-        let Some(scope) = self.open.pop() else {
-            return Ok(());
-        };
+    fn end_last(&mut self, line: u64) -> fmt::Result {
+        match self.open.pop() {
+            Some(scope) => self.tell(&scope, line),
+            None => Ok(()),
+        }
+    }
+
+    /// Tells of the names of a block that ends in this line, and gives them up.
+    fn tell(&mut self, scope: &Scope, line: u64) -> fmt::Result {
         if !scope.names.is_empty() {
             writeln!(self.lines, "lines {} to {line}", scope.line)?;
         }
         for (word, usage) in scope.names.iter() {
-            if let Some(name) = self.table.text_of(*word) {
-                writeln!(self.lines, "  {name} {} {}", usage.line, usage.times)?;
-            }
-            self.table.release(*word);
+            self.tell_name(*word, usage)?;
         }
+        Ok(())
+    }
+
+    /// Tells of a name, and gives it up.
+    fn tell_name(&mut self, word: u64, usage: &Usage) -> fmt::Result {
+        if let Some(name) = self.table.text_of(word) {
+            writeln!(self.lines, "  {name} {} {}", usage.line, usage.times)?;
+        }
+        self.table.release(word);
         Ok(())
     }
 }
