@@ -1,5 +1,5 @@
 -- Of two atoms of one set, one word is one text, whatever forms they have.
-use Rattle.std.proofs.Common.{◌≡◌, ◌≢◌, ◌↔◌, ℕ, ◌+◌, ◌*◌, ◌%◌, ◌<◌, ◌≤◌, List, length, Bool, false, IsTrue, nat_eq, nat_lt, refl, ap, sym, ◌∙◌, arith}
+use Rattle.std.proofs.Common.{◌≡◌, ◌≢◌, ◌↔◌, ℕ, ◌%◌, List, length, Bool, false, IsTrue, nat_eq, nat_lt, refl, ap, sym, ◌∙◌, arith}
 use Rattle.std.proofs.lemmas.Bool.Decides.{nat_tests, same_from_decides}
 use Rattle.std.proofs.lemmas.Slice.Eq.{bytes_eq-Decides}
 use Rattle.std.specs.Cmp.Lexicographic.{pointwise}
@@ -8,8 +8,7 @@ use Rattle.text_forms.specs.declared.static_sets.TextForm.TheVariants as form
 use Rattle.text_forms.specs.Tables.{Tables, bucket_of, entry_hash, form_of_text, text_at, IsStaticIndex}
 use Rattle.text_forms.specs.Word.{IsInlineText, inline_word, static_word, ticket_of}
 use Rattle.text_forms.proofs.words.Unpacking.{inline_word_same, inline_word_tag}
-use Rattle.named_set.specs.Words.{AreOneToOne, HeldWord, IsTicketOf}
-use Rattle.named_atoms.specs.NamedAtomValue.{NamedAtomValue}
+use Rattle.named_set.specs.Words.{AreOneToOne, HeldWord}
 use Rattle.named_atoms.specs.NamedForm.{IsOwnForm, value_of_form}
 use Rattle.named_atoms.specs.declared.atom.Repr.{Repr}
 use Rattle.named_atoms.specs.declared.atom.Repr.TheVariants.{Inline, Static, Dynamic}

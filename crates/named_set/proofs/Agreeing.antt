@@ -3,7 +3,6 @@ use Rattle.std.proofs.Common.{◌≡◌, ◌≢◌, ◌↔◌, ℕ, ◌+◌, ◌
 use Rattle.std.specs.List.{AllByRecursion}
 use mathlib.Core.List.{IsPrefix}
 use Rattle.text_forms.specs.Tables.{Tables, bucket_of}
-use Rattle.text_forms.specs.Word.{ticket_of}
 use Rattle.text_forms.proofs.words.Tickets.{ticket_of-same}
 use Rattle.counted_cell.specs.Counting.{CellName}
 use Rattle.counted_cell.specs.Cell.{Cell}

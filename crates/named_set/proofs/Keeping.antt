@@ -1,8 +1,7 @@
 -- What is under the lock keeps what it states.
-use Rattle.std.proofs.Common.{◌≡◌, ◌≢◌, ◌⊎◌, inl, inr, ℕ, zero, suc, ◌+◌, ◌<◌, ◌≤◌, List, [], ◌∷◌, ◌++◌, length, slice_index_or, remove, Some, None, slice_get, refl, ap, sym, ◌∙◌, subst, arith}
-use Rattle.std.proofs.lemmas.Option.{slice_get_within}
+use Rattle.std.proofs.Common.{◌≡◌, ◌≢◌, ◌⊎◌, inl, inr, ℕ, zero, suc, ◌+◌, ◌<◌, List, [], ◌∷◌, ◌++◌, length, slice_index_or, remove, Some, slice_get, refl, ap, sym, ◌∙◌, subst, arith}
 use Rattle.std.specs.List.{AllByRecursion}
-use Rattle.text_forms.specs.Tables.{Tables, bucket_of, entry_hash}
+use Rattle.text_forms.specs.Tables.{Tables, bucket_of}
 use Rattle.text_forms.specs.Word.{IsTicket, ticket_of}
 use Rattle.counted_cell.specs.Counting.{CellName}
 use Rattle.counted_cell.specs.Cell.{Cell}
