@@ -233,6 +233,9 @@ fn atoms_tell_what_they_are(rt: HostRuntime) {
     assert!(rt; size_of::<NamedAtom<'_, One, Brand>>() == 32);
 }
 
+/// A map by words.
+type Places<'s, N> = HashMap<ByWord<'s, One, N>, u32>;
+
 /// The key of a text.
 fn key_of<'s, N: SetName, R: Wait>(
     rt: &R,
@@ -242,18 +245,55 @@ fn key_of<'s, N: SetName, R: Wait>(
     Ok(ByWord::new(NamedAtom::from_str_in(rt, set, text)?))
 }
 
-/// Whether a map by words has what was put under texts of each form.
+/// Puts a place under the word of a text.
+fn put<'s, N: SetName, R: Wait>(
+    rt: &R,
+    set: &'s Named<N>,
+    places: &mut Places<'s, N>,
+    text: &str,
+    place: u32,
+) -> Result<(), Fault> {
+    places.insert(key_of(rt, set, text)?, place)?;
+    Ok(())
+}
+
+/// The place under the word of a text.
+fn place_of<'s, N: SetName, R: Wait>(
+    rt: &R,
+    set: &'s Named<N>,
+    places: &Places<'s, N>,
+    text: &str,
+) -> Result<Option<u32>, Fault> {
+    let key = key_of(rt, set, text)?;
+    Ok(places.get(&key).copied())
+}
+
+/// Puts places under the words of two texts, and asks for them and for a third.
+fn are_put<'s, N: SetName, R: Wait>(
+    rt: &R,
+    set: &'s Named<N>,
+    places: &mut Places<'s, N>,
+) -> Result<bool, Fault> {
+    put(rt, set, places, "sentence", 1)?;
+    put(rt, set, places, "tokenised", 2)?;
+    Ok(
+        place_of(rt, set, places, "sentence")? == Some(1)
+            && place_of(rt, set, places, "tokenised")? == Some(2)
+            && place_of(rt, set, places, "interned")? == None,
+    )
+}
+
+/// Whether a map by words has what was put there.
 fn are_keys<N: SetName, R: Wait>(rt: &R, set: &Named<N>) -> Result<bool, Fault> {
     let mut places = HashMap::new(set.allocator());
-    let mut place = 0u32;
-    for text in &TEXTS {
-        places.insert(key_of(rt, set, text)?, place)?;
-        place = place.wrapping_add(1);
-    }
-    let key = key_of(rt, set, "tokenised")?;
-    let other = key_of(rt, set, "interned")?;
-    let found = places.get(&key).copied() == Some(3);
-    Ok(found && places.get(&other).is_none() && is_of(key.atom(), "tokenised"))
+    are_put(rt, set, &mut places)
+}
+
+/// Whether a key has the atom that it was made of.
+fn is_key<N: SetName, R: Wait>(rt: &R, set: &Named<N>, text: &str) -> Result<bool, Fault> {
+    let key = key_of(rt, set, text)?;
+    let has = is_of(key.atom(), text);
+    Ok(has && is_of(&key.into_atom(), text))
 }
 
 /// What a look at a set's cells tells of one text: how often it was seen, and with how many holders.
@@ -276,43 +316,39 @@ fn memory_of<N: SetName, R: Wait>(rt: &R, set: &Named<N>, text: &str) -> Result<
     Ok(set.memory(rt).saturating_sub(before))
 }
 
-/// An atom that goes while a look holds the lock leaves its cell linked, and a sweep takes it out.
+/// An atom that goes while a look holds the lock leaves its cell linked without a holder, and a sweep takes it out.
 fn is_swept<N: SetName, R: Wait>(rt: &R, set: &Named<N>) -> Result<bool, Fault> {
     let mut last = Some(NamedAtom::from_str_in(rt, set, "tokenised")?);
     set.for_each(rt, |_, _| last = None);
-    let linked = set.linked(rt);
+    let seen = seen_of(rt, set, "tokenised");
     set.sweep(rt);
-    Ok(linked == 1 && set.linked(rt) == 0)
+    Ok(seen == (1, 0) && set.linked(rt) == 0)
 }
 
-fn looks_at<N: SetName, R: Wait + Abort>(
-    rt: &R,
-    alloc: Global,
-    set: &Named<N>,
-) -> Result<bool, Fault> {
-    let key = key_of(rt, set, "tokenised")?;
-    assert!(rt; are_keys(rt, set)?);
-    assert!(rt; set.linked(rt) == 1 && is_of(&key.into_atom(), "tokenised"));
+/// A text with two holders is seen once.
+fn is_seen<N: SetName, R: Wait>(rt: &R, set: &Named<N>, text: &str) -> Result<bool, Fault> {
+    let atom = NamedAtom::from_str_in(rt, set, text)?;
+    let _other = NamedAtom::from_atom(rt, &atom)?;
+    Ok(seen_of(rt, set, text) == (1, 2))
+}
+
+/// The bytes of a long text's cell, and places for cells.
+fn is_counted<N: SetName, R: Wait>(rt: &R, set: &Named<N>, alloc: Global) -> Result<bool, Fault> {
     let long = long_text(alloc)?;
     let bytes = memory_of(rt, set, long.as_str())?;
-    assert!(rt; bytes >= 315_040 && bytes < 316_000, "not {bytes}");
-    Ok(true)
-}
-
-fn looks_again<N: SetName, R: Wait + Abort>(rt: &R, set: &Named<N>) -> Result<bool, Fault> {
-    let atom = NamedAtom::from_str_in(rt, set, "interned")?;
-    let _other = NamedAtom::from_atom(rt, &atom)?;
-    assert!(rt; seen_of(rt, set, "interned") == (1, 2));
-    Ok(set.limits().holders() == Limits::greatest().holders())
+    Ok(bytes >= 315_040 && bytes < 316_000)
 }
 
 fn looks<N: SetName, R: Wait + Abort>(rt: &R, alloc: Global, name: FreshName) -> Result<bool, Fault>
     requires { N.logs ≡ name.logs }
 {
     let set = NamedSet::new(alloc, name, Limits::greatest())?;
-    assert!(rt; looks_at::<N, R>(rt, alloc, &set)?);
-    assert!(rt; looks_again::<N, R>(rt, &set)?);
+    assert!(rt; is_key::<N, R>(rt, &set, "tokenised")?);
+    assert!(rt; are_keys::<N, R>(rt, &set)?);
+    assert!(rt; is_seen::<N, R>(rt, &set, "interned")?);
+    assert!(rt; is_counted::<N, R>(rt, &set, alloc)?);
     assert!(rt; set.linked(rt) == 0);
+    assert!(rt; set.limits().holders() == Limits::greatest().holders());
     is_swept::<N, R>(rt, &set)
 }
 
