@@ -1,9 +1,8 @@
--- Of two cells that are held, one ticket is one text.
+-- Of two cells that are held, one ticket is one text. The ticket is one of the text's bucket.
 use Rattle.std.proofs.Common.{◌≡◌, ◌≢◌, ◌↔◌, ℕ, ◌+◌, ◌<◌, List, length, slice_index_or, Some, slice_get, ap, sym, ◌∙◌, arith}
 use Rattle.std.specs.List.{AllByRecursion}
 use mathlib.Core.List.{IsPrefix}
 use Rattle.text_forms.specs.Tables.{Tables, bucket_of}
-use Rattle.text_forms.specs.Word.{ticket_of}
 use Rattle.text_forms.proofs.words.Tickets.{ticket_of-same}
 use Rattle.counted_cell.specs.Counting.{CellName}
 use Rattle.counted_cell.specs.Cell.{Cell}
@@ -11,6 +10,7 @@ use Rattle.counted_cell.specs.CellLog.{Entry}
 use Rattle.counted_cell.specs.CellEntry.{entry_of}
 use Rattle.counted_cell.specs.declared.cell_log.LogSeen.{LogSeen}
 use Rattle.named_set.specs.Logged.{IsLogged, IsSeen}
+use Rattle.named_set.specs.Words.{IsTicketOf}
 use Rattle.named_set.proofs.Rows.{prefix_get, prefix_back}
 
 -- the later of two cells with one text shows that the earlier is gone
@@ -18,6 +18,12 @@ not_before : (number : ℕ) (all xs ys : List Entry) (gone : List CellName) (c d
     → AllByRecursion (λ t. t ≢ c.name) gone → c.text ≡ d.text → place < l.place → ⊥
 not_before number all xs ys gone c d place l p q at lives same lt =
     l.alone place (entry_of c) lt (prefix_back ys all l.place place (entry_of d) (entry_of c) q l.stands lt (prefix_get xs all place (entry_of c) p at)) same lives
+
+-- what was seen of a cell's log shows which ticket it has
+pub ticket_seen : (t : Tables) (logs : List ℕ) (s : LogSeen) (c : Cell) (text : List ℕ) (word : ℕ) → IsSeen t logs s c → text ≡ c.text → word ≡ c.label.ticket → IsTicketOf t (length logs) text word
+ticket_seen t logs s c text word l same is =
+    let own : IsTicketOf t (length logs) c.text c.label.ticket = record { serial = l.logged.place + 1; given = l.logged.given; is = l.logged.ticket } in
+    rw (same, is) own
 
 pub words_agree : (t : Tables) (logs : List ℕ) (s u : LogSeen) (c d : Cell) → IsSeen t logs s c → IsSeen t logs u d → (u.name ≡ s.name → (all : List Entry) × IsPrefix s.entries all × IsPrefix u.entries all)
     → AllByRecursion (λ v. v ≢ c.name) u.gone → AllByRecursion (λ v. v ≢ d.name) s.gone → (c.label.ticket ≡ d.label.ticket) ↔ (c.text ≡ d.text)

@@ -1,8 +1,7 @@
 -- What is under the lock keeps what it states.
-use Rattle.std.proofs.Common.{◌≡◌, ◌≢◌, ◌⊎◌, inl, inr, ℕ, zero, suc, ◌+◌, ◌<◌, ◌≤◌, List, [], ◌∷◌, ◌++◌, length, slice_index_or, remove, Some, None, slice_get, refl, ap, sym, ◌∙◌, subst, arith}
-use Rattle.std.proofs.lemmas.Option.{slice_get_within}
+use Rattle.std.proofs.Common.{◌≡◌, ◌≢◌, ◌⊎◌, inl, inr, ℕ, zero, suc, ◌+◌, ◌<◌, List, [], ◌∷◌, ◌++◌, length, slice_index_or, remove, Some, slice_get, refl, ap, sym, ◌∙◌, subst, arith}
 use Rattle.std.specs.List.{AllByRecursion}
-use Rattle.text_forms.specs.Tables.{Tables, bucket_of, entry_hash}
+use Rattle.text_forms.specs.Tables.{Tables, bucket_of}
 use Rattle.text_forms.specs.Word.{IsTicket, ticket_of}
 use Rattle.counted_cell.specs.Counting.{CellName}
 use Rattle.counted_cell.specs.Cell.{Cell}
@@ -127,8 +126,10 @@ kept_with number linked es gone c text kept none is given ticket = record {
 pub seen_at : (t : Tables) (logs : List ℕ) (number : ℕ) (linked : List Cell) (es : List Entry) (gone : List CellName) (s : LogSeen) (k : ℕ) (c : Cell) → IsKept number linked es gone → AllByRecursion (IsOf t (length logs) number) linked
     → slice_get linked k ≡ Some c → s.name ≡ slice_index_or logs number 0 → s.entries ≡ es → s.gone ≡ gone → IsSeen t logs s c
 seen_at t logs number linked es gone s k c kept of at named e g =
-    let one : bucket_of t (length logs) c.text ≡ number = (each_at (IsOf t (length logs) number) linked k c of at).bucket in
+    let own = each_at (IsOf t (length logs) number) linked k c of at in
+    let one : bucket_of t (length logs) c.text ≡ number = own.bucket in
     record {
+      hash = own.hash;
       named = named ∙ ap (λ n. slice_index_or logs n 0) (sym one);
       logged = rw (one, e, g) (each_at (IsLogged number es gone) linked k c kept.logged at);
     }

@@ -46,8 +46,9 @@ pub record IsOf (t : Tables) (buckets : ℕ) (number : ℕ) (c : Cell) : Type 0 
   pub hash : c.label.hash ≡ entry_hash t c.text
   pub bucket : bucket_of t buckets c.text ≡ number
 
--- what a held word has: something that was seen of the log of its text's bucket, in which its cell stands
+-- what a held word has: the hash of its text, and something that was seen of the log of its text's bucket, in which its cell stands
 pub record IsSeen (t : Tables) (logs : List ℕ) (s : LogSeen) (c : Cell) : Type 0 where
+  pub hash : c.label.hash ≡ entry_hash t c.text
   pub named : s.name ≡ slice_index_or logs (bucket_of t (length logs) c.text) 0
   pub logged : IsLogged (bucket_of t (length logs) c.text) s.entries s.gone c
 

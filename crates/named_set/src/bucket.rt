@@ -13,6 +13,7 @@ use crate::name::SetName;
 use counted_cell::{CellLog, CellShare, Label, LogSeen, NoShares, Owner, ShareReply};
 use std::alloc::Global;
 use std::marker::{Model, PhantomData};
+use std::mem::size_of;
 use std::sync::Wait;
 use text_forms::Fault;
 use text_forms::static_sets::StaticTables;
@@ -140,6 +141,27 @@ impl<Static: StaticTables, N: SetName> Bucket<Static, N> {
                 self.take_out(at, none);
             }
         }
+    }
+
+    /// Calls `visit` once for each cell that is linked, in the order in which they were, with its text and the number of its shares as one
+    /// look at its count reads it.
+    pub(crate) fn for_each<F: FnMut(&str, u64)>(&self, visit: &mut F)
+        requires { F.IsAlwaysCallable visit.old }
+        ensures { F.IsAlwaysCallable visit.new }
+    {
+        for owner in &self.owners {
+            visit(owner.text(), owner.count().shares());
+        }
+    }
+
+    /// How many bytes it has asked for and still holds: its places for cells, and the cells with their texts.
+    pub(crate) fn memory(&self) -> u128 {
+        let place = size_of::<Owner<Global>>() as u128;
+        let mut sum = place.saturating_mul(self.owners.capacity() as u128);
+        for owner in &self.owners {
+            sum = sum.saturating_add(owner.block_size() as u128);
+        }
+        sum
     }
 
     // What its log is now.

@@ -3,10 +3,11 @@
 ghost use Rattle.std.proofs.Common.{rules};
 ghost use Rattle.std.specs.Cmp.Rules.{comparing, hashing};
 ghost use Rattle.std.specs.Hash as fed;
-ghost use Rattle.std.specs.Prelude.{◌≡◌, ◌↔◌, ◌==◌, IfErr, IfOk, IsTrue};
+ghost use Rattle.std.specs.Prelude.{◌≡◌, ◌↔◌, ◌==◌, length, IfErr, IfOk, IsTrue};
+ghost use Rattle.text_forms.specs.Tables.{entry_hash};
 ghost use Rattle.text_forms.specs.declared.faults.Fault.TheVariants.{FullCount};
 ghost use Rattle.named_set.specs.Logged.{IsSeen};
-ghost use Rattle.named_set.specs.Words.{AreOneToOne};
+ghost use Rattle.named_set.specs.Words.{AreOneToOne, IsTicketOf};
 
 use crate::name::SetName;
 use crate::set::NamedSet;
@@ -50,13 +51,15 @@ impl<'s, Static: StaticTables, N: SetName> Drop for Held<'s, Static, N> {
 }
 
 impl<'s, Static: StaticTables, N: SetName> Held<'s, Static, N> {
+    #[tactic(auto, using(crate::proofs::Agreeing::ticket_seen))]
     pub(crate) fn new(
         share: CellShare,
         seen: LogSeen,
         set: &'s NamedSet<Static, N>,
     ) -> Held<'s, Static, N>
         requires { IsSeen Static.tables N.logs seen share.cell }
-        ensures { result.text ≡ share.cell.text }
+        ensures text { result.text ≡ share.cell.text }
+        ensures ticket { IsTicketOf Static.tables (length N.logs) result.text result.word }
     {
         Held {
             word: share.label().ticket,
@@ -80,9 +83,12 @@ impl<'s, Static: StaticTables, N: SetName> Held<'s, Static, N> {
         set.give_back(share)
     }
 
-    /// The word: a number that no other text's word has while both are held.
+    /// The word: a ticket of the text's bucket, and a number that no other text's word has while both are held.
+    #[inline]
+    #[tactic(auto, using(crate::proofs::Agreeing::ticket_seen))]
     pub fn word(&self) -> u64
-        ensures { result ≡ self.now.word }
+        ensures word { result ≡ self.now.word }
+        ensures ticket { IsTicketOf Static.tables (length N.logs) self.now.text result }
     {
         self.word
     }
@@ -92,6 +98,13 @@ impl<'s, Static: StaticTables, N: SetName> Held<'s, Static, N> {
         ensures { result.now ≡ self.now.text }
     {
         self.share.text()
+    }
+
+    /// The hash of the text, which lies in its cell.
+    pub fn text_hash(&self) -> u64
+        ensures { result ≡ entry_hash Static.tables self.now.text }
+    {
+        self.share.label().hash
     }
 
     /// One more that holds the same word. It is refused for `FullCount` alone, where there are as many as there may be.
@@ -113,7 +126,7 @@ impl<'s, Static: StaticTables, N: SetName> Held<'s, Static, N> {
     /// A law: two that are held have one word exactly if they have one text. It does nothing when it runs.
     #[tactic(auto, using(crate::proofs::Agreeing::words_agree))]
     pub fn agree<'t>(&self, other: &Held<'t, Static, N>)
-        ensures { AreOneToOne self.now other.now }
+        ensures { AreOneToOne self.now.word other.now.word self.now.text other.now.text }
     {
         self.seen.meet(&other.seen);
         self.share.outlives(&other.seen);
@@ -123,7 +136,8 @@ impl<'s, Static: StaticTables, N: SetName> Held<'s, Static, N> {
     /// Whether the texts are the same, by one comparison of two numbers, which reads no text.
     #[inline]
     pub fn same<'t>(&self, other: &Held<'t, Static, N>) -> bool
-        ensures { IsTrue result ↔ (self.now.text ≡ other.now.text) }
+        ensures word { result ≡ (self.now.word == other.now.word) }
+        ensures text { IsTrue result ↔ (self.now.text ≡ other.now.text) }
     {
         self.agree(other);
         self.word == other.word
@@ -141,8 +155,7 @@ impl<'s, Static: StaticTables, N: SetName> PartialEq for Held<'s, Static, N> {
         ensures word { result ≡ (self.now.word == other.now.word) }
         ensures text { IsTrue result ↔ (self.now.text ≡ other.now.text) }
     {
-        self.agree(other);
-        self.word == other.word
+        self.same(other)
     }
 }
 

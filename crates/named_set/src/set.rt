@@ -1,8 +1,10 @@
 //! The set: buckets behind locks.
 
-ghost use Rattle.std.specs.Prelude.{◌≡◌, IfErr, IfOk, IfSome};
+ghost use Rattle.std.specs.Prelude.{◌≡◌, length, IfErr, IfOk, IfSome};
 ghost use Rattle.text_forms.specs.Faults.{IsInternFault};
+ghost use Rattle.text_forms.specs.Tables.{entry_hash};
 ghost use Rattle.text_forms.specs.declared.faults.Fault.TheVariants.{FullCount, Memory};
+ghost use Rattle.named_set.specs.Words.{IsTicketOf};
 
 use crate::bucket::Bucket;
 use crate::held::Held;
@@ -10,6 +12,7 @@ use crate::name::{FreshName, SetName};
 use counted_cell::{CellShare, Receipt};
 use std::alloc::Global;
 use std::marker::Model;
+use std::mem::size_of;
 use std::sync::{Mutex, Wait};
 use text_forms::Fault;
 use text_forms::static_sets::StaticTables;
@@ -22,6 +25,7 @@ pub struct NamedSet<Static: StaticTables, N: SetName> {
     buckets: Vec<Mutex<Bucket<Static, N>>>,
     count: Buckets,
     limits: Limits,
+    alloc: Global,
 }
 
 impl<Static: StaticTables, N: SetName> Model for NamedSet<Static, N> {
@@ -54,7 +58,20 @@ impl<Static: StaticTables, N: SetName> NamedSet<Static, N> {
             buckets,
             count,
             limits,
+            alloc,
         })
+    }
+
+    /// The limits of its words' holders and of its buckets' serials.
+    pub fn limits(&self) -> Limits
+        ensures { result ≡ self.now.limits }
+    {
+        self.limits
+    }
+
+    /// What the set takes its memory from.
+    pub fn allocator(&self) -> Global {
+        self.alloc
     }
 
     /// A held word of the text.
@@ -67,6 +84,22 @@ impl<Static: StaticTables, N: SetName> NamedSet<Static, N> {
         ensures refused { IfErr result IsInternFault }
     {
         let (_, hash) = Static::look_up(text);
+        self.intern_hashed(rt, text, hash)
+    }
+
+    /// `intern` of a text with this hash. Atoms ask for it.
+    #[doc(hidden)]
+    pub fn intern_hashed<'s, R: Wait>(
+        &'s self,
+        rt: &R,
+        text: &str,
+        hash: u64,
+    ) -> Result<Held<'s, Static, N>, Fault>
+        requires { hash ≡ entry_hash Static.tables text.now }
+        ensures text { IfOk result (λ held. held.text ≡ text.now) }
+        ensures ticket { IfOk result (λ held. IsTicketOf Static.tables (length N.logs) held.text held.word) }
+        ensures refused { IfErr result IsInternFault }
+    {
         let number = self.count.bucket_of(hash);
         let mut bucket = self.buckets[usize::from(number)].lock(rt);
         if bucket.number() != number {
@@ -86,6 +119,22 @@ impl<Static: StaticTables, N: SetName> NamedSet<Static, N> {
         ensures refused { IfErr result (λ fault. fault ≡ FullCount) }
     {
         let (_, hash) = Static::look_up(text);
+        self.find_hashed(rt, text, hash)
+    }
+
+    /// `find` of a text with this hash. Atoms ask for it.
+    #[doc(hidden)]
+    pub fn find_hashed<'s, R: Wait>(
+        &'s self,
+        rt: &R,
+        text: &str,
+        hash: u64,
+    ) -> Result<Option<Held<'s, Static, N>>, Fault>
+        requires { hash ≡ entry_hash Static.tables text.now }
+        ensures text { IfOk result (λ found. IfSome found (λ held. held.text ≡ text.now)) }
+        ensures ticket { IfOk result (λ found. IfSome found (λ held. IsTicketOf Static.tables (length N.logs) held.text held.word)) }
+        ensures refused { IfErr result (λ fault. fault ≡ FullCount) }
+    {
         let number = self.count.bucket_of(hash);
         let mut bucket = self.buckets[usize::from(number)].lock(rt);
         if bucket.number() != number {
@@ -95,6 +144,40 @@ impl<Static: StaticTables, N: SetName> NamedSet<Static, N> {
             Some((share, seen)) => Ok(Some(Held::new(share, seen, self))),
             None => Ok(None),
         }
+    }
+
+    /// Takes each bucket once, from the first to the last: cells without shares go.
+    pub fn sweep<R: Wait>(&self, rt: &R) {
+        for bucket in &self.buckets {
+            bucket.lock(rt).prune();
+        }
+    }
+
+    /// Calls `visit` once for each cell that is linked, with its text and the number of its shares as one look at its count reads it: bucket
+    /// by bucket, from the first to the last, each under its lock, and in a bucket in the order in which they were linked.
+    ///
+    /// A cell that nobody holds any more may still be linked: its number is 0. Beside other threads, which may link and unlink between one
+    /// bucket and the next, and count up and down at any time, nothing is said of what is visited. A `visit` that waits for the lock of the
+    /// bucket, as one that interns a text may, waits for ever; it may clone and drop held words.
+    pub fn for_each<R: Wait, F: FnMut(&str, u64)>(&self, rt: &R, mut visit: F)
+        requires { F.IsAlwaysCallable visit }
+    {
+        for bucket in &self.buckets {
+            bucket.lock(rt).for_each(&mut visit);
+        }
+    }
+
+    /// How many bytes the set has asked for and still holds: its buckets with their locks, their places for cells, and the cells that are
+    /// linked, with their texts. Each bucket is read under its lock.
+    ///
+    /// The set itself, which lies where its owner has it, isn't counted. Beside other threads, nothing is said of the sum.
+    pub fn memory<R: Wait>(&self, rt: &R) -> u128 {
+        let bucket_size = size_of::<Mutex<Bucket<Static, N>>>() as u128;
+        let mut sum = bucket_size.saturating_mul(self.buckets.capacity() as u128);
+        for bucket in &self.buckets {
+            sum = sum.saturating_add(bucket.lock(rt).memory());
+        }
+        sum
     }
 
     /// How many cells are linked: the sum over the buckets, each read under its lock. Beside other threads nothing is said of it.

@@ -9,7 +9,6 @@ use Rattle.std.proofs.lemmas.Str.Ascii.{IsAscii-cons, IsAscii-nil, lowercase-low
 use Rattle.std.specs.Char.{IsScalar, encode_utf8, to_ascii_lowercase, to_ascii_uppercase}
 use Rattle.std.specs.Str.{IsUtf8, all_scalars, encode_utf8_all}
 use Rattle.text_forms.specs.declared.faults.Fault.{Fault}
-use Rattle.string_cache.specs.AtomValue.{AtomValue}
 use Rattle.string_cache.specs.Case.{in_case}
 use Rattle.string_cache.specs.declared.atom.case.Case.{Case}
 use Rattle.string_cache.specs.declared.atom.case.Case.TheVariants.{Upper, Lower}
@@ -51,6 +50,8 @@ in_case_twice : (to : Case) (text : List ℕ) → in_case to (in_case to text) �
 in_case_twice Upper text = map_twice to_ascii_uppercase uppercase-uppercase text
 in_case_twice Lower text = map_twice to_ascii_lowercase lowercase-lowercase text
 
-pub again_where_ok : (to : Case) (text : List ℕ) (r : Result AtomValue Fault) → IfOk r (λ atom. atom.text ≡ in_case to text) → IfOk r (λ atom. in_case to atom.text ≡ atom.text)
-again_where_ok to text (Ok atom) is = subst (λ found. in_case to found ≡ found) (sym is) (in_case_twice to text)
-again_where_ok to text (Err fault) is = tt
+-- what has its text in a case has it so again
+pub again_where_ok : {A : Type 0} (text_of : A → List ℕ) (to : Case) (text : List ℕ) (r : Result A Fault) → IfOk r (λ atom. text_of atom ≡ in_case to text)
+    → IfOk r (λ atom. in_case to (text_of atom) ≡ text_of atom)
+again_where_ok text_of to text (Ok atom) is = subst (λ found. in_case to found ≡ found) (sym is) (in_case_twice to text)
+again_where_ok text_of to text (Err fault) is = tt

@@ -16,7 +16,8 @@ ghost use Rattle.string_cache.specs.AtomForm.{IsOwnForm, value_of_form};
 ghost use Rattle.string_cache.specs.AtomValue.{IsWordOf};
 ghost use Rattle.string_cache.specs.Packed.{IsPackable};
 
-mod case;
+#[doc(hidden)]
+pub mod case;
 mod compare;
 mod list;
 

@@ -14,6 +14,8 @@ mod lent;
 #[cfg(test)]
 mod lists;
 #[cfg(test)]
+mod named;
+#[cfg(test)]
 mod packed;
 #[cfg(test)]
 mod printed;

@@ -1,4 +1,4 @@
-//! Atoms in another case.
+//! Atoms in another case, and what changes a text's letters, for other kinds of atoms too.
 
 ghost use Rattle.std.specs.Prelude.{◌≡◌, ◌↔◌, IfErr, IfOk, IsTrue, length, string_bytes};
 ghost use Rattle.std.specs.Str.{IsUtf8, str_to_ascii_lowercase, str_to_ascii_uppercase};
@@ -12,12 +12,14 @@ use text_forms::Fault;
 use text_forms::static_sets::StaticTables;
 
 /// The most bytes of a text that is changed without memory.
-const BUFFER: usize = 64;
+pub const BUFFER: usize = 64;
 
 /// A case of the letters a to z and A to Z.
 #[derive(Clone, Copy)]
-enum Case {
+pub enum Case {
+    /// A to Z.
     Upper,
+    /// a to z.
     Lower,
 }
 
@@ -25,7 +27,7 @@ impl Case {
     ghost use Rattle.string_cache.specs.Case.{in_case};
 
     /// Whether all letters of the text are in this case.
-    fn has(self, text: &str) -> bool
+    pub fn has(self, text: &str) -> bool
         ensures { IsTrue result ↔ (in_case self text.now ≡ text.now) }
     {
         match self {
@@ -45,7 +47,7 @@ impl Case {
     }
 
     /// Writes the text in this case into as many bytes.
-    fn write(self, text: &str, bytes: &mut [u8])
+    pub fn write(self, text: &str, bytes: &mut [u8])
         requires { length bytes.old ≡ length text.now }
         ensures bytes { bytes.new ≡ in_case self text.now }
         ensures utf8 { IsUtf8 bytes.new }
@@ -55,7 +57,7 @@ impl Case {
     }
 
     /// The text in this case.
-    fn of_text(self, alloc: Global, text: &str) -> Result<String, AllocError>
+    pub fn of_text(self, alloc: Global, text: &str) -> Result<String, AllocError>
         ensures { IfOk result (λ changed. string_bytes changed ≡ in_case self text.now) }
     {
         match self {

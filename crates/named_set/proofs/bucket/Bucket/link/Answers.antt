@@ -55,8 +55,10 @@ returns-clause-seen g c =
     let range = c.serials.ensures.range in
     let given : IsTicket (length entries + 1) inside.number = (omega arith, omega (arith, inv.1, below, range.1), inv.2) in
     let ticket : cell.label.ticket ≡ ticket_of (length entries + 1) inside.number = ap (λ l. l.ticket) o.owner.0 ∙ (c.ticket_word.ensures ∙ ap (λ (k : ℕ). ticket_of (k + 1) inside.number) inv.1) in
-    let number : bucket_of T (length logs) c.in_ok-owner.share.cell.text ≡ inside.number = ap (bucket_of T (length logs)) (ap (λ (x : Cell). x.text) o.share ∙ o.owner.2) ∙ here in
+    let text : c.in_ok-owner.share.cell.text ≡ c.args.text.now = ap (λ (x : Cell). x.text) o.share ∙ o.owner.2 in
+    let number : bucket_of T (length logs) c.in_ok-owner.share.cell.text ≡ inside.number = ap (bucket_of T (length logs)) text ∙ here in
     record {
+      hash = ap (λ (x : Cell). x.label.hash) o.share ∙ (ap (λ l. l.hash) o.owner.0 ∙ (c.requires.hash ∙ ap (entry_hash T) (sym text)));
       named = e.3 ∙ (n.0 ∙ (inv.0 ∙ ap (λ (k : ℕ). slice_index_or logs k 0) (sym number)));
       logged = subst (λ (k : ℕ). IsLogged k c.seen-seen.result.entries c.seen-seen.result.gone c.in_ok-owner.share.cell) (sym number)
           (rw (e.4, e.5, n.1, n.2, o.share) (logged_last inside.number linked entries gone cell c.args.text.now inv.3 none o.owner.2 given ticket));

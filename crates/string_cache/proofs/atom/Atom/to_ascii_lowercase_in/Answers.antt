@@ -1,6 +1,7 @@
 use Rattle.string_cache.proofs.Cases.{again_where_ok}
+use Rattle.string_cache.specs.AtomValue.{AtomValue}
 use Rattle.string_cache.specs.declared.atom.case.Case.TheVariants.{Lower}
 use Rattle.string_cache.proofs.atom.Atom.to_ascii_lowercase_in.Goals as goal
 
 pub returns-clause-again : goal.returns-clause-again
-returns-clause-again g c = again_where_ok Lower c.args.self.now.text c.to_case_in.result c.to_case_in.ensures.text
+returns-clause-again g c = again_where_ok (λ (atom : AtomValue). atom.text) Lower c.args.self.now.text c.to_case_in.result c.to_case_in.ensures.text

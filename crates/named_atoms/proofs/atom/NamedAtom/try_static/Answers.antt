@@ -1,0 +1,17 @@
+use Rattle.std.proofs.Common.{sym, ◌∙◌}
+use Rattle.std.proofs.lemmas.Bool.{false≢true}
+use Rattle.string_cache.proofs.Forms.{static_own, listed_static, not_static}
+use Rattle.named_atoms.proofs.atom.NamedAtom.try_static.Goals as goal
+
+pub of_form-requires : goal.of_form-requires
+of_form-requires g c = static_own g.Static.StaticTables.tables c.args.text.now c.in-Static.index (sym c.in-Static.ensures)
+
+pub returns-in-Inline-clause-is_static : goal.returns-in-Inline-clause-is_static
+returns-in-Inline-clause-is_static g c =
+    let other = not_static g.Static.StaticTables.tables c.args.text.now c.form_of_text.result c.form_of_text.ensures c.in-Inline.is in
+    (λ some. absurd (false≢true some), λ static. sym other ∙ static)
+
+pub returns-in-Inline-clause-listed : goal.returns-in-Inline-clause-listed
+returns-in-Inline-clause-listed g c =
+    let other = not_static g.Static.StaticTables.tables c.args.text.now c.form_of_text.result c.form_of_text.ensures c.in-Inline.is in
+    λ perfect listed long. sym other ∙ listed_static g.Static.StaticTables.tables c.args.text.now perfect listed long

@@ -1,0 +1,2 @@
+pub mod NamedAtomValue
+pub mod NamedForm
