@@ -93,14 +93,11 @@ impl<Static: StaticTables, N: SetName> Bucket<Static, N> {
     {
         match self.find(rt, text, hash)? {
             Some(found) => Ok(found),
-            None => {
-                self.prune();
-                self.link(text, hash, limits)
-            }
+            None => self.link(text, hash, limits),
         }
     }
 
-    /// The same, where a cell of the text is linked that has a share. Cells of the text that have none are taken out.
+    /// The same, where a cell of the text is linked that has a share. First each cell of the bucket is taken out that has none.
     #[tactic(auto, using(crate::proofs::Keeping::seen_at))]
     pub(crate) fn find<R: Wait>(
         &mut self,
@@ -116,6 +113,7 @@ impl<Static: StaticTables, N: SetName> Bucket<Static, N> {
         ensures same { self.new.number ≡ self.old.number }
         ensures refused { IfErr result (λ fault. fault ≡ FullCount) }
     {
+        self.prune();
         while let Some(at) = self.position(text, hash) {
             match self.owners[at].add(rt) {
                 ShareReply::Added(share, _) => {
