@@ -353,19 +353,25 @@ fn is_counted<N: SetName, R: Wait>(rt: &R, set: &Named<N>, alloc: Global) -> Res
     Ok(bytes >= 315_040 && bytes < 316_000)
 }
 
+/// What keys of two texts tell, and that nothing stays linked.
+fn are_kept<N: SetName, R: Wait>(rt: &R, set: &Named<N>) -> Result<bool, Fault> {
+    Ok(is_key(rt, set, "tokenised")? && are_keys(rt, set)? && set.linked(rt) == 0)
+}
+
+/// What looks at a set's cells tell.
+fn are_seen<N: SetName, R: Wait>(rt: &R, set: &Named<N>) -> Result<bool, Fault> {
+    Ok(is_seen(rt, set, "interned")? && are_in_order(rt, set)? && is_swept(rt, set)?)
+}
+
 fn looks_at<N: SetName, R: Wait + Abort>(
     rt: &R,
     alloc: Global,
     set: &Named<N>,
 ) -> Result<bool, Fault> {
-    assert!(rt; is_key(rt, set, "tokenised")?);
-    assert!(rt; are_keys(rt, set)?);
-    assert!(rt; is_seen(rt, set, "interned")?);
-    assert!(rt; are_in_order(rt, set)?);
-    assert!(rt; is_counted(rt, set, alloc)?);
-    assert!(rt; set.linked(rt) == 0);
+    assert!(rt; are_kept(rt, set)?);
+    assert!(rt; are_seen(rt, set)?);
     assert!(rt; set.limits().holders() == Limits::greatest().holders());
-    is_swept(rt, set)
+    is_counted(rt, set, alloc)
 }
 
 fn looks<N: SetName, R: Wait + Abort>(rt: &R, alloc: Global, name: FreshName) -> Result<bool, Fault>
