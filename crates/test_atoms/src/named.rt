@@ -332,6 +332,20 @@ fn is_seen<N: SetName, R: Wait>(rt: &R, set: &Named<N>, text: &str) -> Result<bo
     Ok(seen_of(rt, set, text) == (1, 2))
 }
 
+/// Whether the text is the last that is seen.
+fn is_last<N: SetName, R: Wait>(rt: &R, set: &Named<N>, text: &str) -> bool {
+    let mut last = false;
+    set.for_each(rt, |seen, _| last = seen == text);
+    last
+}
+
+/// Texts are seen in the order in which they were linked.
+fn are_in_order<N: SetName, R: Wait>(rt: &R, set: &Named<N>) -> Result<bool, Fault> {
+    let _first = NamedAtom::from_str_in(rt, set, "interned")?;
+    let _second = NamedAtom::from_str_in(rt, set, "tokenised")?;
+    Ok(is_last(rt, set, "tokenised"))
+}
+
 /// The bytes of a long text's cell, and places for cells.
 fn is_counted<N: SetName, R: Wait>(rt: &R, set: &Named<N>, alloc: Global) -> Result<bool, Fault> {
     let long = long_text(alloc)?;
@@ -339,17 +353,32 @@ fn is_counted<N: SetName, R: Wait>(rt: &R, set: &Named<N>, alloc: Global) -> Res
     Ok(bytes >= 315_040 && bytes < 316_000)
 }
 
+/// What keys of two texts tell, and that nothing stays linked.
+fn are_kept<N: SetName, R: Wait>(rt: &R, set: &Named<N>) -> Result<bool, Fault> {
+    Ok(is_key(rt, set, "tokenised")? && are_keys(rt, set)? && set.linked(rt) == 0)
+}
+
+/// What looks at a set's cells tell.
+fn are_seen<N: SetName, R: Wait>(rt: &R, set: &Named<N>) -> Result<bool, Fault> {
+    Ok(is_seen(rt, set, "interned")? && are_in_order(rt, set)? && is_swept(rt, set)?)
+}
+
+fn looks_at<N: SetName, R: Wait + Abort>(
+    rt: &R,
+    alloc: Global,
+    set: &Named<N>,
+) -> Result<bool, Fault> {
+    assert!(rt; are_kept(rt, set)?);
+    assert!(rt; are_seen(rt, set)?);
+    assert!(rt; set.limits().holders() == Limits::greatest().holders());
+    is_counted(rt, set, alloc)
+}
+
 fn looks<N: SetName, R: Wait + Abort>(rt: &R, alloc: Global, name: FreshName) -> Result<bool, Fault>
     requires { N.logs ≡ name.logs }
 {
     let set = NamedSet::new(alloc, name, Limits::greatest())?;
-    assert!(rt; is_key::<N, R>(rt, &set, "tokenised")?);
-    assert!(rt; are_keys::<N, R>(rt, &set)?);
-    assert!(rt; is_seen::<N, R>(rt, &set, "interned")?);
-    assert!(rt; is_counted::<N, R>(rt, &set, alloc)?);
-    assert!(rt; set.linked(rt) == 0);
-    assert!(rt; set.limits().holders() == Limits::greatest().holders());
-    is_swept::<N, R>(rt, &set)
+    looks_at::<N, R>(rt, alloc, &set)
 }
 
 /// Keys by words, and what a set tells of its cells.
