@@ -1,13 +1,12 @@
 //! Texts that are looked up, and not interned. By OpenSSL's SipHash the bucket of "interned" is 0x210, and of "forgotten" and "magnitude"
 //! 0x72f.
 
-use crate::samples::{intern, new_set, word_of};
-use std::alloc::Global;
+use crate::samples::{intern, limited_set, new_set, one_bucket, word_of};
 use std::process::Abort;
 use std::sync::Wait;
 use string_cache::dynamic_set::Set;
 use string_cache::static_sets::{EmptyStaticAtomSet, StaticAtomSet};
-use string_cache::word::{Buckets, Limits, ticket_word};
+use string_cache::word::ticket_word;
 use string_cache::{Atom, DefaultAtom, Fault};
 use test_calls::{are_one, has_text, has_word, links};
 use test_samples::One;
@@ -93,28 +92,13 @@ fn is_found_again<R: Wait + Abort>(
 /// Each of five texts of one bucket, which lie in two nodes.
 #[test]
 fn each_text_of_a_bucket_is_found(rt: HostRuntime) {
-    let buckets = Buckets::new(0).expect(&rt, "bits");
-    let set: Set<EmptyStaticAtomSet> = Set::with_buckets(
-        rt.alloc(),
-        Limits::greatest(),
-        buckets,
-    ).expect(&rt, "a set");
+    let set = one_bucket(&rt, rt.alloc());
     let atoms = five_atoms(&rt, &set).expect(&rt, "atoms");
     for atom in &atoms {
         assert!(rt; is_found_again(&rt, &set, atom));
     }
     assert!(rt; is_absent(&rt, &set, "magnitude"));
     assert!(rt; links(&rt, &set, 5));
-}
-
-fn limited_set(
-    rt: &impl Abort,
-    alloc: Global,
-    holders: u64,
-    serials: u64,
-) -> Set<EmptyStaticAtomSet> {
-    let limits = Limits::new(holders, serials).expect(rt, "limits");
-    Set::with_limits(alloc, limits).expect(rt, "a set")
 }
 
 #[test]

@@ -1,7 +1,6 @@
 //! Holders up to their limit, and what is left of them.
 
-use crate::samples::{intern, new_set, word_of};
-use std::alloc::Global;
+use crate::samples::{clone_of, intern, limited_set, new_set, word_of};
 use std::process::Abort;
 use std::sync::Wait;
 use string_cache::dynamic_set::Set;
@@ -12,19 +11,6 @@ use test_calls::{are_one, has_text, has_word, links};
 
 fn limits_of(rt: &impl Abort, holders: u64, serials: u64) -> Limits {
     Limits::new(holders, serials).expect(rt, "limits")
-}
-
-fn limited_set(
-    rt: &impl Abort,
-    alloc: Global,
-    holders: u64,
-    serials: u64,
-) -> Set<EmptyStaticAtomSet> {
-    Set::with_limits(alloc, limits_of(rt, holders, serials)).expect(rt, "a set")
-}
-
-fn clone_of<'s, R: Wait + Abort>(rt: &R, atom: &DefaultAtom<'s>) -> DefaultAtom<'s> {
-    atom.clone_atom(rt).expect(rt, "an atom")
 }
 
 /// What "interned" is refused for.

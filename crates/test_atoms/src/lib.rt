@@ -1,10 +1,19 @@
-//! Rows with worked values of atoms: their words, texts, orders, cases and JSON texts, how many may hold one, and packed static types. They
-//! stand apart from `string_cache`, since a crate with tests is proved twice, and from `test_sets`, since two crates are proved beside each
-//! other.
+//! Rows with worked values of sets, their buckets and their atoms: the atoms' words, texts, orders, cases and JSON texts, how many may hold
+//! one, and packed static types. And what no contract says of them: which locks are taken, what is counted, and what threads see of each
+//! other. They stand apart from those crates, since a crate with tests is proved twice, and in one crate, since a check of tests reads the
+//! libraries first.
 #![tactic(auto)]
 
 #[cfg(test)]
 mod atoms;
+#[cfg(test)]
+mod bits;
+#[cfg(test)]
+mod buckets;
+#[cfg(test)]
+mod crowds;
+#[cfg(test)]
+mod every_bucket;
 #[cfg(test)]
 mod found;
 #[cfg(test)]
@@ -14,6 +23,10 @@ mod lent;
 #[cfg(test)]
 mod lists;
 #[cfg(test)]
+mod locks;
+#[cfg(test)]
+mod many;
+#[cfg(test)]
 mod named;
 #[cfg(test)]
 mod packed;
@@ -22,4 +35,10 @@ mod printed;
 #[cfg(test)]
 mod samples;
 #[cfg(test)]
+mod single_tries;
+#[cfg(test)]
 mod texts;
+#[cfg(test)]
+mod threads;
+#[cfg(test)]
+mod visits;

@@ -1,6 +1,6 @@
 //! Lists of atoms of one set: what they hold, and that what goes from them is given back.
 
-use crate::samples::{intern, new_set};
+use crate::samples::{default_set, intern, limited_set, new_set};
 use std::alloc::Global;
 use std::process::Abort;
 use std::sync::Wait;
@@ -14,10 +14,6 @@ use test_samples::One;
 
 /// A list of atoms without static texts.
 type DefaultList<'s> = AtomList<'s, EmptyStaticAtomSet>;
-
-fn default_set(rt: &impl Abort, alloc: Global) -> Set<EmptyStaticAtomSet> {
-    new_set(rt, alloc)
-}
 
 fn push<R: Wait, Static: StaticTables>(
     rt: &R,
@@ -131,8 +127,7 @@ fn cleared_list_is_filled_again(rt: HostRuntime) {
 
 /// A set whose entries may have two holders, and whose buckets have one serial each.
 fn narrow_set(rt: &impl Abort, alloc: Global) -> Set<EmptyStaticAtomSet> {
-    let limits = Limits::new(2, 1).expect(rt, "limits");
-    Set::with_limits(alloc, limits).expect(rt, "a set")
+    limited_set(rt, alloc, 2, 1)
 }
 
 /// Whether the list's every way to one holder more of "interned" is refused, and leaves it as it was.

@@ -1,16 +1,58 @@
-//! What tests of this crate begin with. These say nothing of what they do, so that each test is proved in a moment.
+//! What tests of this crate share: sets, atoms, hashes and numbers of buckets. Nearly all of these say nothing of what they do, so that each
+//! test is proved in a moment.
 
-use std::alloc::Global;
+ghost use Rattle.std.specs.Prelude.{◌≡◌};
+ghost use Rattle.string_cache_core.specs.Tables.{entry_hash};
+
+use std::alloc::{AllocError, Global};
 use std::process::Abort;
-use std::sync::Wait;
-use string_cache::Atom;
-use string_cache::dynamic_set::Set;
-use string_cache::static_sets::StaticTables;
-use test_calls::interned;
+use std::sync::{MutexGuard, Wait};
+use std::test::Fail;
+use string_cache::dynamic_set::{Bucket, Set};
+use string_cache::phf::hash;
+use string_cache::static_sets::{EmptyStaticAtomSet, StaticAtomSet, StaticTables};
+use string_cache::word::{Buckets, Limits};
+use string_cache::{Atom, DefaultAtom};
+use test_calls::{cloned, interned};
+
+/// A set without static texts.
+pub type DefaultSet = Set<EmptyStaticAtomSet>;
+
+/// The hash of a text's entry.
+#[tactic(auto, unfolding(text_forms::specs::Tables::entry_hash))]
+pub fn hash_of<Static: StaticAtomSet>(text: &str) -> u64
+    ensures { result ≡ entry_hash Static.tables text.now }
+{
+    hash(text, Static::get().key).entry_hash()
+}
+
+/// The numbers of buckets that tests take: one bucket, the usual number, and the most.
+pub fn bucket_numbers(alloc: Global) -> Result<Vec<Buckets>, Fail> {
+    let mut numbers = Vec::new(alloc);
+    for bits in [0, 12, 14] {
+        numbers.push(Buckets::new(bits).ok_or("bits")?)?;
+    }
+    Ok(numbers)
+}
 
 /// A set of the usual limits.
 pub fn new_set<Static: StaticTables>(rt: &impl Abort, alloc: Global) -> Set<Static> {
     Set::new(alloc).expect(rt, "a set")
+}
+
+pub fn default_set(rt: &impl Abort, alloc: Global) -> DefaultSet {
+    new_set(rt, alloc)
+}
+
+/// A set of one bucket.
+pub fn one_bucket(rt: &impl Abort, alloc: Global) -> DefaultSet {
+    let buckets = Buckets::new(0).expect(rt, "bits");
+    Set::with_buckets(alloc, Limits::greatest(), buckets).expect(rt, "a set")
+}
+
+pub fn limited_set(rt: &impl Abort, alloc: Global, holders: u64, serials: u64) -> DefaultSet {
+    let limits = Limits::new(holders, serials).expect(rt, "limits");
+    Set::with_limits(alloc, limits).expect(rt, "a set")
 }
 
 /// The word of a text's atom, which goes at once.
@@ -29,4 +71,44 @@ pub fn intern<'s, R: Wait + Abort, Static: StaticTables>(
     text: &str,
 ) -> Atom<'s, Static> {
     interned(rt, set, text).expect(rt, "an atom")
+}
+
+pub fn clone_of<'s, R: Wait + Abort>(rt: &R, atom: &DefaultAtom<'s>) -> DefaultAtom<'s> {
+    cloned(rt, atom).expect(rt, "an atom")
+}
+
+/// The lock of a bucket, held.
+pub fn lock_of<'s, R: Wait + Abort>(
+    rt: &R,
+    set: &'s DefaultSet,
+    at: usize,
+) -> MutexGuard<'s, Bucket<EmptyStaticAtomSet>> {
+    set.buckets().get(at).expect(rt, "a bucket").lock(rt)
+}
+
+/// Checks that this many entries are linked.
+pub fn check_linked<R: Wait + Abort>(rt: &R, set: &DefaultSet, count: u128) {
+    assert_eq!(rt; set.linked(rt), count);
+}
+
+/// Checks that an atom of a text has this word and the text.
+pub fn check_atom(rt: &impl Abort, atom: &DefaultAtom<'_>, text: &str, word: u64) {
+    assert!(rt; atom.as_str() == text);
+    assert_eq!(rt; atom.unsafe_data(), word);
+}
+
+/// Drops the atoms while all locks of their set are held, so that their entries die and stay linked.
+pub fn drop_under_locks<R: Wait, A: Drop>(
+    rt: &R,
+    alloc: Global,
+    set: &DefaultSet,
+    atoms: A,
+) -> Result<(), AllocError> {
+    let mut held = Vec::with_capacity(alloc, set.buckets().len())?;
+    for bucket in set.buckets() {
+        held.push(bucket.lock(rt))?;
+    }
+    drop(atoms);
+    drop(held);
+    Ok(())
 }

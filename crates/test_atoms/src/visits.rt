@@ -1,15 +1,15 @@
 //! Entries that are visited, and the bytes that they take. By OpenSSL's SipHash the bucket of "afterwards" is 0, of "forgotten" and
 //! "magnitude" 0x72f, of "geometric" 0xfff, and of "interned" 0x210.
 
-use crate::samples::{DefaultSet, atom_of, check_linked, default_set, lock_of};
+use crate::samples::{
+    DefaultSet, check_linked, clone_of, default_set, intern, lock_of, one_bucket,
+};
 use std::alloc::Global;
 use std::fmt::Write;
 use std::process::Abort;
 use std::sync::Wait;
-use string_cache::dynamic_set::Set;
-use string_cache::word::{Buckets, Limits};
 use string_cache::{DefaultAtom, Fault};
-use test_calls::{cloned, interned};
+use test_calls::interned;
 
 /// The texts of the entries that are linked, each with the number of its holders.
 fn visited<R: Wait>(rt: &R, set: &DefaultSet) -> String {
@@ -24,19 +24,15 @@ fn visits<R: Wait>(rt: &R, set: &DefaultSet, wanted: &str) -> bool {
     visited(rt, set).as_str() == wanted
 }
 
-fn clone_of<'s, R: Wait + Abort>(rt: &R, atom: &DefaultAtom<'s>) -> DefaultAtom<'s> {
-    cloned(rt, atom).expect(rt, "an atom")
-}
-
 /// Bucket by bucket, and the newest first.
 #[test]
 fn each_entry_is_visited_once(rt: HostRuntime) {
     let set = default_set(&rt, rt.alloc());
     assert!(rt; visits(&rt, &set, ""));
-    let last = atom_of(&rt, &set, "geometric");
-    let forgotten = atom_of(&rt, &set, "forgotten");
-    let _magnitude = atom_of(&rt, &set, "magnitude");
-    let _first = atom_of(&rt, &set, "afterwards");
+    let last = intern(&rt, &set, "geometric");
+    let forgotten = intern(&rt, &set, "forgotten");
+    let _magnitude = intern(&rt, &set, "magnitude");
+    let _first = intern(&rt, &set, "afterwards");
     let _second = clone_of(&rt, &forgotten);
     let all = "afterwards 1;magnitude 1;forgotten 2;geometric 1;";
     for _ in 0..2 {
@@ -51,7 +47,7 @@ fn each_entry_is_visited_once(rt: HostRuntime) {
 #[test]
 fn dying_entry_is_visited(rt: HostRuntime) {
     let set = default_set(&rt, rt.alloc());
-    let atom = atom_of(&rt, &set, "interned");
+    let atom = intern(&rt, &set, "interned");
     let held = lock_of(&rt, &set, 0x210);
     drop(atom);
     drop(held);
@@ -66,8 +62,8 @@ fn dying_entry_is_visited(rt: HostRuntime) {
 fn dying_entries_of_a_bucket_are_visited(rt: HostRuntime) {
     let set = default_set(&rt, rt.alloc());
     let atoms = (
-        atom_of(&rt, &set, "forgotten"),
-        atom_of(&rt, &set, "magnitude"),
+        intern(&rt, &set, "forgotten"),
+        intern(&rt, &set, "magnitude"),
     );
     let held = lock_of(&rt, &set, 0x72f);
     drop(atoms);
@@ -76,11 +72,6 @@ fn dying_entries_of_a_bucket_are_visited(rt: HostRuntime) {
         assert!(rt; visits(&rt, &set, "magnitude 0;forgotten 0;"));
     }
     check_linked(&rt, &set, 2);
-}
-
-fn set_of(rt: &impl Abort, alloc: Global, bits: u8) -> DefaultSet {
-    let buckets = Buckets::new(bits).expect(rt, "bits");
-    Set::with_buckets(alloc, Limits::greatest(), buckets).expect(rt, "a set")
 }
 
 /// The atoms of these texts, which are parted by spaces.
@@ -99,7 +90,7 @@ fn atoms_of<'s, R: Wait>(
 /// Five texts of one bucket, which lie in two nodes.
 #[test]
 fn each_node_is_visited(rt: HostRuntime) {
-    let set = set_of(&rt, rt.alloc(), 0);
+    let set = one_bucket(&rt, rt.alloc());
     let texts = "interned tokenised sentence repeated forgotten";
     let atoms = atoms_of(&rt, &set, texts).expect(&rt, "atoms");
     let all = "forgotten 1;repeated 1;sentence 1;tokenised 1;interned 1;";
@@ -138,7 +129,7 @@ fn takes<R: Wait>(rt: &R, set: &DefaultSet, bytes: u128) -> bool {
 
 /// Whether a set of one bucket has this many bytes with these texts, and those of its bucket alone once they are gone.
 fn has_memory<R: Wait + Abort>(rt: &R, alloc: Global, texts: &str, bytes: u128) -> bool {
-    let set = set_of(rt, alloc, 0);
+    let set = one_bucket(rt, alloc);
     let atoms = atoms_of(rt, &set, texts).expect(rt, "atoms");
     let is_right = takes(rt, &set, bytes);
     drop(atoms);
@@ -154,9 +145,9 @@ fn memory_of_texts(rt: HostRuntime) {
 
 #[test]
 fn memory_of_a_long_text(rt: HostRuntime) {
-    let set = set_of(&rt, rt.alloc(), 0);
+    let set = one_bucket(&rt, rt.alloc());
     let text = "a".repeat(rt.alloc(), 100).expect(&rt, "a text");
-    let atom = atom_of(&rt, &set, &text);
+    let atom = intern(&rt, &set, &text);
     assert!(rt; takes(&rt, &set, BUCKET + NODE + CELL + 104));
     drop(atom);
     assert!(rt; takes(&rt, &set, BUCKET));
@@ -165,10 +156,10 @@ fn memory_of_a_long_text(rt: HostRuntime) {
 /// A node stays for the one entry that is left in it.
 #[test]
 fn memory_of_nodes_with_one_entry(rt: HostRuntime) {
-    let set = set_of(&rt, rt.alloc(), 0);
-    let _first = atom_of(&rt, &set, "interned");
+    let set = one_bucket(&rt, rt.alloc());
+    let _first = intern(&rt, &set, "interned");
     let three = atoms_of(&rt, &set, "sentence repeated addition").expect(&rt, "atoms");
-    let _fifth = atom_of(&rt, &set, "relation");
+    let _fifth = intern(&rt, &set, "relation");
     let others = atoms_of(&rt, &set, "sequence compiler tokenise").expect(&rt, "atoms");
     drop(three);
     drop(others);
@@ -180,8 +171,8 @@ fn memory_of_nodes_with_one_entry(rt: HostRuntime) {
 fn memory_of_dying_entries(rt: HostRuntime) {
     let set = default_set(&rt, rt.alloc());
     let atoms = (
-        atom_of(&rt, &set, "afterwards"),
-        atom_of(&rt, &set, "geometric"),
+        intern(&rt, &set, "afterwards"),
+        intern(&rt, &set, "geometric"),
     );
     let first = lock_of(&rt, &set, 0);
     let last = lock_of(&rt, &set, 0xfff);

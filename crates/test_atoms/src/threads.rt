@@ -1,11 +1,9 @@
 //! Threads at work on one set, and on one atom.
 
-use crate::samples::{DefaultSet, atom_of, check_linked, default_set};
+use crate::samples::{DefaultSet, check_linked, default_set, intern, limited_set};
 use std::sync::Wait;
 use std::sync::atomic::{AtomicU64, Ordering};
 use std::thread;
-use string_cache::dynamic_set::Set;
-use string_cache::word::Limits;
 use string_cache::{DefaultAtom, Fault};
 use test_calls::{cloned, interned};
 
@@ -54,9 +52,8 @@ fn takes_two_more<R: Wait>(rt: &R, atom: &DefaultAtom<'_>) -> Result<bool, Fault
 /// No share is lost or left over, and none is refused, though both threads change one count.
 #[test]
 fn one_atom_in_two_threads(rt: HostRuntime) {
-    let limits = Limits::new(3, 9).expect(&rt, "limits");
-    let set = Set::with_limits(rt.alloc(), limits).expect(&rt, "a set");
-    let atom = atom_of(&rt, &set, "interned");
+    let set = limited_set(&rt, rt.alloc(), 3, 9);
+    let atom = intern(&rt, &set, "interned");
     let (shared, handle) = (&atom, &rt);
     let (left, right) = thread::join(
         &rt,

@@ -1,12 +1,10 @@
 //! Shares with their set that are cloned by a single try.
 
-use crate::samples::{DefaultSet, hash_of};
+use crate::samples::{DefaultSet, hash_of, limited_set};
 use std::sync::Wait;
 use std::test::Fail;
 use string_cache::Fault;
-use string_cache::dynamic_set::Set;
 use string_cache::static_sets::EmptyStaticAtomSet;
-use string_cache::word::Limits;
 
 /// Whether a single try gives a share of the text's entry while it has fewer than three holders, and none then.
 fn tries<R: Wait>(rt: &R, set: &DefaultSet, text: &str) -> Result<bool, Fault> {
@@ -24,8 +22,7 @@ fn tries<R: Wait>(rt: &R, set: &DefaultSet, text: &str) -> Result<bool, Fault> {
 /// While no other thread changes the count, a single try succeeds below the limit, and each share that it gives goes.
 #[test]
 fn single_tries_of_held_shares(rt: HostRuntime) {
-    let limits = Limits::new(3, 10).expect(&rt, "limits");
-    let set = Set::with_limits(rt.alloc(), limits).expect(&rt, "a set");
+    let set = limited_set(&rt, rt.alloc(), 3, 10);
     let long = "interned ".repeat(rt.alloc(), 30_000).expect(&rt, "a text");
     assert!(rt; tries(&rt, &set, "interned") == Ok(true));
     assert!(rt; tries(&rt, &set, "tokenised ü") == Ok(true));

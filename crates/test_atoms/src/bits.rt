@@ -2,7 +2,8 @@
 //! bucket times 4.
 
 use crate::samples::{
-    DefaultSet, atom_of, bucket_numbers, check_atom, check_linked, drop_under_locks, hash_of,
+    DefaultSet, bucket_numbers, check_atom, check_linked, drop_under_locks, hash_of, intern,
+    one_bucket,
 };
 use std::alloc::Global;
 use std::process::Abort;
@@ -41,12 +42,12 @@ fn is_found<R: Wait>(rt: &R, set: &DefaultSet, word: u64) -> bool {
 
 /// Checks that the text's first word is this one, and that the next one has the next serial.
 fn check_words<R: Wait + Abort>(rt: &R, set: &DefaultSet, number: usize, place: usize, first: u64) {
-    let atom = atom_of(rt, set, "interned");
+    let atom = intern(rt, set, "interned");
     assert_eq!(rt; atom.unsafe_data(), first);
     assert!(rt; has_one_entry(rt, set, number, place));
     assert!(rt; is_found(rt, set, first));
     drop(atom);
-    let next = atom_of(rt, set, "interned");
+    let next = intern(rt, set, "interned");
     assert_eq!(rt; next.unsafe_data().wrapping_sub(first), 0x1_0000);
 }
 
@@ -78,9 +79,9 @@ fn words_have_the_bits_of_their_set(rt: HostRuntime) {
 
 #[test]
 fn one_bucket_gives_all_tickets(rt: HostRuntime) {
-    let set = set_of(&rt, rt.alloc(), buckets_of(&rt, 0));
-    let first = atom_of(&rt, &set, "interned");
-    let second = atom_of(&rt, &set, "tokenised");
+    let set = one_bucket(&rt, rt.alloc());
+    let first = intern(&rt, &set, "interned");
+    let second = intern(&rt, &set, "tokenised");
     check_atom(&rt, &first, "interned", 0x1_0000);
     check_atom(&rt, &second, "tokenised", 0x2_0000);
     check_linked(&rt, &set, 2);
@@ -114,7 +115,7 @@ fn atom_of_bucket<'s, R: Wait + Abort>(
     place: usize,
 ) -> Result<DefaultAtom<'s>, Fail> {
     let text = text_of_bucket(set.allocator(), buckets, place)?;
-    Ok(atom_of(rt, set, &text))
+    Ok(intern(rt, set, &text))
 }
 
 #[test]

@@ -1,7 +1,9 @@
 //! Buckets' locks that are held meanwhile, and what stays linked. By OpenSSL's SipHash the bucket of "afterwards" is 0, of
 //! "geometric" 0xfff, and of "forgotten" and "magnitude" 0x72f.
 
-use crate::samples::{DefaultSet, atom_of, check_atom, check_linked, default_set, lock_of};
+use crate::samples::{
+    DefaultSet, check_atom, check_linked, clone_of, default_set, intern, lock_of, new_set,
+};
 use serde_json::Value;
 use std::process::Abort;
 use std::sync::atomic::{AtomicBool, Ordering};
@@ -28,7 +30,7 @@ fn are_free(set: &DefaultSet, held: usize) -> bool {
 #[test]
 fn last_drop_under_a_held_lock(rt: HostRuntime) {
     let set = default_set(&rt, rt.alloc());
-    let atom = atom_of(&rt, &set, "interned");
+    let atom = intern(&rt, &set, "interned");
     let held = lock_of(&rt, &set, 0x210);
     assert!(rt; are_free(&set, 0x210));
     drop(atom);
@@ -42,7 +44,7 @@ fn last_drop_under_a_held_lock(rt: HostRuntime) {
 #[test]
 fn text_of_a_dying_entry_is_not_found(rt: HostRuntime) {
     let set = default_set(&rt, rt.alloc());
-    let atom = atom_of(&rt, &set, "interned");
+    let atom = intern(&rt, &set, "interned");
     let held = lock_of(&rt, &set, 0x210);
     drop(atom);
     drop(held);
@@ -54,19 +56,19 @@ fn text_of_a_dying_entry_is_not_found(rt: HostRuntime) {
 #[test]
 fn text_of_a_dying_entry_gets_a_new_one(rt: HostRuntime) {
     let set = default_set(&rt, rt.alloc());
-    let atom = atom_of(&rt, &set, "interned");
+    let atom = intern(&rt, &set, "interned");
     let held = lock_of(&rt, &set, 0x210);
     drop(atom);
     drop(held);
-    let next = atom_of(&rt, &set, "interned");
+    let next = intern(&rt, &set, "interned");
     check_atom(&rt, &next, "interned", ticket_word(2, 0x210));
     check_linked(&rt, &set, 1);
 }
 
 /// Interns both held texts again, and sweeps: neither goes.
 fn check_held<R: Wait + Abort>(rt: &R, set: &DefaultSet, first: u64, second: u64) {
-    check_atom(rt, &atom_of(rt, set, "forgotten"), "forgotten", first);
-    check_atom(rt, &atom_of(rt, set, "magnitude"), "magnitude", second);
+    check_atom(rt, &intern(rt, set, "forgotten"), "forgotten", first);
+    check_atom(rt, &intern(rt, set, "magnitude"), "magnitude", second);
     set.sweep(rt);
     check_linked(rt, set, 2);
 }
@@ -75,8 +77,8 @@ fn check_held<R: Wait + Abort>(rt: &R, set: &DefaultSet, first: u64, second: u64
 #[test]
 fn held_texts_stay_linked(rt: HostRuntime) {
     let set = default_set(&rt, rt.alloc());
-    let forgotten = atom_of(&rt, &set, "forgotten");
-    let magnitude = atom_of(&rt, &set, "magnitude");
+    let forgotten = intern(&rt, &set, "forgotten");
+    let magnitude = intern(&rt, &set, "magnitude");
     check_atom(&rt, &forgotten, "forgotten", ticket_word(1, 0x72f));
     check_atom(&rt, &magnitude, "magnitude", ticket_word(2, 0x72f));
     for _ in 0..2 {
@@ -102,7 +104,7 @@ fn sweep_reaches_each_bucket(rt: HostRuntime) {
     let set = &owned;
     let mut atoms = Vec::new(rt.alloc());
     for text in ["afterwards", "forgotten", "magnitude", "geometric"] {
-        atoms.push(atom_of(&rt, set, text)).expect(&rt, "room");
+        atoms.push(intern(&rt, set, text)).expect(&rt, "room");
     }
     check_linked(&rt, set, 4);
     drop_under_three_locks(&rt, set, atoms);
@@ -114,9 +116,9 @@ fn sweep_reaches_each_bucket(rt: HostRuntime) {
 #[test]
 fn drop_of_one_of_two_shares_takes_out_nothing(rt: HostRuntime) {
     let set = default_set(&rt, rt.alloc());
-    let dying = atom_of(&rt, &set, "forgotten");
-    let first = atom_of(&rt, &set, "magnitude");
-    let second = cloned(&rt, &first).expect(&rt, "an atom");
+    let dying = intern(&rt, &set, "forgotten");
+    let first = intern(&rt, &set, "magnitude");
+    let second = clone_of(&rt, &first);
     let held = lock_of(&rt, &set, 0x72f);
     drop(dying);
     drop(held);
@@ -130,10 +132,10 @@ fn drop_of_one_of_two_shares_takes_out_nothing(rt: HostRuntime) {
 #[test]
 fn last_drop_prunes_its_own_bucket_alone(rt: HostRuntime) {
     let set = default_set(&rt, rt.alloc());
-    let atom = atom_of(&rt, &set, "interned");
+    let atom = intern(&rt, &set, "interned");
     let others = (
-        atom_of(&rt, &set, "afterwards"),
-        atom_of(&rt, &set, "geometric"),
+        intern(&rt, &set, "afterwards"),
+        intern(&rt, &set, "geometric"),
     );
     drop_under_three_locks(&rt, &set, others);
     drop(atom);
@@ -213,8 +215,8 @@ fn work_without_locks<R: Wait>(rt: &R, set: &Set<One>, dynamic: &Atom<One>) -> R
 
 #[test]
 fn calls_that_take_no_lock(rt: HostRuntime) {
-    let set: Set<One> = Set::new(rt.alloc()).expect(&rt, "a set");
-    let dynamic = interned(&rt, &set, "interned").expect(&rt, "an atom");
+    let set = new_set::<One>(&rt, rt.alloc());
+    let dynamic = intern(&rt, &set, "interned");
     let mut held = Vec::new(rt.alloc());
     for bucket in set.buckets() {
         held.push(bucket.lock(&rt)).expect(&rt, "room");
@@ -258,8 +260,8 @@ fn interning_takes_the_lock_of_one_bucket(rt: HostRuntime) {
 #[test]
 fn linked_waits_for_each_lock(rt: HostRuntime) {
     let set = default_set(&rt, rt.alloc());
-    let _first = atom_of(&rt, &set, "afterwards");
-    let _last = atom_of(&rt, &set, "geometric");
+    let _first = intern(&rt, &set, "afterwards");
+    let _last = intern(&rt, &set, "geometric");
     let held = lock_of(&rt, &set, 0xfff);
     let (handle, shared) = (&rt, &set);
     let (sum, ended) = beside(&rt, 1_000, held, || shared.linked(handle));
@@ -277,8 +279,8 @@ fn count_holders<R: Wait>(rt: &R, set: &DefaultSet) -> u64 {
 #[test]
 fn visits_wait_for_each_lock(rt: HostRuntime) {
     let set = default_set(&rt, rt.alloc());
-    let _first = atom_of(&rt, &set, "afterwards");
-    let _last = atom_of(&rt, &set, "geometric");
+    let _first = intern(&rt, &set, "afterwards");
+    let _last = intern(&rt, &set, "geometric");
     let held = lock_of(&rt, &set, 0xfff);
     let (handle, shared) = (&rt, &set);
     let (count, ended) = beside(&rt, 1_000, held, || count_holders(handle, shared));
@@ -291,8 +293,8 @@ fn visits_wait_for_each_lock(rt: HostRuntime) {
 #[test]
 fn memory_waits_for_each_lock(rt: HostRuntime) {
     let set = default_set(&rt, rt.alloc());
-    let _first = atom_of(&rt, &set, "afterwards");
-    let _last = atom_of(&rt, &set, "geometric");
+    let _first = intern(&rt, &set, "afterwards");
+    let _last = intern(&rt, &set, "geometric");
     let held = lock_of(&rt, &set, 0xfff);
     let (handle, shared) = (&rt, &set);
     let (bytes, ended) = beside(&rt, 1_000, held, || shared.memory(handle));
@@ -317,8 +319,8 @@ fn is_emptied<R: Wait + Clock>(rt: &R, bucket: &Mutex<Bucket<EmptyStaticAtomSet>
 fn sweep_goes_on_to_the_last_bucket(rt: HostRuntime) {
     let set = default_set(&rt, rt.alloc());
     let atoms = (
-        atom_of(&rt, &set, "afterwards"),
-        atom_of(&rt, &set, "geometric"),
+        intern(&rt, &set, "afterwards"),
+        intern(&rt, &set, "geometric"),
     );
     let first = set.buckets().get(0).expect(&rt, "a bucket");
     let of_first = first.lock(&rt);

@@ -1,15 +1,15 @@
 //! Links for which there is no memory, and a great number of them in one bucket.
 
 use super::{Fake, check_share, link, new_bucket, tickets};
-use crate::samples::{DefaultSet, atom_of, check_atom, check_linked};
+use crate::samples::{DefaultSet, check_atom, check_linked, intern, one_bucket};
 use std::alloc::Global;
 use std::process::Abort;
 use std::sync::Wait;
 use std::test::Fail;
 use string_cache::Fault;
-use string_cache::dynamic_set::{Bucket, Set, Share};
+use string_cache::dynamic_set::{Bucket, Share};
 use string_cache::static_sets::EmptyStaticAtomSet;
-use string_cache::word::{Buckets, Limits, ticket_word};
+use string_cache::word::{Limits, ticket_word};
 
 /// Links a text, once more where there is no memory: a refused link leaves the bucket as it was.
 fn link_again<R: Abort>(
@@ -116,13 +116,12 @@ fn link_five_thousand<R: Wait + Abort>(rt: &R, set: &DefaultSet) -> Result<Vec<S
 /// Each of 5,000 texts is linked in the one bucket of a set, and the oldest and the newest are found there. 5,000 is 0x1388.
 #[test]
 fn five_thousand_entries_of_one_bucket(rt: HostRuntime) {
-    let buckets = Buckets::new(0).expect(&rt, "bits");
-    let set = Set::with_buckets(rt.alloc(), Limits::greatest(), buckets).expect(&rt, "a set");
+    let set = one_bucket(&rt, rt.alloc());
     let shares = link_five_thousand(&rt, &set).expect(&rt, "shares");
     check_linked(&rt, &set, 5_000);
-    let oldest = atom_of(&rt, &set, "w0000000");
-    let newest = atom_of(&rt, &set, "w0004999");
-    let next = atom_of(&rt, &set, "interned");
+    let oldest = intern(&rt, &set, "w0000000");
+    let newest = intern(&rt, &set, "w0004999");
+    let next = intern(&rt, &set, "interned");
     check_atom(&rt, &oldest, "w0000000", 0x1_0000);
     check_atom(&rt, &newest, "w0004999", 0x1388_0000);
     check_atom(&rt, &next, "interned", 0x1389_0000);

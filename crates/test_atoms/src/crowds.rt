@@ -1,6 +1,6 @@
 //! Texts of one bucket, and many workers at them.
 
-use crate::samples::{DefaultSet, atom_of, bucket_numbers, check_linked, default_set, hash_of};
+use crate::samples::{DefaultSet, bucket_numbers, check_linked, default_set, hash_of, intern};
 use std::alloc::{AllocError, Global};
 use std::process::Abort;
 use std::sync::Wait;
@@ -11,7 +11,7 @@ use string_cache::static_sets::EmptyStaticAtomSet;
 use string_cache::table::Table;
 use string_cache::word::{Buckets, Limits};
 use string_cache::{Atom, DefaultAtom, Fault};
-use test_calls::{cloned, interned};
+use test_calls::{cloned, has_text, interned};
 
 /// This many texts: `w0000000`, `w0000001` and so on.
 fn numbers(alloc: Global, count: usize) -> Result<Vec<String>, AllocError> {
@@ -66,10 +66,6 @@ fn bucket_mates(
 /// Whether the atoms of two texts have words of their own, and differ.
 fn are_apart(one: &DefaultAtom<'_>, two: &DefaultAtom<'_>) -> bool {
     one.unsafe_data() != two.unsafe_data() && one != two
-}
-
-fn has_text(atom: &DefaultAtom<'_>, text: &str) -> bool {
-    atom.as_str() == text
 }
 
 /// Two atoms, as clones of others that have gone. Whether those were apart.
@@ -238,7 +234,7 @@ fn ten_thousand_texts_come_and_go(rt: HostRuntime) {
     let set = default_set(&rt, rt.alloc());
     let texts = numbers(rt.alloc(), 10_000).expect(&rt, "an answer");
     for (n, text) in texts.iter().enumerate() {
-        assert!(rt; has_text(&atom_of(&rt, &set, text), text));
+        assert!(rt; has_text(&intern(&rt, &set, text), text));
         if n % 1000 == 999 {
             assert!(rt; set.linked(&rt) == 0, "after {n}");
         }

@@ -1,22 +1,16 @@
 //! More holders, entries and serials of one bucket than 16 bits count.
 
-use crate::samples::{DefaultSet, atom_of, hash_of, lock_of};
+use crate::samples::{DefaultSet, hash_of, intern, lock_of, one_bucket};
 use std::alloc::Global;
-use std::process::Abort;
 use std::sync::Wait;
 use std::test::Fail;
-use string_cache::dynamic_set::{Bucket, Set, Share};
+use string_cache::dynamic_set::{Bucket, Share};
 use string_cache::static_sets::EmptyStaticAtomSet;
-use string_cache::word::{Buckets, Limits};
+use string_cache::word::Limits;
 use string_cache::{DefaultAtom, Fault};
 use test_calls::{cloned, interned, look_up};
 
 const MANY: u32 = 70_000;
-
-fn one_bucket(rt: &impl Abort, alloc: Global) -> DefaultSet {
-    let buckets = Buckets::new(0).expect(rt, "bits");
-    Set::with_buckets(alloc, Limits::greatest(), buckets).expect(rt, "a set")
-}
 
 /// How many entries a visit shows, and how many holders they have together.
 fn visited<R: Wait>(rt: &R, set: &DefaultSet) -> (u64, u64) {
@@ -45,7 +39,7 @@ fn clones_of<'s, R: Wait>(
 #[test]
 fn one_text_has_many_holders(rt: HostRuntime) {
     let set = one_bucket(&rt, rt.alloc());
-    let atom = atom_of(&rt, &set, "interned");
+    let atom = intern(&rt, &set, "interned");
     let clones = clones_of(&rt, rt.alloc(), &atom).expect(&rt, "clones");
     drop(atom);
     assert!(rt; visited(&rt, &set) == (1, 70_000));
