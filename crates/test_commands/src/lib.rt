@@ -1,10 +1,14 @@
-//! Tests of the program's commands, and of the program over lines of arguments, and nothing else.
+//! Tests of the program's commands, of the program over lines of arguments, and of counting by workers, and nothing else.
 #![tactic(auto)]
 
 #[cfg(test)]
 mod buckets;
 #[cfg(test)]
+mod counting;
+#[cfg(test)]
 mod failures;
+#[cfg(test)]
+mod gates;
 #[cfg(test)]
 mod generate;
 #[cfg(test)]

@@ -3,12 +3,12 @@
 ghost use Rattle.std.specs.Prelude.{◌≤◌};
 
 use crate::gates::{BothLeave, InTurn, Together, Watch};
+use crate::words::set_with;
 use std::alloc::{AllocError, Global};
 use std::sync::Wait;
 use std::thread::Threads;
 use std::{str, thread};
 use string_cache::dynamic_set::Set;
-use string_cache::word::Limits;
 use string_cache::{Atom, EmptyStaticAtomSet, Fault};
 use test_refusals::are;
 use test_samples::{EXAMPLE, EXAMPLE_COUNTS};
@@ -201,8 +201,7 @@ fn workers_intern_between_the_calls(rt: HostRuntime) {
 /// A refused worker still holds what it interned in `leave`.
 #[test]
 fn refused_workers_hold_their_atoms(rt: HostRuntime) {
-    let limits = Limits::new(2, 9).expect(&rt, "limits");
-    let set = Set::<EmptyStaticAtomSet>::with_limits(rt.alloc(), limits).expect(&rt, "a set");
+    let set = set_with(&rt, rt.alloc(), 2, 9);
     let watch = Watch::new(&set);
     let answer = count(&rt, &set, "interned interned interned", 1, &watch);
     assert!(rt; matches!(answer, Err(AppFault::Intern(Fault::FullCount))));
@@ -213,8 +212,7 @@ fn refused_workers_hold_their_atoms(rt: HostRuntime) {
 /// Each place is a holder, also of a word that came before.
 #[test]
 fn every_place_is_interned(rt: HostRuntime) {
-    let limits = Limits::new(2, 9).expect(&rt, "limits");
-    let set = Set::<EmptyStaticAtomSet>::with_limits(rt.alloc(), limits).expect(&rt, "a set");
+    let set = set_with(&rt, rt.alloc(), 2, 9);
     let counts = count(&rt, &set, "interned interned", 1, &Open).expect(&rt, "counts");
     assert!(rt; are(&counts, &[("interned", 2)]));
     drop(counts);
@@ -225,8 +223,7 @@ fn every_place_is_interned(rt: HostRuntime) {
 /// Of two workers that are refused, the fault of the first piece is answered, and no atom stays.
 #[test]
 fn lowest_fault_is_answered(rt: HostRuntime) {
-    let limits = Limits::new(1, 1).expect(&rt, "limits");
-    let set = Set::<EmptyStaticAtomSet>::with_limits(rt.alloc(), limits).expect(&rt, "a set");
+    let set = set_with(&rt, rt.alloc(), 1, 1);
     let held = Atom::from_str_in(&rt, &set, "interned").expect(&rt, "an atom");
     drop(Atom::from_str_in(&rt, &set, "tokenised").expect(&rt, "an atom"));
     let answer = count(&rt, &set, "interned tokenised", 2, &Open);
@@ -240,8 +237,7 @@ fn lowest_fault_is_answered(rt: HostRuntime) {
 /// What other workers interned is gone after a refusal.
 #[test]
 fn refusals_let_go_of_all(rt: HostRuntime) {
-    let limits = Limits::new(1, 9).expect(&rt, "limits");
-    let set = Set::<EmptyStaticAtomSet>::with_limits(rt.alloc(), limits).expect(&rt, "a set");
+    let set = set_with(&rt, rt.alloc(), 1, 9);
     let held = Atom::from_str_in(&rt, &set, "interned").expect(&rt, "an atom");
     for text in ["interned tokenised repeated", "repeated tokenised interned"] {
         let answer = count(&rt, &set, text, 3, &Open);

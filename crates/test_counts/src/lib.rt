@@ -1,7 +1,0 @@
-//! Tests of counting by workers, and nothing else.
-#![tactic(auto)]
-
-#[cfg(test)]
-mod counting;
-#[cfg(test)]
-mod gates;
