@@ -1,0 +1,3 @@
+pub mod AllOk
+pub mod Names
+pub mod SameTexts

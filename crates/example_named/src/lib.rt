@@ -1,0 +1,20 @@
+//! Small programs over a set with a name, as its users write them. Each has a contract that is proved from the contracts of
+//! `named_set` alone. The tests that run them are in `crates/test_examples`.
+#![tactic(auto)]
+
+mod crew;
+mod readers;
+mod results;
+mod symbols;
+
+pub use crew::crew_agrees;
+use named_set::{Held, NamedSet};
+pub use readers::{Told, declare_and_look_up_all, look_up_all};
+pub use symbols::{Symbols, declare_and_look_up, declare_and_look_up_by_threads};
+use text_forms::static_sets::EmptyStaticAtomSet;
+
+/// The set with this name, which has no static texts.
+pub type Texts<N> = NamedSet<EmptyStaticAtomSet, N>;
+
+/// A held word of the set with this name.
+pub type Word<'s, N> = Held<'s, EmptyStaticAtomSet, N>;
