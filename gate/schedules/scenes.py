@@ -1,6 +1,6 @@
 """Scenes as the file scenes.txt has them, and as the program crates/schedules takes them."""
 
-from dataclasses import dataclass, field
+from dataclasses import dataclass, field, replace
 from pathlib import Path
 
 from history import Limits
@@ -21,6 +21,8 @@ class Scene:
     """A set's limits, what each thread calls, and which of its schedules are tried."""
 
     name: str
+    is_named: bool = False  # its set has a name
+    has_named: bool = False  # it is tried over such a set as well
     holders: int = 9
     serials: int = 9
     bits: int = 0
@@ -34,7 +36,11 @@ class Scene:
     well: set = field(default_factory=set)  # outcomes that were judged already, each with the number of refusals
 
     def arguments(self):
-        return [str(self.holders), str(self.serials), str(self.bits), *self.threads]
+        return [*(["named"] if self.is_named else []), str(self.holders), str(self.serials), str(self.bits), *self.threads]
+
+    def over_named(self):
+        """The same scene over a set with a name."""
+        return replace(self, name=f"{self.name}, in a named set", is_named=True, is_compared=False, well=set())
 
     def limits(self, refusals):
         return Limits(self.holders, self.serials, self.bits, refusals)
@@ -94,6 +100,8 @@ def read_line(scene, line):
         scene.is_by_order, scene.is_compared = True, line.endswith("compared")
     elif line == "refusals":
         scene.has_refusals = True
+    elif line == "named":
+        scene.has_named = True
     elif word in ("holders", "serials", "bits", "deep") and rest.strip().isdecimal():
         setattr(scene, word, int(rest))
     elif word == "thread" and rest.count("|") == 1:
@@ -116,6 +124,7 @@ def read_scenes(text):
             read_line(scenes[-1], line.strip())
         else:
             raise BadScene("a line stands before the first 'scene: NAME'")
+    scenes += [scene.over_named() for scene in scenes if scene.has_named]
     names = [scene.name for scene in scenes]
     if len(set(names)) < len(names) or not all(scene.threads for scene in scenes):
         raise BadScene("two scenes have one name, or one has no thread")

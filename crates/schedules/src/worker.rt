@@ -2,54 +2,35 @@
 
 use crate::calls::{Answer, Call, Done};
 use crate::seen::Seen;
+use crate::sets::Shared;
 use crate::texts::{Case, Word};
 use serde_json::Value;
 use std::sync::Wait;
 use std::sync::atomic::{AtomicU64, Ordering};
-use string_cache::dynamic_set::Set;
-use string_cache::{DefaultAtom, EmptyStaticAtomSet, Fault};
+use string_cache::Fault;
 
 /// The most atoms of a thread, and calls, for which it has room before it begins.
 const ROOM: usize = 8;
 
 /// An atom, and the word that it has to have.
 #[derive(Drop)]
-struct Kept<'s> {
-    atom: DefaultAtom<'s>,
+struct Kept<S: Shared> {
+    atom: S::Atom,
     word: Word,
 }
 
-impl<'s> Kept<'s> {
-    /// The atom of its text in this case.
-    fn in_case<R: Wait>(
-        &self,
-        rt: &R,
-        set: &'s Set<EmptyStaticAtomSet>,
-        case: Case,
-    ) -> Result<DefaultAtom<'s>, Fault> {
-        match case {
-            Case::Lower => self.atom.to_ascii_lowercase_in(rt, set),
-            Case::Upper => self.atom.to_ascii_uppercase_in(rt, set),
-        }
-    }
-}
-
 #[derive(Drop)]
-pub struct Worker<'s> {
-    set: &'s Set<EmptyStaticAtomSet>,
-    clock: &'s AtomicU64,
+pub struct Worker<'c, S: Shared> {
+    set: S,
+    clock: &'c AtomicU64,
     thread: u64,
-    atoms: Vec<Kept<'s>>,
+    atoms: Vec<Kept<S>>,
     done: Vec<Done>,
 }
 
-impl<'s> Worker<'s> {
+impl<'c, S: Shared> Worker<'c, S> {
     /// A worker without atoms.
-    pub fn new(
-        set: &'s Set<EmptyStaticAtomSet>,
-        clock: &'s AtomicU64,
-        thread: u64,
-    ) -> Result<Worker<'s>, Fault> {
+    pub fn new(set: S, clock: &'c AtomicU64, thread: u64) -> Result<Worker<'c, S>, Fault> {
         let alloc = set.allocator();
         Ok(Worker {
             set,
@@ -120,12 +101,12 @@ impl<'s> Worker<'s> {
         text: &'static str,
         begun: u64,
         word: Word,
-        given: Result<DefaultAtom<'s>, Fault>,
+        given: Result<S::Atom, Fault>,
     ) -> Result<(), Fault> {
         let answer = match &given {
             Ok(atom) => {
-                let ticket = atom.unsafe_data();
-                if atom.eq_str(word.as_str()) {
+                let ticket = S::ticket(atom);
+                if S::is_of(atom, word.as_str()) {
                     Answer::Ticket(ticket)
                 } else {
                     Answer::OtherText(ticket)
@@ -143,7 +124,7 @@ impl<'s> Worker<'s> {
     fn intern<R: Wait>(&mut self, rt: &R, word: Word) -> Result<(), Fault> {
         let text = word.as_str();
         let begun = self.tick();
-        let given = DefaultAtom::from_str_in(rt, self.set, text);
+        let given = self.set.intern(rt, text);
         self.keep(Call::Intern(word), text, begun, word, given)
     }
 
@@ -151,7 +132,7 @@ impl<'s> Worker<'s> {
         let text = word.as_str();
         let value = Value::String(String::from_str(self.set.allocator(), text)?);
         let begun = self.tick();
-        let given = DefaultAtom::from_json_in(rt, self.set, &value);
+        let given = self.set.read(rt, &value);
         self.keep(Call::Read(word), text, begun, word, given)
     }
 
@@ -159,7 +140,7 @@ impl<'s> Worker<'s> {
         let text = word.as_str();
         let begun = self.tick();
         let call = Call::Find(word);
-        match DefaultAtom::get_in(rt, self.set, text) {
+        match self.set.find(rt, text) {
             Ok(None) => self.note(call, text, begun, Answer::Absent),
             Ok(Some(atom)) => self.keep(call, text, begun, word, Ok(atom)),
             Err(fault) => self.keep(call, text, begun, word, Err(fault)),
@@ -172,7 +153,7 @@ impl<'s> Worker<'s> {
         };
         let word = *word;
         let begun = self.tick();
-        let given = atom.clone_atom(rt);
+        let given = S::copy(rt, atom);
         self.keep(Call::Clone, word.as_str(), begun, word, given)
     }
 
@@ -183,7 +164,7 @@ impl<'s> Worker<'s> {
         };
         let word = kept.word;
         let begun = self.tick();
-        let given = kept.in_case(rt, set, case);
+        let given = set.in_case(rt, &kept.atom, case);
         self.keep(
             Call::ToCase(case),
             word.as_str(),
@@ -197,8 +178,8 @@ impl<'s> Worker<'s> {
         let Some(Kept { atom, word }) = self.atoms.pop() else {
             return Ok(());
         };
-        let ticket = atom.unsafe_data();
-        let answer = if atom.eq_str(word.as_str()) {
+        let ticket = S::ticket(&atom);
+        let answer = if S::is_of(&atom, word.as_str()) {
             Answer::Ticket(ticket)
         } else {
             Answer::OtherText(ticket)
@@ -223,14 +204,13 @@ impl<'s> Worker<'s> {
     fn visit<R: Wait>(&mut self, rt: &R) -> Result<(), Fault> {
         let begun = self.tick();
         let mut seen = Seen::nothing();
-        self.set
-            .for_each(rt, |text, holders| seen.meet(text, holders));
+        self.set.visit(rt, &mut seen);
         self.note(Call::Visit, "-", begun, seen.answer())
     }
 
     fn measure<R: Wait>(&mut self, rt: &R) -> Result<(), Fault> {
         let begun = self.tick();
-        let _ = self.set.memory(rt);
+        self.set.measure(rt);
         self.note(Call::Memory, "-", begun, Answer::Nothing)
     }
 }

@@ -1,0 +1,179 @@
+//! The two kinds of sets that a scene may run over, and what it asks of them.
+
+use crate::seen::Seen;
+use crate::texts::Case;
+use named_atoms::NamedAtom;
+use named_set::{NamedSet, SetName};
+use serde_json::Value;
+use std::alloc::Global;
+use std::sync::Wait;
+use string_cache::dynamic_set::Set;
+use string_cache::{DefaultAtom, EmptyStaticAtomSet, Fault};
+
+/// A set that threads share, by what each of them has of it.
+pub trait Shared: Copy {
+    /// An atom of the set.
+    type Atom: Drop;
+
+    fn allocator(self) -> Global;
+
+    fn intern<R: Wait>(self, rt: &R, text: &str) -> Result<Self::Atom, Fault>;
+
+    /// The atom of a JSON value's text.
+    fn read<R: Wait>(self, rt: &R, value: &Value) -> Result<Self::Atom, Fault>;
+
+    fn find<R: Wait>(self, rt: &R, text: &str) -> Result<Option<Self::Atom>, Fault>;
+
+    fn copy<R: Wait>(rt: &R, atom: &Self::Atom) -> Result<Self::Atom, Fault>;
+
+    /// The atom of its text in this case.
+    fn in_case<R: Wait>(self, rt: &R, atom: &Self::Atom, case: Case) -> Result<Self::Atom, Fault>;
+
+    fn ticket(atom: &Self::Atom) -> u64;
+
+    fn is_of(atom: &Self::Atom, text: &str) -> bool;
+
+    fn sweep<R: Wait>(self, rt: &R);
+
+    fn linked<R: Wait>(self, rt: &R) -> u128;
+
+    /// Meets each entry.
+    fn visit<R: Wait>(self, rt: &R, seen: &mut Seen);
+
+    fn measure<R: Wait>(self, rt: &R);
+}
+
+impl<'s> Shared for &'s Set<EmptyStaticAtomSet> {
+    type Atom = DefaultAtom<'s>;
+
+    fn allocator(self) -> Global {
+        Set::allocator(self)
+    }
+
+    fn intern<R: Wait>(self, rt: &R, text: &str) -> Result<DefaultAtom<'s>, Fault> {
+        DefaultAtom::from_str_in(rt, self, text)
+    }
+
+    fn read<R: Wait>(self, rt: &R, value: &Value) -> Result<DefaultAtom<'s>, Fault> {
+        DefaultAtom::from_json_in(rt, self, value)
+    }
+
+    fn find<R: Wait>(self, rt: &R, text: &str) -> Result<Option<DefaultAtom<'s>>, Fault> {
+        DefaultAtom::get_in(rt, self, text)
+    }
+
+    fn copy<R: Wait>(rt: &R, atom: &DefaultAtom<'s>) -> Result<DefaultAtom<'s>, Fault> {
+        atom.clone_atom(rt)
+    }
+
+    fn in_case<R: Wait>(
+        self,
+        rt: &R,
+        atom: &DefaultAtom<'s>,
+        case: Case,
+    ) -> Result<DefaultAtom<'s>, Fault> {
+        match case {
+            Case::Lower => atom.to_ascii_lowercase_in(rt, self),
+            Case::Upper => atom.to_ascii_uppercase_in(rt, self),
+        }
+    }
+
+    fn ticket(atom: &DefaultAtom<'s>) -> u64 {
+        atom.unsafe_data()
+    }
+
+    fn is_of(atom: &DefaultAtom<'s>, text: &str) -> bool {
+        atom.eq_str(text)
+    }
+
+    fn sweep<R: Wait>(self, rt: &R) {
+        Set::sweep(self, rt)
+    }
+
+    fn linked<R: Wait>(self, rt: &R) -> u128 {
+        Set::linked(self, rt)
+    }
+
+    fn visit<R: Wait>(self, rt: &R, seen: &mut Seen) {
+        self.for_each(rt, |text, holders| seen.meet(text, holders));
+    }
+
+    fn measure<R: Wait>(self, rt: &R) {
+        let _ = self.memory(rt);
+    }
+}
+
+impl<'s, N: SetName> Shared for &'s NamedSet<EmptyStaticAtomSet, N> {
+    type Atom = NamedAtom<'s, EmptyStaticAtomSet, N>;
+
+    fn allocator(self) -> Global {
+        NamedSet::allocator(self)
+    }
+
+    fn intern<R: Wait>(
+        self,
+        rt: &R,
+        text: &str,
+    ) -> Result<NamedAtom<'s, EmptyStaticAtomSet, N>, Fault> {
+        NamedAtom::from_str_in(rt, self, text)
+    }
+
+    fn read<R: Wait>(
+        self,
+        rt: &R,
+        value: &Value,
+    ) -> Result<NamedAtom<'s, EmptyStaticAtomSet, N>, Fault> {
+        NamedAtom::from_json_in(rt, self, value)
+    }
+
+    fn find<R: Wait>(
+        self,
+        rt: &R,
+        text: &str,
+    ) -> Result<Option<NamedAtom<'s, EmptyStaticAtomSet, N>>, Fault> {
+        NamedAtom::get_in(rt, self, text)
+    }
+
+    fn copy<R: Wait>(
+        rt: &R,
+        atom: &NamedAtom<'s, EmptyStaticAtomSet, N>,
+    ) -> Result<NamedAtom<'s, EmptyStaticAtomSet, N>, Fault> {
+        atom.clone_atom(rt)
+    }
+
+    fn in_case<R: Wait>(
+        self,
+        rt: &R,
+        atom: &NamedAtom<'s, EmptyStaticAtomSet, N>,
+        case: Case,
+    ) -> Result<NamedAtom<'s, EmptyStaticAtomSet, N>, Fault> {
+        match case {
+            Case::Lower => atom.to_ascii_lowercase_in(rt, self),
+            Case::Upper => atom.to_ascii_uppercase_in(rt, self),
+        }
+    }
+
+    fn ticket(atom: &NamedAtom<'s, EmptyStaticAtomSet, N>) -> u64 {
+        atom.unsafe_data()
+    }
+
+    fn is_of(atom: &NamedAtom<'s, EmptyStaticAtomSet, N>, text: &str) -> bool {
+        atom.eq_str(text)
+    }
+
+    fn sweep<R: Wait>(self, rt: &R) {
+        NamedSet::sweep(self, rt)
+    }
+
+    fn linked<R: Wait>(self, rt: &R) -> u128 {
+        NamedSet::linked(self, rt)
+    }
+
+    fn visit<R: Wait>(self, rt: &R, seen: &mut Seen) {
+        self.for_each(rt, |text, holders| seen.meet(text, holders));
+    }
+
+    fn measure<R: Wait>(self, rt: &R) {
+        let _ = self.memory(rt);
+    }
+}
