@@ -98,13 +98,13 @@ fn declare_all<'s, N: SetName, R: Wait>(
     Ok(())
 }
 
-/// Whether those are the numbers that readers were told.
-fn numbers_are<N: SetName>(told: &[Told<N>], wanted: &[Option<u32>]) -> bool {
-    told.len() == wanted.len()
-        && told
-            .iter()
-            .zip(wanted)
-            .all(|(told, wanted)| told.number == *wanted)
+/// The numbers that readers were told.
+fn numbers_of<N: SetName>(alloc: Global, all: &[Told<N>]) -> Result<Vec<Option<u32>>, Fault> {
+    let mut numbers = Vec::with_capacity(alloc, all.len())?;
+    for told in all {
+        numbers.push(told.number)?;
+    }
+    Ok(numbers)
 }
 
 /// Eight readers of a map of three names, one of which was declared twice.
@@ -133,7 +133,8 @@ fn eight_are_told<N: SetName + Send + Sync, R: Threads + Wait + Sync>(
         Some(3),
         None,
     ];
-    Ok(numbers_are(told.as_slice(), &wanted))
+    let numbers = numbers_of(alloc, told.as_slice())?;
+    Ok(are_same(numbers.as_slice(), &wanted))
 }
 
 /// The same, in the set with this name.
