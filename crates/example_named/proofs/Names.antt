@@ -20,7 +20,7 @@ found_has P test (e ∷ es) k all found = by (test e.0) (found_has P test es k (
     by false go is = go is
 
 -- a word that is found has the text of a name
-pub found_is_declared : (declared : Declared) (name key : HeldWord) → lookup_key (λ (k : HeldWord). name.word == k.word) declared ≡ Some key → AreOneToOne key name → IsUndeclared declared name.text → ⊥
+pub found_is_declared : (declared : Declared) (name key : HeldWord) → lookup_key (λ (k : HeldWord). name.word == k.word) declared ≡ Some key → AreOneToOne key.word name.word key.text name.text → IsUndeclared declared name.text → ⊥
 found_is_declared declared name key found agree none =
     let passes : (name.word == key.word) ≡ true = lookup_key_passes (λ (k : HeldWord). name.word == k.word) declared key found in
     found_has (λ (k : HeldWord). k.text ≢ name.text) (λ (k : HeldWord). name.word == k.word) declared key none found (agree.0 (sym (eqb-true name.word key.word passes)))
@@ -34,6 +34,6 @@ still_undeclared m n name number None text puts stay other none =
 still_undeclared m n name number (Some before) text puts stay other none = subst (λ (ks : List HeldWord). All (λ (k : HeldWord). k.text ≢ text) ks) (sym (stay refl)) none
 
 -- what is found beside the only name
-pub beside : (declared : Declared) (name asked : HeldWord) (number : Option ℕ) → AreOneToOne name asked → number_at declared name.word ≡ number → HasOnly declared name.word → IsFound name.text number asked.text (number_at declared asked.word)
+pub beside : (declared : Declared) (name asked : HeldWord) (number : Option ℕ) → AreOneToOne name.word asked.word name.text asked.text → number_at declared name.word ≡ number → HasOnly declared name.word → IsFound name.text number asked.text (number_at declared asked.word)
 beside declared name asked number agree has only =
     ((λ same. ap (number_at declared) (sym (agree.1 (sym same))) ∙ has), (λ apart. only asked.word (λ same. apart (sym (agree.0 (sym same))))))
