@@ -54,6 +54,30 @@ def runs_to_fail(program, test):
             return None
 
 
+class Own:
+    """The program of a crate's tests without a wrong body, and what was seen of them: how often each passed, and which were right as requests
+    were refused. Bodies that one test catches need no more of its runs than the one that took most."""
+
+    def __init__(self, program):
+        self.program = program
+        self.passed = {}
+        self.judged = {}
+
+    def passes(self, test, runs):
+        """Whether the test passes as often as this."""
+        while self.passed.get(test, 0) < runs:
+            if not passes(self.program, test, OWN_SECONDS):
+                return False
+            self.passed[test] = self.passed.get(test, 0) + 1
+        return True
+
+    def is_right(self, test):
+        """Whether the test is right as requests are refused."""
+        if test not in self.judged:
+            self.judged[test] = refuser(self.program, self.program.parent).judge(test)[0]
+        return self.judged[test]
+
+
 def judge_test(name, wrong, own):
     """Whether the test fails in the program with the wrong body, and not without it in the own one, and what to say."""
     test = named(tests_of(wrong), name)
@@ -62,7 +86,7 @@ def judge_test(name, wrong, own):
     runs = runs_to_fail(wrong, test)
     if not runs:
         return False, f"NOT CAUGHT: {name} passes"
-    if not all(passes(own, test, OWN_SECONDS) for _ in range(runs)):
+    if not own.passes(test, runs):
         return False, f"NOT CAUGHT: {name} fails without the body as well"
     return True, f"{name} fails, as it must"
 
@@ -70,7 +94,7 @@ def judge_test(name, wrong, own):
 def judge_refused(name, wrong, own):
     """Whether the test is wrong, as requests are refused, in the program with the wrong body, and right in the own one without it, and
     what to say."""
-    tried, without = refuser(wrong, wrong.parent), refuser(own, own.parent)
+    tried = refuser(wrong, wrong.parent)
     test = named(tried.tests(), name)
     if not test:
         return False, "BAD EDIT: there is no such test"
@@ -79,7 +103,7 @@ def judge_refused(name, wrong, own):
     well, text = tried.judge(test)
     if well:
         return False, f"NOT CAUGHT: {name}: {text}"
-    if not without.judge(test)[0]:
+    if not own.is_right(test):
         return False, f"NOT CAUGHT: {name} is wrong without the body as well"
     return True, f"{name} is wrong, as it must be: {text}"
 
@@ -175,7 +199,7 @@ def try_together(crate, edits, trials, root):
             else:
                 trials.add(try_alone, *edits)
             return
-        own = shared.program(0)
+        own = Own(shared.program(0))
         for number, edit in enumerate(edits, 1):
             wrong = shared.program(number)
             trials.tell(edit, *judge(edit, wrong, own))
@@ -186,7 +210,7 @@ def try_alone(edit, trials, root):
     """Tries an edit by a build of its own, beside one without it."""
     with tempfile.TemporaryDirectory(prefix="own-") as own_room, tempfile.TemporaryDirectory(prefix="wrong-") as room:
         try:
-            own = build(root / "crates" / edit.of, Path(own_room))
+            own = Own(build(root / "crates" / edit.of, Path(own_room)))
             with applied(edit, root):
                 wrong = build(root / "crates" / edit.of, Path(room))
             trials.tell(edit, *judge(edit, wrong, own))

@@ -114,7 +114,7 @@ class Verdicts(WithPrograms):
     """What is said of a program with a wrong body, beside one without it."""
 
     def said(self, wrong, own, name="one"):
-        passed, text = caught.judge_test(name, wrong, own)
+        passed, text = caught.judge_test(name, wrong, caught.Own(own))
         self.assertEqual(passed, text == f"{name} fails, as it must")
         return text
 
@@ -135,6 +135,12 @@ class Verdicts(WithPrograms):
 
     def test_it_is_not_where_two_of_three_runs_pass_without_it(self):
         self.assertEqual(self.said(self.program("001"), self.program("001")), "NOT CAUGHT: one fails without the body as well")
+
+    def test_without_a_body_a_test_runs_no_more_often_than_any_body_asks_for(self):
+        own = caught.Own(self.program("0001"))
+        for wrong in ("1", "001", "1", "001"):
+            self.assertTrue(caught.judge_test("one", self.program(wrong), own)[0])
+        self.assertFalse(caught.judge_test("one", self.program("0001"), own)[0])
 
     def test_a_name_is_of_one_test(self):
         for name in ("two", "tests", "ne", "twice"):
@@ -268,8 +274,9 @@ class Build(InRoom):
         for name, (test, (old, new), _) in rows.items():
             edits.append(edit_in(self.room, name, f"test: {test}", "file: src/lib.rt", f"old: {old}", f"new: {new}"))
         shared = shared_builds.SharedBuild("few", edits, self.room, made)
+        own = caught.Own(shared.program(0))
         for number, edit in enumerate(edits, 1):
-            said[edit.path.stem] = caught.judge(edit, shared.program(number), shared.program(0))[1]
+            said[edit.path.stem] = caught.judge(edit, shared.program(number), own)[1]
         self.assertEqual(said, {name: wanted for name, (_, _, wanted) in rows.items()})
         self.assertEqual((self.room / "crates" / "few" / "src" / "lib.rt").read_text(encoding="utf-8"), CRATE)
 
