@@ -1,5 +1,5 @@
 //! The owner of a cell.
-ghost use Rattle.std.specs.Prelude.{◌≡◌, ◌^◌, ◌<◌, ◌≤◌, length, IfErr, IfOk};
+ghost use Rattle.std.specs.Prelude.{◌≡◌, ◌^◌, ◌<◌, ◌≤◌, length, IfErr, IfOk, IfSome};
 ghost use Rattle.counted_cell.specs.Cell.{block_size, most_bytes};
 
 use crate::block::{FreeRight, allocate, deallocate};
@@ -136,6 +136,15 @@ impl<A: Allocator> Owner<A> {
         ensures { IsReply self.now result }
     {
         ShareReply::one_more(rt, &self.cell)
+    }
+
+    /// One share more of the cell, by a single try that waits for nothing. `None` where another step on the count came between, or the cell
+    /// has no share, or as many as it may have: then nothing has changed. `add` tries on, and tells which.
+    #[inline]
+    pub fn try_add(&self) -> Option<CellShare>
+        ensures { IfSome result (λ share. share.cell ≡ self.now) }
+    {
+        CellShare::tried(&self.cell)
     }
 
     /// Where the count reads 0: that no share is left. Where it reads 1 or more: that one was.

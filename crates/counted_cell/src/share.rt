@@ -31,8 +31,8 @@ impl Model for CellShare {
 }
 
 impl CellShare {
-    ghost use Rattle.counted_cell.specs.Counting.{share_right};
-    ghost use Rattle.counted_cell.specs.Cell.{IsBehind, share_of};
+    ghost use Rattle.counted_cell.specs.Counting.{CanRead, share_right};
+    ghost use Rattle.counted_cell.specs.Cell.{IsBehind, cell_of, share_of};
     ghost use Rattle.counted_cell.specs.CellEntry.{entry_of};
 
     /// The share whose right it is.
@@ -86,12 +86,24 @@ impl CellShare {
     pub fn try_add(&self) -> Option<CellShare>
         ensures { IfSome result (λ share. share.cell ≡ self.now.cell) }
     {
-        let content = self.cell.get();
-        let (seen, _) = self.cell.load();
+        CellShare::tried(&self.cell)
+    }
+
+    /// One share more of the cell, by a load and an exchange, where the count stands between 0 and the limit and no step comes between.
+    #[inline]
+    pub(crate) fn tried(cell: &CellRef<Content>) -> Option<CellShare>
+        requires reads { CanRead cell.now.right }
+        requires grows { cell.now.name.grows ≡ true }
+        requires limit { (cell.now.value.label.limit ≡ cell.now.name.limit) × (cell.now.name.limit < 2 ^ 63) }
+        requires place { IsBehind cell.now }
+        ensures { IfSome result (λ share. share.cell ≡ cell_of cell.now) }
+    {
+        let content = cell.get();
+        let (seen, _) = cell.load();
         if seen == 0 || seen >= content.label.limit {
             return None;
         }
-        let (found, _, more) = self.cell.increment(seen);
+        let (found, _, more) = cell.increment(seen);
         if found == seen {
             return Some(CellShare::of_ref(more));
         }

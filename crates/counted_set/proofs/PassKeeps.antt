@@ -1,6 +1,5 @@
 -- What a bucket keeps after a pass.
 use Rattle.std.proofs.Common.{◌≡◌, ◌≢◌, ℕ, ◌≤◌, List, [], ◌∷◌, ◌++◌, length, Bool, sym, ◌∙◌, ap, subst, arith}
-use Rattle.std.proofs.lemmas.List.{append-nil}
 use Rattle.std.specs.List.{AllByRecursion}
 use Rattle.std.specs.Prelude.{Option}
 use Rattle.text_forms.specs.Pass.{PassReply, added, full, died, gone, stays, kept}
@@ -55,7 +54,7 @@ is_kept_of_kept t bits last es rs h = record {
 module _ {C S : Type 0} (adds : C → Linked → CountReply S → C → Type 0) (dies : C → Linked → Bool → C → Type 0) where
   module _ (t : Tables) (b : Chain) (wanted : Option (List ℕ)) (c d : C) (w v : Walked Linked) (answer : Pass S) (start : w ≡ at_start b.entries) (p : IsPassLeft adds dies wanted c w answer d v) where
     all_after : v.passed ++ v.left ≡ p.after
-    all_after = ap (λ l. v.passed ++ l) p.none ∙ append-nil v.passed ∙ p.passed ∙ ap (λ (u : Walked Linked). u.passed ++ p.after) start
+    all_after = p.all ∙ ap (λ (u : Walked Linked). u.passed ++ p.after) start
 
     -- what is left is what the pass leaves of the bucket's entries
     pub is_pass_after : IsPass adds dies wanted c b.entries answer d (v.passed ++ v.left)

@@ -62,9 +62,8 @@ module _ {C S : Type 0} (adds : C → Linked → CountReply S → C → Type 0) 
             answers = answers rs p.pass.answers;
             left = ap (λ l. kept l (r ∷ rs)) (sym at);
           };
-          passed = p.passed ∙ ap (λ l. l ++ p.after) passed ∙ append_assoc w.passed (kept (e ∷ []) (r ∷ [])) p.after
+          all = p.all ∙ ap (λ l. l ++ p.after) passed ∙ append_assoc w.passed (kept (e ∷ []) (r ∷ [])) p.after
               ∙ ap (λ l. w.passed ++ l) (ap (λ l. kept (e ∷ []) (r ∷ []) ++ l) (p.pass.left ∙ ap (λ l. kept l rs) left) ∙ sym (keeps rs));
-          none = p.none;
         }
 
   module _ (c m : C) (w u : Walked Linked) (e : Linked) (rest : List Linked) (at : w.left ≡ e ∷ rest) where

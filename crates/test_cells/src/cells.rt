@@ -163,6 +163,25 @@ fn single_tries(rt: HostRuntime) {
     tries(&rt, alloc, &text).expect(&rt, "an answer");
 }
 
+/// A share more of the owner's cell by a single try.
+fn owner_tried<A: Allocator>(owner: &Owner<A>) -> Option<ShareGuard> {
+    let share = owner.try_add()?;
+    Some(ShareGuard { share })
+}
+
+/// Those of an owner, at a limit of 2: one is had, at the limit there is none, and none once the shares were given back.
+#[test]
+fn single_tries_of_an_owner(rt: HostRuntime) {
+    let (owner, first) = make(rt.alloc(), 2, "interned").expect(&rt, "an answer");
+    let second = owner_tried(&owner).expect(&rt, "a share");
+    assert!(rt; second.share.text() == "interned");
+    assert!(rt; owner_tried(&owner).is_none());
+    assert!(rt; !first.gives_last());
+    assert!(rt; second.gives_last());
+    assert!(rt; owner_tried(&owner).is_none());
+    assert!(rt; frees(owner));
+}
+
 /// No share is left once both were given back.
 #[test]
 fn both_are_given_back(rt: HostRuntime) {

@@ -318,8 +318,20 @@ fn pass_left<R: Wait, C: Counts>(
     Pass::Absent
 }
 
-// Passes the next entry by, and takes out those after it which are dying.
+// Takes out those after the next entry which are dying. Often there are none after it, and then nothing moves.
+#[inline]
 fn prune_after<C: Counts>(decided: &mut Entries, counts: &mut C)
+    requires { 0 < length decided.old.left }
+    ensures { IsPassLeft C.adds C.dies None counts.old (passed_by decided.old decided.old.left) Pass.Absent counts.new decided.new }
+{
+    if decided.has_more() {
+        prune_behind(decided, counts);
+    }
+}
+
+// Passes the next entry by, and takes out those after it which are dying.
+#[inline(never)]
+fn prune_behind<C: Counts>(decided: &mut Entries, counts: &mut C)
     requires { 0 < length decided.old.left }
     ensures { IsPassLeft C.adds C.dies None counts.old (passed_by decided.old decided.old.left) Pass.Absent counts.new decided.new }
 {

@@ -49,8 +49,8 @@ pub trait Counts {
         ensures { dies self.old entry.now result self.new };
 }
 
-/// The counts that the entries have themselves. What is added is a share of the entry. It asks an entry what the entry's `add` asks, in one
-/// call fewer: each call that may wait is looked at when it returns.
+/// The counts that the entries have themselves. What is added is a share of the entry: by a single try, and where that gives none, by what the
+/// entry's `add` asks.
 #[derive(Drop)]
 pub struct OwnCounts;
 
@@ -65,8 +65,14 @@ impl Counts for OwnCounts {
     ghost dies = { λ _ _ _ _. ⊤ };
 
     fn add<R: Wait>(&mut self, rt: &R, entry: &Entry) -> CountReply<Share> {
-        let (reply, _) = entry.asked(rt);
-        reply
+        // Another step seldom comes between, so nothing has to wait.
+        match entry.try_add() {
+            Some(share) => CountReply::Added(share),
+            None => {
+                let (reply, _) = entry.asked(rt);
+                reply
+            }
+        }
     }
 
     fn dying(&mut self, entry: &Entry) -> bool {

@@ -1,6 +1,6 @@
 //! The entries of a bucket, with a place in them. Only this file knows how they are kept.
 
-ghost use Rattle.std.specs.Prelude.{◌≡◌, ◌+◌, ◌<◌, ◌≤◌, ◌∷◌, ◌++◌, [], length, IfOk, IfErr};
+ghost use Rattle.std.specs.Prelude.{◌≡◌, ◌+◌, ◌<◌, ◌≤◌, ◌↔◌, ◌∷◌, ◌++◌, [], length, IsTrue, IfOk, IfErr};
 ghost use Rattle.counted_set.specs.Quiet.{PassesQuiet};
 ghost use Rattle.counted_set.specs.Stored.{AreStored};
 ghost use Rattle.node_chain.specs.Packs.{joined};
@@ -64,6 +64,18 @@ impl Entries {
         ensures some { 0 < length self.now.left → 0 < result }
     {
         self.chain.remaining()
+    }
+
+    /// Whether there is an entry behind the next.
+    #[inline]
+    pub(super) fn has_more(&self) -> bool
+        ensures { IsTrue result ↔ (1 < length self.now.left) }
+    {
+        let count = match self.chain.look() {
+            Some(pack) => pack.len(),
+            None => return false,
+        };
+        self.at + 1 < count || self.chain.remaining() > 1
     }
 
     /// The next entry.

@@ -1,6 +1,6 @@
 //! Counted entries, and the shares of them.
 
-ghost use Rattle.std.specs.Prelude.{◌≡◌, ◌≤◌, ◌<◌, ◌^◌, ◌↔◌, length, IsTrue, IfOk};
+ghost use Rattle.std.specs.Prelude.{◌≡◌, ◌≤◌, ◌<◌, ◌^◌, ◌↔◌, length, IsTrue, IfOk, IfSome};
 ghost use Rattle.text_forms.specs.Layout.{holder_bound};
 ghost use Rattle.counted_cell.specs.Cell.{block_size};
 ghost use Rattle.counted_cell.specs.Counting.{none_left, some_receipt};
@@ -113,7 +113,19 @@ impl Entry {
         reply
     }
 
-    /// The same, with what was read.
+    /// One share more, by a single try that waits for nothing. `None` where another step on the count came between, or the entry is dying or
+    /// has as many as it may have: then nothing has changed.
+    #[inline]
+    pub(super) fn try_add(&self) -> Option<Share>
+        ensures { IfSome result (λ share. share ≡ self.now) }
+    {
+        let share = self.owner.try_add()?;
+        Some(Share { share })
+    }
+
+    /// What `add` answers, with what was read.
+    #[cold]
+    #[inline(never)]
     pub(super) fn asked<R: Wait>(&self, rt: &R) -> (CountReply<Share>, Reading)
         ensures read { (result.1.name ≡ self.now.name) × IsReadAs result.1.count self.now.limit result.0 }
         ensures added { IfAdded result.0 (λ share. share ≡ self.now) }
