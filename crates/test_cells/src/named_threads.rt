@@ -76,7 +76,8 @@ fn meet<R: Wait>(rt: &R, gate: &AtomicU64, times: u64) {
     }
 }
 
-/// Interns a text that nobody holds before, at the same time as another thread does, in each round. In how many both had one word.
+/// Interns a text that nobody holds before, at the same time as another thread does, in each round. In how many both had one word. If it is
+/// refused, the other needn't wait any more.
 fn intern_beside<N: SetName, R: Wait>(
     rt: &R,
     set: &Named<N>,
@@ -87,7 +88,13 @@ fn intern_beside<N: SetName, R: Wait>(
     let mut same = 0u64;
     for round in 0..ROUNDS {
         meet(rt, gate, 3 * round + 1);
-        let held = set.intern(rt, "Größenordnung")?;
+        let held = match set.intern(rt, "Größenordnung") {
+            Ok(held) => held,
+            Err(fault) => {
+                gate.store(u64::MAX / 2, Ordering::SeqCst);
+                return Err(fault);
+            }
+        };
         let word = held.word();
         mine.store(word, Ordering::SeqCst);
         meet(rt, gate, 3 * round + 2);
