@@ -7,4 +7,6 @@ mod cells;
 mod chains;
 #[cfg(test)]
 mod named;
+#[cfg(test)]
+mod named_threads;
 pub mod receipts;

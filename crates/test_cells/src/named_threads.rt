@@ -1,0 +1,206 @@
+//! What no clause says of threads at one set with a name: that two at one new text are given one word, and that many at the texts of one
+//! bucket are each given theirs and leave nothing.
+ghost use Rattle.std.specs.Prelude.{◌≡◌};
+
+use named_set::{FreshName, NamedSet, SetName};
+use std::alloc::Global;
+use std::marker::Brand;
+use std::sync::Wait;
+use std::sync::atomic::{AtomicU64, Ordering};
+use std::thread::{self, Threads};
+use text_forms::Fault;
+use text_forms::static_sets::{EmptyStaticAtomSet, StaticTables};
+use text_forms::word::{Buckets, Limits};
+
+type Named<N> = NamedSet<EmptyStaticAtomSet, N>;
+
+/// What threads do at once in one set.
+#[derive(Clone, Copy)]
+enum Race {
+    /// Two intern one new text.
+    OneText,
+    /// Many intern, find, clone and drop the texts of one bucket.
+    OneBucket,
+}
+
+/// Whether it ends as it must, in a new set of 2 to the power of `bits` buckets.
+fn is_won<R: Threads + Wait + Sync>(
+    rt: &R,
+    alloc: Global,
+    bits: u8,
+    race: Race,
+) -> Result<bool, Fault> {
+    let count = match Buckets::new(bits) {
+        Some(count) => count,
+        None => Buckets::usual(),
+    };
+    let name = FreshName::new(alloc, count)?;
+    is_won_named::<Brand, R>(rt, alloc, name, count, race)
+}
+
+fn is_won_named<N: SetName + Send + Sync, R: Threads + Wait + Sync>(
+    rt: &R,
+    alloc: Global,
+    name: FreshName,
+    count: Buckets,
+    race: Race,
+) -> Result<bool, Fault>
+    requires { N.logs ≡ name.logs }
+{
+    let set = NamedSet::new(alloc, name, Limits::greatest())?;
+    match race {
+        Race::OneText => two_at_one_text::<N, R>(rt, &set),
+        Race::OneBucket => many_at_one_bucket::<N, R>(rt, alloc, &set, count),
+    }
+}
+
+/// How often two threads meet at one text.
+const ROUNDS: u64 = 2_000;
+
+/// Where two threads wait for each other, and the words that they were given.
+#[derive(Drop)]
+struct Meeting {
+    gate: AtomicU64,
+    one: AtomicU64,
+    two: AtomicU64,
+}
+
+/// Waits until two threads have come here as often as this.
+fn meet<R: Wait>(rt: &R, gate: &AtomicU64, times: u64) {
+    let _ = gate.fetch_add(1, Ordering::SeqCst);
+    for _ in rt.forever() {
+        if gate.load(Ordering::SeqCst) >= times.saturating_mul(2) {
+            return;
+        }
+        thread::yield_now();
+    }
+}
+
+/// Interns a text that nobody holds before, at the same time as another thread does, in each round. In how many both had one word. If it is
+/// refused, the other needn't wait any more.
+fn intern_beside<N: SetName, R: Wait>(
+    rt: &R,
+    set: &Named<N>,
+    gate: &AtomicU64,
+    mine: &AtomicU64,
+    other: &AtomicU64,
+) -> Result<u64, Fault> {
+    let mut same = 0u64;
+    for round in 0..ROUNDS {
+        meet(rt, gate, 3 * round + 1);
+        let held = match set.intern(rt, "Größenordnung") {
+            Ok(held) => held,
+            Err(fault) => {
+                gate.store(u64::MAX / 2, Ordering::SeqCst);
+                return Err(fault);
+            }
+        };
+        let word = held.word();
+        mine.store(word, Ordering::SeqCst);
+        meet(rt, gate, 3 * round + 2);
+        same = same.saturating_add(u64::from(other.load(Ordering::SeqCst) == word));
+        meet(rt, gate, 3 * round + 3);
+    }
+    Ok(same)
+}
+
+/// Two threads at one new text. Whether both had one word in each round, and nothing stayed.
+fn two_at_one_text<N: SetName + Send + Sync, R: Threads + Wait + Sync>(
+    rt: &R,
+    set: &Named<N>,
+) -> Result<bool, Fault> {
+    let at = Meeting {
+        gate: AtomicU64::new(0),
+        one: AtomicU64::new(0),
+        two: AtomicU64::new(0),
+    };
+    let (left, right) = thread::join(
+        rt,
+        || intern_beside(rt, set, &at.gate, &at.one, &at.two),
+        || intern_beside(rt, set, &at.gate, &at.two, &at.one),
+    );
+    Ok(left? == ROUNDS && right? == ROUNDS && set.linked(rt) == 0)
+}
+
+/// Of two threads that find a text absent one links it, and the other is given the same word.
+#[test]
+fn two_threads_at_one_new_text(rt: HostRuntime) {
+    assert!(rt; is_won(&rt, rt.alloc(), 12, Race::OneText).expect(&rt, "an answer"));
+}
+
+/// Whether the text is one of the first bucket.
+fn is_mate(count: Buckets, text: &str) -> bool {
+    let (_, hash) = EmptyStaticAtomSet::look_up(text);
+    count.bucket_of(hash) == 0
+}
+
+/// Eleven texts beyond ASCII of the first bucket.
+fn bucket_mates(alloc: Global, count: Buckets) -> Result<Vec<String>, Fault> {
+    let mut mates = Vec::new(alloc);
+    for n in 0..100_000u32 {
+        let text = format!(in alloc; "Wörter{n}")?;
+        if is_mate(count, text.as_str()) {
+            mates.push(text)?;
+        }
+        if mates.len() == 11 {
+            break;
+        }
+    }
+    Ok(mates)
+}
+
+/// Whether a text that is held twice, and then once, is found under its word.
+fn is_given<N: SetName, R: Wait>(rt: &R, set: &Named<N>, text: &str) -> Result<bool, Fault> {
+    let first = set.intern(rt, text)?;
+    let held = first.clone_held(rt)?;
+    drop(first);
+    let found = match set.find(rt, text)? {
+        Some(found) => found == held,
+        None => false,
+    };
+    Ok(found && held.text() == text)
+}
+
+/// Whether each of the texts is.
+fn are_given<N: SetName, R: Wait>(rt: &R, set: &Named<N>, texts: &[String]) -> Result<bool, Fault> {
+    for text in texts {
+        if !is_given(rt, set, text)? {
+            return Ok(false);
+        }
+    }
+    Ok(true)
+}
+
+/// Whether they are, again and again.
+fn turn_over<N: SetName, R: Wait>(rt: &R, set: &Named<N>, texts: &[String]) -> Result<bool, Fault> {
+    for _ in 0..100 {
+        if !are_given(rt, set, texts)? {
+            return Ok(false);
+        }
+    }
+    Ok(true)
+}
+
+/// 64 workers at texts of one bucket. Whether each was given its texts, and whether none is left linked.
+fn many_at_one_bucket<N: SetName + Send + Sync, R: Threads + Wait + Sync>(
+    rt: &R,
+    alloc: Global,
+    set: &Named<N>,
+    count: Buckets,
+) -> Result<bool, Fault> {
+    let mates = bucket_mates(alloc, count)?;
+    let texts = mates.as_slice();
+    let turns = thread::map_indices(rt, alloc, 64, &|_| turn_over(rt, set, texts))?;
+    set.sweep(rt);
+    let all = turns.len() == 64 && turns.iter().all(|turn| *turn == Ok(true));
+    Ok(all && texts.len() == 11 && set.linked(rt) == 0)
+}
+
+/// Each of 64 workers is given its texts, and nothing stays.
+#[test]
+fn many_workers_at_one_bucket(rt: HostRuntime) {
+    for bits in [0, 12] {
+        let won = is_won(&rt, rt.alloc(), bits, Race::OneBucket);
+        assert!(rt; won.expect(&rt, "an answer"), "with {bits} bits");
+    }
+}
