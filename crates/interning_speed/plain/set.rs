@@ -136,19 +136,16 @@ pub fn live(texts: &Texts) {
 fn compare_timed(name: &str, lefts: &[Atom], rights: &[Atom], is_equal: bool) {
     let (mut done, start) = (0, Instant::now());
     for (left, right) in lefts.iter().zip(rights) {
-        done += usize::from((black_box(left) == black_box(right)) == is_equal);
+        done += usize::from((left == right) == is_equal);
     }
     say(name, rights.len(), done, start.elapsed());
 }
 
-fn compare_long(set: &Set, calls: usize) {
-    let left = set.intern(&"interned, ".repeat(1000));
-    let right = left.clone();
-    let (mut done, start) = (0, Instant::now());
-    for _ in 0..calls {
-        done += usize::from(black_box(&left) == black_box(&right));
-    }
-    say("== of one text of 10,000 bytes", calls, done, start.elapsed());
+fn compare_long(set: &Set, count: usize) {
+    let text = "interned, ".repeat(1000);
+    let lefts = vec![set.intern(&text); count];
+    let rights = lefts.clone();
+    compare_timed("== of one text of 10,000 bytes", &lefts, &rights, true);
 }
 
 /// In a map by where texts lie.

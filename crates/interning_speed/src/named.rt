@@ -8,7 +8,6 @@ use named_atoms::{ByWord, NamedAtom};
 use named_set::{FreshName, NamedSet, SetName};
 use std::alloc::Global;
 use std::collections::HashMap;
-use std::hint::black_box;
 use std::marker::Brand;
 use std::rt::Clock;
 use std::sync::Wait;
@@ -103,23 +102,27 @@ impl<'s, N: SetName, R: Wait + Clock> Measured<'s, N, R> {
         let mut done = 0usize;
         let start = Instant::now(self.rt)?;
         for (left, right) in lefts.iter().zip(rights) {
-            let same = black_box(left) == black_box(right);
-            done = done.wrapping_add(usize::from(same == is_equal));
+            done = done.wrapping_add(usize::from((left == right) == is_equal));
         }
         self.note(name, rights.len(), done, start)
     }
 
-    /// Compares two atoms of one long text so often.
-    fn compare_long(&mut self, calls: usize) -> Result<(), anyhow::Error> {
+    /// So many atoms of a long text.
+    fn long_ones(&self, count: usize) -> Result<Vec<Word<'s, N>>, Fault> {
         let text = "interned, ".repeat(self.set.allocator(), 1000)?;
-        let left = NamedAtom::from_str_in(self.rt, self.set, text.as_str())?;
-        let right = left.clone_atom(self.rt)?;
-        let mut done = 0usize;
-        let start = Instant::now(self.rt)?;
-        for _call in 0..calls {
-            done = done.wrapping_add(usize::from(black_box(&left) == black_box(&right)));
+        let atom = NamedAtom::from_str_in(self.rt, self.set, text.as_str())?;
+        let mut atoms = Vec::with_capacity(self.set.allocator(), count)?;
+        for _atom in 0..count {
+            atoms.push(atom.clone_atom(self.rt)?)?;
         }
-        self.note("== of one text of 10,000 bytes", calls, done, start)
+        Ok(atoms)
+    }
+
+    /// Compares atoms of one long text.
+    fn compare_long(&mut self, count: usize) -> Result<(), anyhow::Error> {
+        let lefts = self.long_ones(count)?;
+        let rights = self.long_ones(count)?;
+        self.compare("== of one text of 10,000 bytes", &lefts, &rights, true)
     }
 
     /// Looks each word up in a map that has them all.
@@ -184,7 +187,7 @@ fn measure_named<N: SetName, R: Wait + Clock>(
 }
 
 /// The same, in this set: interning texts that are new, and in another order where they are there, cloning the atoms in that order, the
-/// comparison of clones with their atoms and with others, and of two atoms of a long text, the ends of the clones, look-ups by words, and
+/// comparison of clones with their atoms and with others, and of atoms of one long text, the ends of the clones, look-ups by words, and
 /// the ends of the last atoms.
 fn measure_in<N: SetName, R: Wait + Clock>(
     rt: &R,
