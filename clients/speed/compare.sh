@@ -1,7 +1,7 @@
 #!/usr/bin/env bash
-# Times of the table for C beside what one would use instead: uthash, maps of Rust's std, of hashbrown and indexmap, dict and sys.intern of
-# Python. Programs whose tools or libraries aren't there are left out. Of each, the least of several turns, on one processor, in processor time: nanoseconds of a call, and bytes for
-# each text.
+# Times of the table for C beside what one would use instead: uthash, g_intern_string of glib, maps of Rust's std, of hashbrown and indexmap, dict
+# and sys.intern of Python. Programs whose tools or libraries aren't there are left out. Of each, the least of several turns, on one processor, in
+# processor time: nanoseconds of a call, and bytes for each text.
 #
 # usage: clients/speed/compare.sh LIBRARY [TEXTS [TURNS]]     LIBRARY is a folder that tools/c_library.sh filled
 set -euo pipefail
@@ -22,6 +22,13 @@ cc -O2 -I "$library" "$here/table.c" "$library/libstring_cache.a" -o "$room/tabl
 programs+=("$room/table $texts")
 if cc -O2 "$here/plain_uthash.c" -o "$room/plain_uthash" 2> "$room/said"; then
     programs+=("$room/plain_uthash $texts")
+fi
+if has pkg-config; then
+    glib=$(pkg-config --cflags --libs glib-2.0 2> "$room/said" || true)
+    # shellcheck disable=SC2086
+    if cc -O2 "$here/plain_glib.c" $glib -o "$room/plain_glib" 2> "$room/said"; then
+        programs+=("$room/plain_glib $texts")
+    fi
 fi
 if has rustc && rustc -O --edition 2021 "$here/plain.rs" -o "$room/plain" 2> "$room/said"; then
     programs+=("$room/plain $texts map" "$room/plain $texts interner")

@@ -48,3 +48,8 @@ done
 for threads in 1 2 4; do
     compare crowd 20000 12 "$threads"
 done
+for bits in 12 14; do
+    for texts in 10000 100000; do
+        compare named "$texts" "$bits" 1
+    done
+done

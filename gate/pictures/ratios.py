@@ -60,6 +60,8 @@ def group_name(what):
         return "Set, a few texts over and over"
     if subject == "live":
         return f"Set of {2 ** int(bits):,} buckets, {number} live texts"
+    if subject == "named":
+        return f"Set with a name, {2 ** int(bits):,} buckets, {number} live texts"
     return f"Set, {number} texts, threads: {threads}"
 
 

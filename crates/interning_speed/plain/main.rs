@@ -20,13 +20,14 @@ fn main() {
     let number = |at: usize| args.get(at).and_then(|word| word.parse().ok());
     // The third argument is for the library alone.
     let (Some(count), Some(workers)) = (number(1), number(3)) else {
-        panic!("usage: plain table|hot|live|crowd N BITS WORKERS");
+        panic!("usage: plain table|hot|live|crowd|named N BITS WORKERS");
     };
     match args[0].as_str() {
         "table" => map::table(&Texts::new(count)),
         "hot" => set::hot(count),
         "live" => set::live(&Texts::new(count)),
         "crowd" => set::crowd(&Texts::new(count), workers),
-        _ => panic!("usage: plain table|hot|live|crowd N BITS WORKERS"),
+        "named" => set::named(&Texts::new(count)),
+        _ => panic!("usage: plain table|hot|live|crowd|named N BITS WORKERS"),
     }
 }

@@ -3,7 +3,7 @@
 use crate::say;
 use crate::texts::Texts;
 use std::collections::hash_map::RandomState;
-use std::collections::HashSet;
+use std::collections::{HashMap, HashSet};
 use std::hash::BuildHasher;
 use std::hint::black_box;
 use std::sync::{Arc, Mutex, MutexGuard};
@@ -97,33 +97,81 @@ fn intern_all<'s>(set: &'s Set, texts: &[String]) -> Vec<Atom<'s>> {
     texts.iter().map(|text| set.intern(text)).collect()
 }
 
+fn intern_timed<'s>(set: &'s Set, name: &str, texts: &[String]) -> Vec<Atom<'s>> {
+    let start = Instant::now();
+    let atoms = intern_all(set, texts);
+    say(name, texts.len(), atoms.len(), start.elapsed());
+    atoms
+}
+
+fn clone_timed<'s>(atoms: &[Atom<'s>]) -> Vec<Atom<'s>> {
+    let start = Instant::now();
+    let clones = atoms.to_vec();
+    say("clone", atoms.len(), clones.len(), start.elapsed());
+    clones
+}
+
+fn drop_timed(set: &Set, name: &str, mut atoms: Vec<Atom>, is_last: bool) {
+    let (calls, before, start) = (atoms.len(), set.len(), Instant::now());
+    while let Some(atom) = atoms.pop() {
+        drop(atom);
+    }
+    let time = start.elapsed();
+    let gone = before - set.len();
+    say(name, calls, if is_last { gone } else { calls - gone }, time);
+}
+
 pub fn live(texts: &Texts) {
     let set = &Set::new();
-    let intern = |name, texts: &[String]| {
-        let start = Instant::now();
-        let atoms = intern_all(set, texts);
-        say(name, texts.len(), atoms.len(), start.elapsed());
-        atoms
-    };
-    let drop_all = |name, mut atoms: Vec<Atom>, is_last: bool| {
-        let (calls, before, start) = (atoms.len(), set.len(), Instant::now());
-        while let Some(atom) = atoms.pop() {
-            drop(atom);
-        }
-        let time = start.elapsed();
-        let gone = before - set.len();
-        say(name, calls, if is_last { gone } else { calls - gone }, time);
-    };
-    let first = intern("intern of a new text", &texts.first);
-    let again = intern("intern of a text that is there", &texts.again);
-    let start = Instant::now();
-    let clones = again.clone();
-    say("clone", again.len(), clones.len(), start.elapsed());
-    drop_all("drop of a clone", clones, false);
+    let first = intern_timed(set, "intern of a new text", &texts.first);
+    let again = intern_timed(set, "intern of a text that is there", &texts.again);
+    let clones = clone_timed(&again);
+    drop_timed(set, "drop of a clone", clones, false);
     drop(first);
-    let newest = intern("intern of one more new text", &texts.more);
-    drop_all("last drop, of the newest", newest, true);
-    drop_all("last drop, of any", again, true);
+    let newest = intern_timed(set, "intern of one more new text", &texts.more);
+    drop_timed(set, "last drop, of the newest", newest, true);
+    drop_timed(set, "last drop, of any", again, true);
+}
+
+fn compare_timed(name: &str, lefts: &[Atom], rights: &[Atom], is_equal: bool) {
+    let (mut done, start) = (0, Instant::now());
+    for (left, right) in lefts.iter().zip(rights) {
+        done += usize::from((left == right) == is_equal);
+    }
+    say(name, rights.len(), done, start.elapsed());
+}
+
+fn compare_long(set: &Set, count: usize) {
+    let text = "interned, ".repeat(1000);
+    let lefts = vec![set.intern(&text); count];
+    let rights = lefts.clone();
+    compare_timed("== of one text of 10,000 bytes", &lefts, &rights, true);
+}
+
+/// In a map by where texts lie.
+fn look_up_timed(atoms: &[Atom]) {
+    let place = |atom: &Atom| Arc::as_ptr(&atom.text).cast::<u8>();
+    let places: HashMap<*const u8, usize> = atoms.iter().map(place).zip(0..).collect();
+    let start = Instant::now();
+    let done = atoms
+        .iter()
+        .filter(|atom| places.contains_key(&place(atom)))
+        .count();
+    say("look-up in a map by words", atoms.len(), done, start.elapsed());
+}
+
+pub fn named(texts: &Texts) {
+    let set = &Set::new();
+    let first = intern_timed(set, "intern of a new text", &texts.first);
+    let again = intern_timed(set, "intern of a text that is there", &texts.again);
+    let clones = clone_timed(&again);
+    compare_timed("== of one text", &again, &clones, true);
+    compare_timed("== of two texts", &again, &clones[1..], false);
+    compare_long(set, texts.first.len());
+    drop_timed(set, "drop of a clone", clones, false);
+    look_up_timed(&first);
+    drop(first);
+    drop_timed(set, "last drop, of any", again, true);
 }
 
 fn over_and_over(name: &str, rounds: usize, len: usize, mut call: impl FnMut(usize) -> bool) {

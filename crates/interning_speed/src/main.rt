@@ -5,6 +5,7 @@ mod crowd;
 mod elements;
 mod hot;
 mod live;
+mod named;
 mod phases;
 mod table;
 mod texts;
@@ -42,6 +43,8 @@ enum Subject {
     Live,
     /// The set, with this number of texts, interned by threads at once.
     Crowd,
+    /// The set with a name, with this number of live texts.
+    Named,
 }
 
 /// What the arguments ask for.
@@ -65,19 +68,27 @@ impl fmt::Display for Subject {
             Subject::Hot => "set, hot",
             Subject::Live => "set, live texts",
             Subject::Crowd => "set, threads",
+            Subject::Named => "set with a name, live texts",
         })
     }
 }
 
-const ALL: [Subject; 4] = [Subject::Table, Subject::Hot, Subject::Live, Subject::Crowd];
+const ALL: [Subject; 5] = [
+    Subject::Table,
+    Subject::Hot,
+    Subject::Live,
+    Subject::Crowd,
+    Subject::Named,
+];
 
 /// The subject that the word names, or `None` where it names all. `Err` where it is no word for either.
-fn named(word: &str) -> Result<Option<Subject>, ()> {
+fn subject_of(word: &str) -> Result<Option<Subject>, ()> {
     match word {
         "table" => Ok(Some(Subject::Table)),
         "hot" => Ok(Some(Subject::Hot)),
         "live" => Ok(Some(Subject::Live)),
         "crowd" => Ok(Some(Subject::Crowd)),
+        "named" => Ok(Some(Subject::Named)),
         "all" => Ok(None),
         _ => Err(()),
     }
@@ -98,7 +109,7 @@ fn command_of(
     };
     Some(Command {
         report,
-        only: named(subject).ok()?,
+        only: subject_of(subject).ok()?,
         number: number.parse::<usize>().ok()?,
         buckets: bits.parse::<u8>().ok().and_then(Buckets::new)?,
         workers: workers.parse::<usize>().ok()?,
@@ -145,6 +156,10 @@ fn measure<R: Threads + Wait + Clock + Sync>(
             phases.push(crowd::measure(rt, &set, &texts, command.workers)?)?;
             Ok(phases)
         }
+        Subject::Named => {
+            let texts = Texts::new(alloc, command.number)?;
+            named::measure(rt, alloc, command.buckets, &texts)
+        }
     }
 }
 
@@ -162,7 +177,7 @@ fn print(rt: &impl Print, report: Report, phase: &Phase) -> Result<(), anyhow::E
 fn main(rt: HostRuntime) -> Result<(), anyhow::Error> {
     let Some(command) = asked_for(&rt)? else {
         println!(rt;
-            "usage: interning_speed counts|times table|hot|live|crowd|all N BITS WORKERS"
+            "usage: interning_speed counts|times table|hot|live|crowd|named|all N BITS WORKERS"
         )?;
         return Ok(());
     };
