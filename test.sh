@@ -1,10 +1,10 @@
 #!/usr/bin/env bash
 # The gate: every proof from nothing, the edits of must-fail that the prover has to refuse, every test, each program as two compilers
-# build it (rt ci), then the other wrong bodies that the prover has to refuse, many in a check, each request for memory or a thread refused
-# under the tests that rt ci built, the schedules of small scenes, the script that counts over many machines, and the library for C with its
-# clients and their wrong bodies. Each wrong body that a test has to catch begins where rt ci leaves a processor idle, and so do the static types
-# that a script writes, the scripts by which users begin, the one that reviews wrong bodies, the pictures, and what is said of wrong bodies. The
-# last lines tell what each part took, and sum up.
+# build it (rt ci), then each request for memory or a thread refused under the tests that rt ci built, the schedules of small scenes, the script
+# that counts over many machines, and the library for C with its clients and their wrong bodies. What else there is begins where rt ci leaves
+# a processor idle: the wrong bodies that a test has to catch; the others that the prover has to refuse, many in a check, of each crate that is
+# proved by then; the static types that a script writes, the scripts by which users begin, the one that reviews wrong bodies, the pictures, and what
+# is said of wrong bodies. The last lines tell what each part took, and sum up.
 #
 # `./test.sh quick [CRATE ..]` isn't the gate: it proves what changed over kept work, and runs the tests that see it (gate/quick.py).
 set -uo pipefail
@@ -61,6 +61,8 @@ run ci rt ci &
 ci=$!
 run caught gate/caught.py --tested --beside "$ci" > "$said/bodies" &
 bodies=$!
+run prover gate/refused_bodies.py --proved --beside "$ci" --said "$said/ci" --jobs "${RT_JOBS:-2}" > "$said/edits" &
+edits=$!
 # What reads nothing that rt ci makes begins where that leaves a processor idle, too.
 while read -r -u 5 name script; do
     gate/idle.py "$ci"
@@ -75,8 +77,6 @@ verdicts caught_test.py
 END
 scripts=$!
 wait "$ci"
-run prover gate/refused_bodies.py --proved --jobs "${RT_JOBS:-2}" > "$said/edits" &
-edits=$!
 run schedules gate/schedules/schedules.py --gate --jobs 2 > "$said/scenes" &
 scenes=$!
 run refused gate/refused.py

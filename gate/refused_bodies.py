@@ -12,9 +12,12 @@ of must-fail/ in a check of its own, and takes any refusal, wherever it is.
 Each crate is proved as it stands first, unless --proved says that `rt ci` has just done so. A crate is also WRONG where a check refuses a
 function that no body changes at a goal of its own.
 
+With --beside PID and --said FILE, while that process runs, which is an `rt ci` that writes to this file, a crate is tried once it says that the
+crate is proved, and if a processor is idle.
+
 What passed is kept in ~/.cache/jatzurbin, by a sum of all that was read: a later run tries only what changed. --anew tries all.
 
-usage: gate/refused_bodies.py [--jobs N] [--proved] [--anew] [CRATE ..]     without names: all crates that have such bodies
+usage: gate/refused_bodies.py [--jobs N] [--proved] [--beside PID --said FILE] [--anew] [CRATE ..]     without names: all crates that have such bodies
 """
 
 import argparse
@@ -24,18 +27,22 @@ import os
 import re
 import sys
 import tempfile
+import threading
+import time
 from concurrent.futures import ThreadPoolExecutor
 from pathlib import Path
 
 import batches
 import find_tools  # has Python find the modules of tools/
 import further
+from caught import Turns, runs
 from edits import BadEdit, changes_in
 from repository import TOP, crates_listed, said_by, stands_on
 
 KEPT = Path(os.environ.get("XDG_CACHE_HOME") or Path.home() / ".cache") / "jatzurbin" / "refused"
 TOOLS = ("refused_bodies.py", "batches.py", "further.py", "edits.py")
 SAID = 400  # how much is told of what was said
+PROVED = re.compile(r"^rt: (\w+) (?:proved$|is kept: )", re.MULTILINE)  # what `rt ci` says of a crate that it is done with
 MEASURED = {  # seconds of crates whose bodies take more, or less, than others
     "commands": 600, "counted_set": 590, "string_cache_core": 530, "example_tables": 460, "string_cache": 350, "table_generator": 350,
     "string_cache_c": 320, "word_counts": 320, "counted_cell": 280, "atomic_steps": 220, "text_forms": 180,
@@ -128,21 +135,63 @@ def try_crate(folder, copy, is_proved, is_anew):
     return results
 
 
+class Queue:
+    """The folders of crates whose bodies are still to be tried, in their order. While an `rt ci` runs beside, those that it has proved."""
+
+    def __init__(self, folders, process=None, said=None):
+        self.left = list(folders)
+        self.process = process
+        self.said = said
+        self.turns = Turns(process)
+        self.lock = threading.Lock()
+
+    def first_proved(self):
+        """The first crate that needn't wait, or None."""
+        if not runs(self.process):
+            return next(iter(self.left), None)
+        proved = set(PROVED.findall(self.said.read_text(encoding="utf-8", errors="replace"))) if self.said.is_file() else set()
+        return next((folder for folder in self.left if folder.name in proved), None)
+
+    def take(self):
+        """Takes a crate out once one needn't wait, or answers None where none is left."""
+        with self.lock:
+            while self.left:
+                if self.first_proved():
+                    self.turns.wait()
+                    folder = self.first_proved()
+                    self.left.remove(folder)
+                    return folder
+                time.sleep(3)
+        return None
+
+
+def try_all(queue, room, is_proved, is_anew):
+    """Tries the bodies of crates until none is left, each in a copy in the room. Whether each passed, or could be read."""
+    results = []
+    while folder := queue.take():
+        copy = batches.copies_of([folder.name], room / folder.name)[folder.name]
+        results += try_crate(folder, copy, is_proved, is_anew)
+    return results
+
+
 def main():
     parser = argparse.ArgumentParser(description=__doc__, formatter_class=argparse.RawDescriptionHelpFormatter)
     parser.add_argument("--jobs", type=int, default=1)
     parser.add_argument("--proved", action="store_true")
+    parser.add_argument("--beside", type=int, metavar="PID")
+    parser.add_argument("--said", type=Path, metavar="FILE")
     parser.add_argument("--anew", action="store_true")
     parser.add_argument("crates", nargs="*")
     given = parser.parse_args()
+    if given.beside and not given.said:
+        parser.error("--beside wants --said")
     folders = {path.parent.name: path.parent for path in sorted(TOP.glob("crates/*/refused"))}
     if set(given.crates) - set(folders):
         sys.exit(f"refused_bodies: no wrong bodies stand in {', '.join(sorted(set(given.crates) - set(folders)))}")
     chosen = [folders[name] for name in folders if not given.crates or name in given.crates]
-    chosen.sort(key=lambda folder: -cost(folder))
-    with tempfile.TemporaryDirectory(prefix="refused-") as room, ThreadPoolExecutor(max(1, given.jobs)) as lanes:
-        copies = batches.copies_of([folder.name for folder in chosen], Path(room))
-        tried = lanes.map(lambda folder: try_crate(folder, copies[folder.name], given.proved, given.anew), chosen)
+    queue, jobs = Queue(sorted(chosen, key=lambda folder: -cost(folder)), given.beside, given.said), max(1, given.jobs)
+    with tempfile.TemporaryDirectory(prefix="refused-") as room, ThreadPoolExecutor(jobs) as lanes:
+        tried = lanes.map(lambda _: try_all(queue, Path(room), given.proved, given.anew), range(jobs))
         results = [it for found in tried for it in found]
     print(f"{results.count(True)} passed, {results.count(False)} failed")
     return 0 if all(results) else 1

@@ -6,6 +6,7 @@ function, or don't compile.
 usage: gate/refused_bodies_test.py
 """
 
+import os
 import sys
 import tempfile
 import unittest
@@ -288,6 +289,31 @@ class Crate(InSmallRepository):
             folder = batches.copies_of(["few"], Path(room))["few"]
             (result,) = refused_bodies.judged([self.placed("wrong", "twice", ("(number) * 2", "(number) * 3"))], folder, False)
         self.assertEqual(result[1:2] + (result[2][:10],), (False, "NOT TRIED:"))
+
+
+class Turn(unittest.TestCase):
+    """Which crate's bodies are tried next."""
+
+    FIRST, SECOND = Path("first"), Path("second")
+
+    def test_a_crate_waits_until_it_is_proved(self):
+        with (
+            tempfile.TemporaryDirectory(prefix="refused-test-") as room,
+            mock.patch("caught.idle_processors", return_value=1),
+            mock.patch("time.sleep"),
+        ):
+            said = Path(room) / "said"
+            queue = refused_bodies.Queue([self.FIRST, self.SECOND], os.getpid(), said)
+            self.assertIsNone(queue.first_proved())
+            said.write_text("rt: first: its tests are proved\nrt: second proved\nrt: first NOT PROVED\n", encoding="utf-8")
+            self.assertEqual(queue.take(), self.SECOND)
+            self.assertIsNone(queue.first_proved())
+            said.write_text("rt: first is kept: an earlier run proved it\n", encoding="utf-8")
+            self.assertEqual((queue.take(), queue.take()), (self.FIRST, None))
+
+    def test_none_waits_where_no_other_process_proves_them(self):
+        queue = refused_bodies.Queue([self.FIRST, self.SECOND])
+        self.assertEqual((queue.take(), queue.take(), queue.take()), (self.FIRST, self.SECOND, None))
 
 
 def main():
