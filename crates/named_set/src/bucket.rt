@@ -115,6 +115,11 @@ impl<Static: StaticTables, N: SetName> Bucket<Static, N> {
     {
         self.prune();
         while let Some(at) = self.position(text, hash) {
+            // Another step seldom comes between, so nothing has to wait.
+            if let Some(share) = self.owners[at].try_add() {
+                let seen = self.seen();
+                return Ok(Some((share, seen)));
+            }
             match self.owners[at].add(rt) {
                 ShareReply::Added(share, _) => {
                     let seen = self.seen();

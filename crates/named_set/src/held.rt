@@ -112,15 +112,20 @@ impl<'s, Static: StaticTables, N: SetName> Held<'s, Static, N> {
         ensures same { IfOk result (λ held. held ≡ self.now) }
         ensures full { IfErr result (λ fault. fault ≡ FullCount) }
     {
-        match self.share.add(rt) {
-            Ok(share) => Ok(Held {
-                word: self.word,
-                share,
-                seen: self.seen.again(),
-                set: self.set,
-            }),
-            Err(_) => Err(Fault::FullCount),
-        }
+        // Another step seldom comes between, so nothing has to wait.
+        let share = match self.share.try_add() {
+            Some(share) => share,
+            None => match self.share.add(rt) {
+                Ok(share) => share,
+                Err(_) => return Err(Fault::FullCount),
+            },
+        };
+        Ok(Held {
+            word: self.word,
+            share,
+            seen: self.seen.again(),
+            set: self.set,
+        })
     }
 
     /// A law: two that are held have one word exactly if they have one text. It does nothing when it runs.
