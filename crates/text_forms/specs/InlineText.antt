@@ -1,13 +1,16 @@
--- What an `InlineText` holds: a text of at most 7 bytes, with zeros behind it.
-use Rattle.std.specs.Prelude.{◌≡◌, ℕ, ◌-◌, ◌≤◌, List, [], ◌++◌, length, take, replicate}
-use Rattle.std.specs.Str.{IsUtf8}
+-- What an `InlineText` holds: the bytes of its inline word, the low one first: the tag and the length, the text, and zeros.
+use Rattle.std.specs.Prelude.{◌≡◌, ℕ, ◌+◌, ◌*◌, ◌-◌, ◌/◌, List, [], ◌∷◌, ◌++◌, length, take, drop, replicate, slice_index}
+use Rattle.text_forms.specs.Word.{IsInlineText}
 use Rattle.text_forms.specs.declared.word.InlineText.TheInside.{Inside}
 
 abbrev pub text_of : Inside → List ℕ
-text_of t = take t.len t.bytes
+text_of t = take (slice_index t.bytes 0 / 16) (drop 1 t.bytes)
+
+abbrev pub word_bytes : List ℕ → List ℕ
+word_bytes text = (1 + 16 * length text) ∷ text ++ replicate (7 - length text) 0
 
 abbrev pub padded_text : List ℕ → Inside
-padded_text text = record { align = []; bytes = text ++ replicate (7 - length text) 0; len = length text }
+padded_text text = record { align = []; bytes = word_bytes text }
 
 abbrev pub IsPadded : Inside → Type 0
-IsPadded t = IsUtf8 (take t.len t.bytes) × (t.len ≤ 7) × (t.align ≡ []) × (length t.bytes ≡ 7) × (t.bytes ≡ take t.len t.bytes ++ replicate (7 - t.len) 0)
+IsPadded t = IsInlineText (text_of t) × (t.align ≡ []) × (t.bytes ≡ word_bytes (text_of t))

@@ -29,8 +29,7 @@ const USUAL_BITS: u8 = 12; // where no other number of buckets is chosen
 #[derive(Clone, Copy, PartialEq, Eq)]
 pub struct InlineText {
     align: [u64; 0], // as a word, so that it is copied as one
-    bytes: [u8; 7], // zeros behind the text
-    len: u8,
+    bytes: [u8; 8], // of its word, the low one first
 }
 
 impl Model for InlineText {
@@ -49,6 +48,7 @@ impl Model for InlineText {
 
 impl InlineText {
     /// A text of at most 7 bytes. `None` above.
+    #[inline]
     pub fn new(text: &str) -> Option<InlineText>
         ensures short { IsSome result ↔ (length text.now ≤ 7) }
         ensures text { IfSome result (λ inline. inline ≡ text.now) }
@@ -58,30 +58,29 @@ impl InlineText {
         if len > 7 {
             return None;
         }
-        let mut bytes = [0u8; 7];
-        bytes[..len].copy_from_slice(text);
-        Some(InlineText {
-            align: [],
-            bytes,
-            len: len as u8,
-        })
+        let mut bytes = [0u8; 8];
+        bytes[0] = 1 + 16 * len as u8;
+        bytes[1..1 + len].copy_from_slice(text);
+        Some(InlineText { align: [], bytes })
     }
 
     /// Its inline word.
+    #[inline]
     pub fn word(&self) -> u64
         ensures { result ≡ inline_word self.now }
     {
-        let [b0, b1, b2, b3, b4, b5, b6] = self.bytes;
-        u64::from_le_bytes([1 + 16 * self.len, b0, b1, b2, b3, b4, b5, b6])
+        u64::from_le_bytes(self.bytes)
     }
 
     /// The text.
+    #[inline]
     pub fn as_str(&self) -> &str
         ensures text { result.now ≡ self.now }
         ensures inline { IsInlineText self.now }
     {
+        let len = (self.bytes[0] / 16) as usize;
         // SAFETY: by the type's invariant these bytes are UTF-8, which the proof shows.
-        unsafe { str::from_utf8_unchecked(&self.bytes[..self.len as usize]) }
+        unsafe { str::from_utf8_unchecked(&self.bytes[1..1 + len]) }
     }
 }
 
@@ -122,22 +121,17 @@ pub fn unpack_inline(word: u64) -> Option<InlineText>
     ensures inline { IsSome result ↔ IsInlineWord word }
     ensures text { IfSome result (λ text. IsInlineText text × (inline_word text ≡ word)) }
 {
-    let [head, b0, b1, b2, b3, b4, b5, b6] = word.to_le_bytes();
-    let bytes = [b0, b1, b2, b3, b4, b5, b6];
-    let len = head / 16;
-    if head % 16 != 1 || len > 7 {
+    let bytes = word.to_le_bytes();
+    let len = bytes[0] / 16;
+    if bytes[0] % 16 != 1 || len > 7 {
         return None;
     }
-    let (text, behind) = bytes.split_at(len as usize);
+    let (text, behind) = bytes[1..].split_at(len as usize);
     if !behind.iter().all(|&byte| byte == 0) {
         return None;
     }
     match str::from_utf8(text) {
-        Ok(_) => Some(InlineText {
-            align: [],
-            bytes,
-            len,
-        }),
+        Ok(_) => Some(InlineText { align: [], bytes }),
         Err(_) => None,
     }
 }

@@ -1,12 +1,12 @@
 -- The number that bytes spell: one more byte below, zeros above, and eight bytes read at once.
-use Rattle.std.proofs.Common.{◌≡◌, ℕ, zero, suc, ◌+◌, ◌-◌, ◌*◌, ◌^◌, ◌≤◌, List, [], ◌∷◌, ◌++◌, length, take, get_or, refl, ap, ◌∙◌, arith, length-take}
+use Rattle.std.proofs.Common.{◌≡◌, ℕ, zero, suc, ◌+◌, ◌*◌, ◌^◌, List, [], ◌∷◌, ◌++◌, length, refl, arith}
 use Rattle.std.proofs.Math.ListN.{replicate}
 use Rattle.std.specs.Prelude.{sum_by}
 use Rattle.std.specs.List.{enumerate_from}
 use Rattle.std.specs.Int.{w64, from_le_bytes}
 use Rattle.std.proofs.lemmas.List.Sums.{sum_by-cons}
 use Rattle.std.proofs.lemmas.Nat.{pow-add}
-use Rattle.text_forms.specs.Word.{bytes_value, inline_word}
+use Rattle.text_forms.specs.Word.{bytes_value}
 
 abbrev worth : ℕ × ℕ → ℕ
 worth place = place.1 * 256 ^ place.0
@@ -49,26 +49,3 @@ from_le_bytes-bytes_value (a ∷ b ∷ c ∷ d ∷ e ∷ f ∷ []) l = absurd (o
 from_le_bytes-bytes_value (a ∷ b ∷ c ∷ d ∷ e ∷ f ∷ g ∷ []) l = absurd (omega arith)
 from_le_bytes-bytes_value (a ∷ b ∷ c ∷ d ∷ e ∷ f ∷ g ∷ h ∷ []) l = omega arith
 from_le_bytes-bytes_value (a ∷ b ∷ c ∷ d ∷ e ∷ f ∷ g ∷ h ∷ x ∷ bytes) l = absurd (omega arith)
-
--- seven elements are a list of seven
-seven : (bytes : List ℕ) → length bytes ≡ 7
-    → get_or bytes 0 0 ∷ get_or bytes 1 0 ∷ get_or bytes 2 0 ∷ get_or bytes 3 0 ∷ get_or bytes 4 0 ∷ get_or bytes 5 0 ∷ get_or bytes 6 0 ∷ [] ≡ bytes
-seven [] l = absurd (omega arith)
-seven (a ∷ []) l = absurd (omega arith)
-seven (a ∷ b ∷ []) l = absurd (omega arith)
-seven (a ∷ b ∷ c ∷ []) l = absurd (omega arith)
-seven (a ∷ b ∷ c ∷ d ∷ []) l = absurd (omega arith)
-seven (a ∷ b ∷ c ∷ d ∷ e ∷ []) l = absurd (omega arith)
-seven (a ∷ b ∷ c ∷ d ∷ e ∷ f ∷ []) l = absurd (omega arith)
-seven (a ∷ b ∷ c ∷ d ∷ e ∷ f ∷ g ∷ []) l = refl
-seven (a ∷ b ∷ c ∷ d ∷ e ∷ f ∷ g ∷ x ∷ bytes) l = absurd (omega arith)
-
--- the tag and the length n, and seven bytes that are zeros behind n of them
-pub packed : (bytes : List ℕ) (n : ℕ) → length bytes ≡ 7 → n ≤ 7 → bytes ≡ take n bytes ++ replicate (7 - n) 0
-    → from_le_bytes w64 ((1 + 16 * n) ∷ get_or bytes 0 0 ∷ get_or bytes 1 0 ∷ get_or bytes 2 0 ∷ get_or bytes 3 0 ∷ get_or bytes 4 0 ∷ get_or bytes 5 0 ∷ get_or bytes 6 0 ∷ []) ≡ inline_word (take n bytes)
-packed bytes n size short zeros =
-    let read = from_le_bytes-bytes_value ((1 + 16 * n) ∷ bytes) (ap suc size) in
-    let head = bytes_value-cons (1 + 16 * n) bytes in
-    let gone : length (take n bytes) ≡ n = length-take n bytes ∙ omega arith in
-    let value : bytes_value bytes ≡ bytes_value (take n bytes) = ap bytes_value zeros ∙ bytes_value-append_zeros (take n bytes) (7 - n) in
-    ap (λ xs. from_le_bytes w64 ((1 + 16 * n) ∷ xs)) (seven bytes size) ∙ omega arith

@@ -1,7 +1,7 @@
 -- The eight bytes of an inline word.
 use Rattle.std.proofs.Common.{◌≡◌, ℕ, zero, suc, ◌+◌, ◌-◌, ◌*◌, ◌/◌, ◌%◌, ◌^◌, ◌<◌, ◌≤◌, List, [], ◌∷◌, ◌++◌, length, take, drop, get_or, refl, sym, ap, ◌∙◌, arith, length-append, length-take, length-drop, subst}
 use Rattle.std.proofs.Math.ListN.{replicate, length-replicate}
-use Rattle.std.proofs.lemmas.List.{take-append-drop}
+use Rattle.std.proofs.lemmas.List.{take-append-drop, take_all}
 use Rattle.std.specs.Prelude.{true}
 use Rattle.std.specs.Str.{IsUtf8}
 use Rattle.std.proofs.Math.Seq.{take-append_seam, drop-append_seam}
@@ -10,61 +10,54 @@ use Rattle.std.proofs.lemmas.Bool.{eqb-true}
 use Rattle.std.proofs.Common.{eqb}
 use Rattle.std.specs.Int.{w64, from_le_bytes, to_le_bytes}
 use Rattle.std.proofs.lemmas.Nat.{from_le_bytes-to_le_bytes_8, le_bytes_8}
-use Rattle.text_forms.specs.Word.{bytes_value, inline_word, IsInlineText, IsInlineWord}
+use Rattle.text_forms.specs.Word.{inline_word, IsInlineText, IsInlineWord}
+use Rattle.text_forms.specs.InlineText.{word_bytes}
 use Rattle.text_forms.proofs.words.BytesValue.{bytes_value-cons, bytes_value-append_zeros, from_le_bytes-bytes_value}
 use Rattle.text_forms.proofs.words.TextBytes.{both, AllBytes, AllBytes-get_or, AllBytes-append, AllBytes-IsUtf8}
-
--- the second to eighth of eight bytes
-abbrev pub upper : List ℕ → List ℕ
-upper le = get_or le 1 0 ∷ get_or le 2 0 ∷ get_or le 3 0 ∷ get_or le 4 0 ∷ get_or le 5 0 ∷ get_or le 6 0 ∷ get_or le 7 0 ∷ []
-
-upper_read : (le : List ℕ) → from_le_bytes w64 le ≡ get_or le 0 0 + 256 * bytes_value (upper le)
-upper_read le = omega arith
-
-pub word_read : (word : ℕ) (le : List ℕ) → word < 2 ^ 64 → le ≡ to_le_bytes w64 word → get_or le 0 0 + 256 * bytes_value (upper le) ≡ word
-word_read word le fits is = sym (upper_read le) ∙ ap (from_le_bytes w64) is ∙ from_le_bytes-to_le_bytes_8 word fits
-
-pub padded : (bytes : List ℕ) (n k : ℕ) → drop n bytes ≡ replicate k 0 → bytes ≡ take n bytes ++ replicate k 0
-padded bytes n k zeros = sym (take-append-drop n bytes) ∙ ap (λ xs. take n bytes ++ xs) zeros
-
--- a word with the tag 1, the length n and zeros behind n bytes is the inline word of these
-pub unpacked : (word : ℕ) (le : List ℕ) (n : ℕ) → word < 2 ^ 64 → le ≡ to_le_bytes w64 word
-    → get_or le 0 0 ≡ 1 + 16 * n → n ≤ 7 → drop n (upper le) ≡ replicate (7 - n) 0 → inline_word (take n (upper le)) ≡ word
-unpacked word le n fits is head short zeros =
-    let read = word_read word le fits is in
-    let size : length (take n (upper le)) ≡ n = length-take n (upper le) ∙ omega arith in
-    let value : bytes_value (upper le) ≡ bytes_value (take n (upper le)) = ap bytes_value (padded (upper le) n (7 - n) zeros) ∙ bytes_value-append_zeros (take n (upper le)) (7 - n) in
-    omega arith
 
 AllBytes-zeros : (n : ℕ) → AllBytes (replicate n 0)
 AllBytes-zeros zero = tt
 AllBytes-zeros (suc n) = (omega arith, AllBytes-zeros n)
 
-abbrev frame : List ℕ → List ℕ
-frame text = (1 + 16 * length text) ∷ (text ++ replicate (7 - length text) 0)
-
-framed : (text : List ℕ) → IsInlineText text → from_le_bytes w64 (frame text) ≡ inline_word text
-framed text h =
-    let size : length (frame text) ≡ 8 = simp (length-append, length-replicate) (omega (arith, h.1)) in
-    from_le_bytes-bytes_value (frame text) size ∙ bytes_value-cons (1 + 16 * length text) (text ++ replicate (7 - length text) 0)
+-- the bytes that an `InlineText` holds spell the inline word of its text
+pub spelt : (text : List ℕ) → length text ≤ 7 → from_le_bytes w64 (word_bytes text) ≡ inline_word text
+spelt text short =
+    let size : length (word_bytes text) ≡ 8 = simp (length-append, length-replicate) (omega (arith, short)) in
+    from_le_bytes-bytes_value (word_bytes text) size ∙ bytes_value-cons (1 + 16 * length text) (text ++ replicate (7 - length text) 0)
     ∙ ap (λ n. 1 + 16 * length text + 256 * n) (bytes_value-append_zeros text (7 - length text))
 
 -- the bytes of the inline word of a text
-pub inline_bytes : (word : ℕ) (le text : List ℕ) → le ≡ to_le_bytes w64 word → IsInlineText text → inline_word text ≡ word → le ≡ frame text
+pub inline_bytes : (word : ℕ) (le text : List ℕ) → le ≡ to_le_bytes w64 word → IsInlineText text → inline_word text ≡ word → le ≡ word_bytes text
 inline_bytes word le text is h same =
-    let size : length (frame text) ≡ 8 = simp (length-append, length-replicate) (omega (arith, h.1)) in
-    let small = AllBytes-get_or (frame text) (omega (arith, h.1), AllBytes-append text (replicate (7 - length text) 0) (AllBytes-IsUtf8 text h.0) (AllBytes-zeros (7 - length text))) in
-    is ∙ le_bytes_8 (frame text) word size small (sym (framed text h ∙ same))
-
--- eight bytes are the lowest, and the others
-parted : (le : List ℕ) (word : ℕ) → le ≡ to_le_bytes w64 word → le ≡ get_or le 0 0 ∷ upper le
-parted le word is = is ∙ ap (λ xs. get_or xs 0 0 ∷ upper xs) (sym is)
+    let size : length (word_bytes text) ≡ 8 = simp (length-append, length-replicate) (omega (arith, h.1)) in
+    let small = AllBytes-get_or (word_bytes text) (omega (arith, h.1), AllBytes-append text (replicate (7 - length text) 0) (AllBytes-IsUtf8 text h.0) (AllBytes-zeros (7 - length text))) in
+    is ∙ le_bytes_8 (word_bytes text) word size small (sym (spelt text h.1 ∙ same))
 
 pub inline_parts : (word : ℕ) (le text : List ℕ) → le ≡ to_le_bytes w64 word → IsInlineText text → inline_word text ≡ word
-    → (get_or le 0 0 ≡ 1 + 16 * length text) × (upper le ≡ text ++ replicate (7 - length text) 0)
+    → (get_or le 0 0 ≡ 1 + 16 * length text) × (drop 1 le ≡ text ++ replicate (7 - length text) 0)
 inline_parts word le text is h same =
-    let whole = sym (parted le word is) ∙ inline_bytes word le text is h same in
+    let whole = inline_bytes word le text is h same in
     (ap (λ xs. get_or xs 0 0) whole, ap (drop 1) whole)
+
+-- eight bytes are the lowest, and the others
+parted : (le : List ℕ) → length le ≡ 8 → le ≡ get_or le 0 0 ∷ drop 1 le
+parted [] size = absurd (omega arith)
+parted (head ∷ rest) size = refl
+
+-- of eight bytes, all but the lowest are seven
+pub others : (le : List ℕ) → length le ≡ 8 → take 7 (drop 1 le) ≡ drop 1 le
+others le size = take_all 7 (drop 1 le) (omega (arith, length-drop 1 le))
+
+-- eight bytes with the tag 1, the length n and zeros behind n bytes are those of these n
+pub held : (le : List ℕ) (n : ℕ) → length le ≡ 8 → get_or le 0 0 ≡ 1 + 16 * n → n ≤ 7 → drop n (drop 1 le) ≡ replicate (7 - n) 0 → le ≡ word_bytes (take n (drop 1 le))
+held le n size head short zeros =
+    let count : length (take n (drop 1 le)) ≡ n = length-take n (drop 1 le) ∙ omega (arith, length-drop 1 le) in
+    let rest : drop 1 le ≡ take n (drop 1 le) ++ replicate (7 - n) 0 = sym (take-append-drop n (drop 1 le)) ∙ ap (λ xs. take n (drop 1 le) ++ xs) zeros in
+    parted le size ∙ (λ i. head i ∷ rest i) ∙ ap (λ k. (1 + 16 * k) ∷ take n (drop 1 le) ++ replicate (7 - k) 0) (sym count)
+
+-- and the word is the inline word of these n
+pub unpacked : (word : ℕ) (le text : List ℕ) → word < 2 ^ 64 → le ≡ to_le_bytes w64 word → length text ≤ 7 → le ≡ word_bytes text → inline_word text ≡ word
+unpacked word le text fits is short bytes = sym (spelt text short) ∙ ap (from_le_bytes w64) (sym bytes ∙ is) ∙ from_le_bytes-to_le_bytes_8 word fits
 
 pub zeros-from_list_all : (xs : List ℕ) → list_all (λ x. eqb x 0) xs ≡ true → xs ≡ replicate (length xs) 0
 zeros-from_list_all [] e = refl
@@ -79,19 +72,19 @@ list_all-zeros zero = refl
 list_all-zeros (suc n) = list_all-zeros n
 
 module _ (word : ℕ) (le : List ℕ) (is : le ≡ to_le_bytes w64 word) (inline : IsInlineWord word) where
-  pub text-inline : take (get_or le 0 0 / 16) (upper le) ≡ inline.0
+  pub text-inline : take (get_or le 0 0 / 16) (drop 1 le) ≡ inline.0
   text-inline =
       let parts = inline_parts word le inline.0 is inline.1 inline.2 in
       let count : get_or le 0 0 / 16 ≡ length inline.0 = omega (arith, parts.0) in
       (λ i. take (count i) (parts.1 i)) ∙ take-append_seam inline.0 (replicate (7 - length inline.0) 0)
 
-  pub zeros-inline : list_all (λ x. eqb x 0) (drop (get_or le 0 0 / 16) (upper le)) ≡ true
+  pub zeros-inline : list_all (λ x. eqb x 0) (drop (get_or le 0 0 / 16) (drop 1 le)) ≡ true
   zeros-inline =
       let parts = inline_parts word le inline.0 is inline.1 inline.2 in
       let count : get_or le 0 0 / 16 ≡ length inline.0 = omega (arith, parts.0) in
       ap (list_all (λ x. eqb x 0)) ((λ i. drop (count i) (parts.1 i)) ∙ drop-append_seam inline.0 (replicate (7 - length inline.0) 0)) ∙ list_all-zeros (7 - length inline.0)
 
-  pub utf8-inline : IsUtf8 (take (get_or le 0 0 / 16) (upper le))
+  pub utf8-inline : IsUtf8 (take (get_or le 0 0 / 16) (drop 1 le))
   utf8-inline = subst IsUtf8 (sym text-inline) inline.1.0
 
 -- what a test for zeros behind n bytes says
