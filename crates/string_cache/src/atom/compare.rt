@@ -36,6 +36,14 @@ impl<'s, Static: StaticTables> Atom<'s, Static> {
     {
         self.as_str().eq_ignore_ascii_case(other)
     }
+
+    /// The order of the bytes of both texts.
+    #[inline(never)]
+    fn order_of_texts(&self, other: &Self) -> Ordering
+        ensures { result ≡ slice_cmp nat_cmp self.now.text other.now.text }
+    {
+        self.as_str().cmp(other.as_str())
+    }
 }
 
 /// Atoms stand in the order of their texts' bytes, whichever sets they borrow.
@@ -44,6 +52,7 @@ impl<'s, Static: StaticTables> PartialOrd for Atom<'s, Static> {
 
     ghost laws = { on_po (λ a. a.text) texts_po };
 
+    #[inline]
     fn partial_cmp(&self, other: &Self) -> Option<Ordering> {
         Some(self.cmp(other))
     }
@@ -58,13 +67,14 @@ impl<'s, Static: StaticTables> Ord for Atom<'s, Static> {
 
     ghost matches_eq = { λ a b. texts_ties a.text b.text };
 
-    /// Where the text isn't dynamic, an equal one is told without its bytes.
+    /// Equal atoms are told first: most need no look at their bytes.
+    #[inline]
     #[tactic(auto, using(crate::proofs::Forms::equal_tied))]
     fn cmp(&self, other: &Self) -> Ordering {
-        if !self.is_dynamic() && self == other {
+        if self == other {
             return Ordering::Equal;
         }
-        self.as_str().cmp(other.as_str())
+        self.order_of_texts(other)
     }
 }
 
