@@ -9,6 +9,7 @@ use Rattle.text_forms.specs.Tables.{Tables, bucket_of, entry_hash, form_of_text,
 use Rattle.text_forms.specs.Word.{IsInlineText, inline_word, static_word, ticket_of}
 use Rattle.text_forms.proofs.words.Unpacking.{inline_word_same, inline_word_tag}
 use Rattle.named_set.specs.Words.{AreOneToOne, HeldWord}
+use Rattle.named_atoms.specs.NamedAtomValue.{IsWordOf}
 use Rattle.named_atoms.specs.NamedForm.{IsOwnForm, value_of_form}
 use Rattle.named_atoms.specs.declared.atom.Repr.{Repr}
 use Rattle.named_atoms.specs.declared.atom.Repr.TheVariants.{Inline, Static, Dynamic}
@@ -55,6 +56,12 @@ module _ (t : Tables) (buckets : ℕ) where
     (λ e. ap (text_at t) (let same : i ≡ j = omega arith in same)),
     (λ e. let forms : form.Static i ≡ form.Static j = sym is ∙ (ap (form_of_text t) e ∙ is') in let same : i ≡ j = cc in ap static_word same),
   )
+
+  -- the word of a form is one that an atom of the text may have
+  pub own_word : (a : Repr HeldWord) (word : ℕ) → word ≡ (value_of_form t a).word → IsOwnForm t buckets a → IsWordOf t buckets (value_of_form t a).text word
+  own_word (Inline s) word e is = rw (inline_form t s is) e
+  own_word (Static i) word e is = rw is.0 e
+  own_word (Dynamic h) word e is = rw (is.0, e) is.1
 
   -- what is known of two dynamic ones, it is known of any two
   pub words_agree : (a b : Repr HeldWord) → IsOwnForm t buckets a → IsOwnForm t buckets b → ((c d : HeldWord) → a ≡ Dynamic c → b ≡ Dynamic d → AreOneToOne c.word d.word c.text d.text)

@@ -1,6 +1,6 @@
 //! An atom of a set with a name: a text that is inline, static, or a held word of the set.
 
-ghost use Rattle.std.specs.Prelude.{◌≡◌, ◌↔◌, ◌+◌, ◌*◌, ◌<◌, [], length, string_bytes, IsTrue, IsSome, IfSome, IfOk, IfErr, OnErr, Ok, None, nat_eq};
+ghost use Rattle.std.specs.Prelude.{◌≡◌, ◌↔◌, ◌==◌, ◌+◌, ◌*◌, ◌<◌, [], length, string_bytes, IsTrue, IsSome, IfSome, IfOk, IfErr, OnErr, Ok, None, nat_eq};
 ghost use Rattle.std.specs.List.{Contains};
 ghost use Rattle.std.specs.Cmp;
 ghost use Rattle.std.specs.Cmp.{on_equiv};
@@ -8,17 +8,17 @@ ghost use Rattle.std.specs.Cmp.{on_per};
 ghost use Rattle.std.specs.Cmp.Lexicographic.{pointwise, nat_list_eq_equiv};
 ghost use Rattle.std.specs.Cow.{cow_str_bytes};
 ghost use Rattle.text_forms.specs.Faults.{IsInternFault};
-ghost use Rattle.text_forms.specs.Tables.{IsPerfectTable, IsStaticIndex, form_of_text, hash_number, is_dynamic, is_dynamic_form, is_inline_form, is_static_form, text_at};
+ghost use Rattle.text_forms.specs.declared.static_sets.TextForm.TheVariants as form;
+ghost use Rattle.text_forms.specs.Tables.{IsPerfectTable, IsStaticIndex, entry_hash, form_of_text, hash_number, is_dynamic, is_dynamic_form, is_inline_form, is_static_form, text_at};
 ghost use Rattle.text_forms.specs.Word.{IsInlineText, inline_word, static_word};
 ghost use Rattle.string_cache.specs.Packed.{IsPackable};
 ghost use Rattle.named_set.specs.Words.{AreOneToOne};
-ghost use Rattle.named_atoms.specs.NamedForm.{IsOwnForm, value_of_form};
 ghost use Rattle.named_atoms.specs.NamedAtomValue.{IsWordOf};
 
 mod case;
 mod compare;
 
-use named_set::{Held, NamedSet, SetName};
+use named_set::{Held, HeldCell, NamedSet, SetName};
 use std::borrow::CowStr;
 use std::marker::Model;
 use std::sync::Wait;
@@ -26,26 +26,28 @@ use text_forms::Fault;
 use text_forms::static_sets::{StaticTables, TextForm, form_of_text, static_text};
 use text_forms::word::{InlineText, static_word, unpack_inline};
 
-/// How an atom holds its text: `Word` is a held word.
+/// How an atom holds its text: `Share` is what is held of a text of the set.
 #[derive(Drop)]
-enum Repr<Word> {
+enum Repr<Share> {
     Inline(InlineText),
     /// The text at this index of the static tables.
     Static(u32),
-    Dynamic(Word),
+    Dynamic(Share),
 }
 
 /// A text of the set with this name, in the form that it has under the tables of its static type.
 ///
-/// Two atoms of one set have one word exactly if they have one text, whichever threads made them. A dynamic one is shared with the set
-/// `'s`: its end gives one share back, and never waits. In a clause an atom is its text and its word.
+/// Two atoms of one set have one word exactly if they have one text, whichever threads made them. The word lies in the atom, whatever its
+/// form is, so `==` compares two numbers. A dynamic one is shared with the set `'s`: its end gives one share back, and never waits. In a
+/// clause an atom is its text and its word.
 #[derive(Drop)]
 pub struct NamedAtom<'s, Static: StaticTables, N: SetName> {
-    form: Repr<Held<'s, Static, N>>,
+    word: u64,
+    form: Repr<HeldCell<'s, Static, N>>,
 }
 
 impl<'s, Static: StaticTables, N: SetName> Model for NamedAtom<'s, Static, N> {
-    ghost use Rattle.std.specs.Prelude.{length};
+    ghost use Rattle.std.specs.Prelude.{◌≡◌, length};
     ghost use Rattle.named_atoms.specs.NamedAtomValue.{NamedAtomValue};
 
     ghost Value = { NamedAtomValue };
@@ -54,15 +56,39 @@ impl<'s, Static: StaticTables, N: SetName> Model for NamedAtom<'s, Static, N> {
 
     ghost view = { λ a. value_of_form Static.tables a.form };
 
-    ghost invariant = { λ a. IsOwnForm Static.tables (length N.logs) a.form };
+    ghost invariant = { λ a. (a.word ≡ (value_of_form Static.tables a.form).word) × IsOwnForm Static.tables (length N.logs) a.form };
 }
 
 impl<'s, Static: StaticTables, N: SetName> NamedAtom<'s, Static, N> {
-    fn of_form(form: Repr<Held<'s, Static, N>>) -> Self
-        requires { IsOwnForm Static.tables (length N.logs) form }
-        ensures { result ≡ value_of_form Static.tables form.entry }
+    fn of_inline(text: InlineText) -> Self
+        requires { IsInlineText text }
+        ensures { result ≡ record { text = text; word = inline_word text } }
     {
-        NamedAtom { form }
+        NamedAtom {
+            word: text.word(),
+            form: Repr::Inline(text),
+        }
+    }
+
+    fn of_static(index: u32) -> Self
+        requires { IsStaticIndex Static.tables index × (index < length Static.tables.atoms) }
+        ensures { result ≡ record { text = text_at Static.tables index; word = static_word index } }
+    {
+        NamedAtom {
+            word: static_word(index),
+            form: Repr::Static(index),
+        }
+    }
+
+    fn of_held(held: Held<'s, Static, N>) -> Self
+        requires { form_of_text Static.tables held.text ≡ form.Dynamic (entry_hash Static.tables held.text) }
+        ensures { result ≡ record { text = held.entry.text; word = held.entry.word } }
+    {
+        let (word, share) = held.into_parts();
+        NamedAtom {
+            word,
+            form: Repr::Dynamic(share),
+        }
     }
 
     /// The atom of a text. A dynamic text is looked for in the set, and linked there if it is new. Inline and static texts
@@ -80,11 +106,11 @@ impl<'s, Static: StaticTables, N: SetName> NamedAtom<'s, Static, N> {
         ensures dynamic { OnErr result (IsTrue (is_dynamic Static.tables text.now)) }
     {
         match form_of_text::<Static>(text) {
-            TextForm::Inline(inline) => Ok(Self::of_form(Repr::Inline(inline))),
-            TextForm::Static(index) => Ok(Self::of_form(Repr::Static(index))),
+            TextForm::Inline(inline) => Ok(Self::of_inline(inline)),
+            TextForm::Static(index) => Ok(Self::of_static(index)),
             TextForm::Dynamic(hash) => {
                 let held = set.intern_hashed(rt, text, hash)?;
-                Ok(Self::of_form(Repr::Dynamic(held)))
+                Ok(Self::of_held(held))
             }
         }
     }
@@ -106,10 +132,10 @@ impl<'s, Static: StaticTables, N: SetName> NamedAtom<'s, Static, N> {
         ensures dynamic { OnErr result (IsTrue (is_dynamic Static.tables text.now)) }
     {
         match form_of_text::<Static>(text) {
-            TextForm::Inline(inline) => Ok(Some(Self::of_form(Repr::Inline(inline)))),
-            TextForm::Static(index) => Ok(Some(Self::of_form(Repr::Static(index)))),
+            TextForm::Inline(inline) => Ok(Some(Self::of_inline(inline))),
+            TextForm::Static(index) => Ok(Some(Self::of_static(index))),
             TextForm::Dynamic(hash) => match set.find_hashed(rt, text, hash)? {
-                Some(held) => Ok(Some(Self::of_form(Repr::Dynamic(held)))),
+                Some(held) => Ok(Some(Self::of_held(held))),
                 None => Ok(None),
             },
         }
@@ -152,9 +178,12 @@ impl<'s, Static: StaticTables, N: SetName> NamedAtom<'s, Static, N> {
         let form = match &self.form {
             Repr::Inline(text) => Repr::Inline(*text),
             Repr::Static(index) => Repr::Static(*index),
-            Repr::Dynamic(held) => Repr::Dynamic(held.clone_held(rt)?),
+            Repr::Dynamic(share) => Repr::Dynamic(share.clone_held(rt)?),
         };
-        Ok(Self::of_form(form))
+        Ok(NamedAtom {
+            word: self.word,
+            form,
+        })
     }
 
     /// Another atom of the same text and word, as `clone_atom` gives it.
@@ -174,7 +203,7 @@ impl<'s, Static: StaticTables, N: SetName> NamedAtom<'s, Static, N> {
         ensures listed { IsPerfectTable Static.tables → Contains Static.tables.atoms text.now → 7 < length text.now → IsSome result }
     {
         match form_of_text::<Static>(text) {
-            TextForm::Static(index) => Some(Self::of_form(Repr::Static(index))),
+            TextForm::Static(index) => Some(Self::of_static(index)),
             TextForm::Inline(_) | TextForm::Dynamic(_) => None,
         }
     }
@@ -186,7 +215,7 @@ impl<'s, Static: StaticTables, N: SetName> NamedAtom<'s, Static, N> {
         ensures atom { IfSome result (λ atom. atom ≡ record { text = text_at Static.tables n; word = static_word n }) }
     {
         static_text::<Static>(n)?;
-        Some(Self::of_form(Repr::Static(n)))
+        Some(Self::of_static(n))
     }
 
     /// The atom of the inline word `n + 16 * len + 1`. `None` where the low byte of `n` isn't zero or that isn't the word of
@@ -200,7 +229,7 @@ impl<'s, Static: StaticTables, N: SetName> NamedAtom<'s, Static, N> {
             return None;
         }
         let text = unpack_inline(n + 16 * u64::from(len) + 1)?;
-        Some(Self::of_form(Repr::Inline(text)))
+        Some(Self::of_inline(text))
     }
 
     /// The text.
@@ -210,7 +239,7 @@ impl<'s, Static: StaticTables, N: SetName> NamedAtom<'s, Static, N> {
         match &self.form {
             Repr::Inline(text) => text.as_str(),
             Repr::Static(index) => Static::text_at(*index),
-            Repr::Dynamic(held) => held.text(),
+            Repr::Dynamic(share) => share.text(),
         }
     }
 
@@ -224,15 +253,13 @@ impl<'s, Static: StaticTables, N: SetName> NamedAtom<'s, Static, N> {
     /// The word: the inline word of the text, the static word of its place, or a ticket of the bucket that its hash names. While two atoms
     /// of one set are there, their words are equal exactly if their texts are, as `agree` says.
     #[inline]
+    #[tactic(auto, using(crate::proofs::Agreeing::own_word))]
     pub fn unsafe_data(&self) -> u64
         ensures word { result ≡ self.now.word }
         ensures of_text { IsWordOf Static.tables (length N.logs) self.now.text result }
     {
-        match &self.form {
-            Repr::Inline(text) => text.word(),
-            Repr::Static(index) => static_word(*index),
-            Repr::Dynamic(held) => held.word(),
-        }
+        // It lies beside the form.
+        self.word
     }
 
     /// The number that the atom hashes as: the word of an inline text, the hash that the tables list for a static one, the
@@ -241,9 +268,9 @@ impl<'s, Static: StaticTables, N: SetName> NamedAtom<'s, Static, N> {
         ensures { result ≡ hash_number Static.tables self.now.text }
     {
         match &self.form {
-            Repr::Inline(text) => text.word(),
+            Repr::Inline(_) => self.word,
             Repr::Static(index) => Static::hash_at(*index),
-            Repr::Dynamic(held) => held.text_hash(),
+            Repr::Dynamic(share) => share.text_hash(),
         }
     }
 
@@ -269,6 +296,7 @@ impl<'s, Static: StaticTables, N: SetName> NamedAtom<'s, Static, N> {
     }
 
     /// A law: two atoms of one set have one word exactly if they have one text, in any of the forms. It does nothing when it runs.
+    #[inline]
     #[tactic(auto, using(crate::proofs::Agreeing::words_agree))]
     pub fn agree<'t>(&self, other: &NamedAtom<'t, Static, N>)
         ensures { AreOneToOne self.now.word other.now.word self.now.text other.now.text }
@@ -278,19 +306,14 @@ impl<'s, Static: StaticTables, N: SetName> NamedAtom<'s, Static, N> {
         }
     }
 
-    /// Whether the texts are the same, which reads none: by the words of two inline texts, the indexes of two static ones, and one
-    /// comparison of two numbers for two dynamic ones. Texts of different forms differ.
+    /// Whether the texts are the same, in any of the forms, by one comparison of two numbers, which reads no text.
     #[inline]
-    #[tactic(auto, using(text_forms::proofs::words::Unpacking::inline_word_same))]
     pub fn same<'t>(&self, other: &NamedAtom<'t, Static, N>) -> bool
-        ensures { IsTrue result ↔ (self.now.text ≡ other.now.text) }
+        ensures word { result ≡ (self.now.word == other.now.word) }
+        ensures text { IsTrue result ↔ (self.now.text ≡ other.now.text) }
     {
-        match (&self.form, &other.form) {
-            (Repr::Inline(one), Repr::Inline(two)) => one.word() == two.word(),
-            (Repr::Static(one), Repr::Static(two)) => one == two,
-            (Repr::Dynamic(one), Repr::Dynamic(two)) => one.same(two),
-            _ => false,
-        }
+        self.agree(other);
+        self.word == other.word
     }
 }
 
@@ -299,7 +322,7 @@ impl<'s, Static: StaticTables, N: SetName> Default for NamedAtom<'s, Static, N> 
     ghost is_default = { λ atom. atom ≡ record { text = []; word = 1 } };
 
     fn default() -> Self {
-        Self::of_form(Repr::Inline(InlineText::new("").unwrap()))
+        Self::of_inline(InlineText::new("").unwrap())
     }
 }
 

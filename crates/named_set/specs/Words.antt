@@ -11,8 +11,9 @@ pub record HeldWord : Type 0 where
   pub text : List ℕ
   pub name : CellName
 
-abbrev pub held_word : ℕ → Cell → HeldWord
-held_word word c = record { word = word; text = c.text; name = c.name }
+-- that of a cell: its word is the cell's ticket
+abbrev pub held_word : Cell → HeldWord
+held_word c = record { word = c.label.ticket; text = c.text; name = c.name }
 
 -- the word is a ticket of the text's bucket, one of so many
 pub record IsTicketOf (t : Tables) (buckets : ℕ) (text : List ℕ) (word : ℕ) : Type 0 where

@@ -1,6 +1,6 @@
 //! A bucket: what one lock holds.
 
-ghost use Rattle.std.specs.Prelude.{◌≡◌, ◌+◌, ◌<◌, length, slice_index_or, IfErr, IfOk, IfSome, None, Some, slice_get, IsTrue, ◌↔◌};
+ghost use Rattle.std.specs.Prelude.{◌≡◌, ◌+◌, ◌<◌, ◌≤◌, ℕ, length, slice_index_or, IfErr, IfOk, IfSome, None, Some, slice_get, IsTrue, ◌↔◌};
 ghost use Rattle.text_forms.specs.Faults.{IsInternFault};
 ghost use Rattle.text_forms.specs.Layout.{most_buckets};
 ghost use Rattle.text_forms.specs.Tables.{bucket_of, entry_hash};
@@ -97,8 +97,7 @@ impl<Static: StaticTables, N: SetName> Bucket<Static, N> {
         }
     }
 
-    /// The same, where a cell of the text is linked that has a share. First each cell of the bucket is taken out that has none.
-    #[tactic(auto, using(crate::proofs::Keeping::seen_at))]
+    /// The same, where a cell of the text is linked that has a share. Each cell of the bucket is taken out that has none.
     pub(crate) fn find<R: Wait>(
         &mut self,
         rt: &R,
@@ -113,20 +112,9 @@ impl<Static: StaticTables, N: SetName> Bucket<Static, N> {
         ensures same { self.new.number ≡ self.old.number }
         ensures refused { IfErr result (λ fault. fault ≡ FullCount) }
     {
-        self.prune();
-        while let Some(at) = self.position(text, hash) {
-            // Another step seldom comes between, so nothing has to wait.
-            if let Some(share) = self.owners[at].try_add() {
-                let seen = self.seen();
-                return Ok(Some((share, seen)));
-            }
-            match self.owners[at].add(rt) {
-                ShareReply::Added(share, _) => {
-                    let seen = self.seen();
-                    return Ok(Some((share, seen)));
-                }
-                ShareReply::Full(_) => return Err(Fault::FullCount),
-                ShareReply::Dying(none) => self.take_out(at, none),
+        while let Some(at) = self.pruned_position(text, hash) {
+            if let Some(found) = self.share_at(rt, at)? {
+                return Ok(Some(found));
             }
         }
         Ok(None)
@@ -137,10 +125,10 @@ impl<Static: StaticTables, N: SetName> Bucket<Static, N> {
         ensures same { self.new.number ≡ self.old.number }
         ensures less { LinksNoMore self.old.linked self.new.linked }
     {
-        let mut at = self.owners.len();
+        let mut at = self.len();
         while at > 0 {
             at -= 1;
-            if let Ok(none) = self.owners[at].dying() {
+            if let Ok(none) = self.owner_at(at).dying() {
                 self.take_out(at, none);
             }
         }
@@ -167,25 +155,64 @@ impl<Static: StaticTables, N: SetName> Bucket<Static, N> {
         sum
     }
 
-    // What its log is now.
+    // What its log is now, which shows of each linked cell that it stands there.
+    #[tactic(auto, using(crate::proofs::Keeping::seen_at))]
     fn seen(&mut self) -> LogSeen
         ensures same { self.new ≡ self.old }
-        ensures seen { (result.name ≡ slice_index_or N.logs self.old.number 0) × (result.entries ≡ self.old.entries) × (result.gone ≡ self.old.gone) }
+        ensures seen { (at : ℕ) (c : Cell) → slice_get self.old.linked at ≡ Some c → IsSeen Static.tables N.logs result c }
     {
         self.log.seen()
     }
 
-    // Where a cell of the text is linked.
-    fn position(&self, text: &str, hash: u64) -> Option<usize>
+    // Where a cell of the text is linked, once each cell is taken out that has no share left: one walk, from the first to the last.
+    fn pruned_position(&mut self, text: &str, hash: u64) -> Option<usize>
         requires { hash ≡ entry_hash Static.tables text.now }
-        ensures { FoundAt self.now.linked text.now result }
+        ensures at { FoundAt self.new.linked text.now result }
+        ensures same { self.new.number ≡ self.old.number }
+        ensures few { length self.new.linked ≤ length self.old.linked }
     {
-        for at in 0..self.owners.len() {
-            if self.is_at(at, text, hash) {
-                return Some(at);
+        let mut found = None;
+        let mut at = 0;
+        while at < self.len() {
+            match self.owner_at(at).dying() {
+                Ok(none) => self.take_out(at, none),
+                Err(_) => {
+                    if self.is_at(at, text, hash) {
+                        found = Some(at);
+                    }
+                    at += 1;
+                }
             }
         }
-        None
+        found
+    }
+
+    // A share of the cell that is linked there, and what was seen of the log. Where the cell has none left, it is taken out.
+    fn share_at<R: Wait>(
+        &mut self,
+        rt: &R,
+        at: usize,
+    ) -> Result<Option<(CellShare, LogSeen)>, Fault>
+        requires { at < length self.old.linked }
+        ensures cell { IfOk result (λ found. IfSome found (λ made. slice_get self.old.linked at ≡ Some made.0.cell)) }
+        ensures seen { IfOk result (λ found. IfSome found (λ made. IsSeen Static.tables N.logs made.1 made.0.cell)) }
+        ensures one { IfOk result (λ found. found ≡ None → length self.new.linked + 1 ≡ length self.old.linked) }
+        ensures same { self.new.number ≡ self.old.number }
+        ensures refused { IfErr result (λ fault. fault ≡ FullCount) }
+    {
+        let owner = self.owner_at(at);
+        // Another step seldom comes between, so nothing has to wait.
+        if let Some(share) = owner.try_add() {
+            return Ok(Some((share, self.seen())));
+        }
+        match owner.add(rt) {
+            ShareReply::Added(share, _) => Ok(Some((share, self.seen()))),
+            ShareReply::Full(_) => Err(Fault::FullCount),
+            ShareReply::Dying(no_shares) => {
+                self.take_out(at, no_shares);
+                Ok(None)
+            }
+        }
     }
 
     // Whether the cell that is linked there is one of the text.
@@ -194,16 +221,25 @@ impl<Static: StaticTables, N: SetName> Bucket<Static, N> {
         requires hash { hash ≡ entry_hash Static.tables text.now }
         ensures { (c : Cell) × (slice_get self.now.linked at ≡ Some c) × (IsTrue result ↔ (c.text ≡ text.now)) }
     {
-        let owner = &self.owners[at];
+        let owner = self.owner_at(at);
         owner.label().hash == hash && owner.text() == text
     }
 
+    // The owner of the cell that is linked there, which has the hash of its text.
+    fn owner_at(&self, at: usize) -> &Owner<Global>
+        requires { at < length self.now.linked }
+        ensures cell { slice_get self.now.linked at ≡ Some result.now }
+        ensures hash { result.now.label.hash ≡ entry_hash Static.tables result.now.text }
+    {
+        &self.owners[at]
+    }
+
     // Takes out a cell that has no share left, and keeps that in the log.
-    #[tactic(auto, using(crate::proofs::Keeping::kept_without))]
     fn take_out(&mut self, at: usize, none: NoShares)
         requires { (c : Cell) × (slice_get self.old.linked at ≡ Some c) × (none ≡ c.name) }
         ensures same { self.new.number ≡ self.old.number }
         ensures one { length self.new.linked + 1 ≡ length self.old.linked }
+        ensures below { (i : ℕ) → i < at → slice_get self.new.linked i ≡ slice_get self.old.linked i }
         ensures less { LinksNoMore self.old.linked self.new.linked }
     {
         none.bury(&mut self.log);
@@ -211,7 +247,6 @@ impl<Static: StaticTables, N: SetName> Bucket<Static, N> {
     }
 
     // Links a cell of a text of which none is linked, and enters it in the log.
-    #[tactic(auto, using(crate::proofs::Keeping::kept_with, crate::proofs::Keeping::logged_last))]
     fn link(
         &mut self,
         text: &str,

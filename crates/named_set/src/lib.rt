@@ -11,6 +11,6 @@ mod held;
 mod name;
 mod set;
 
-pub use held::Held;
+pub use held::{Held, HeldCell};
 pub use name::{FreshName, SetName};
 pub use set::NamedSet;

@@ -59,7 +59,7 @@ impl<'s, Static: StaticTables, N: SetName> Ord for NamedAtom<'s, Static, N> {
 
     ghost matches_eq = { λ a b. texts_ties a.text b.text };
 
-    /// An equal one is told without its bytes.
+    /// An equal one is told by its word, without its bytes.
     #[tactic(auto, using(string_cache::proofs::Forms::equal_tied))]
     fn cmp(&self, other: &Self) -> Ordering {
         if self == other {

@@ -3,8 +3,8 @@ use Rattle.std.proofs.lemmas.Bool.{false≢true}
 use Rattle.string_cache.proofs.Forms.{static_own, listed_static, not_static}
 use Rattle.named_atoms.proofs.atom.NamedAtom.try_static.Goals as goal
 
-pub of_form-requires : goal.of_form-requires
-of_form-requires g c = static_own g.Static.StaticTables.tables c.args.text.now c.in-Static.index (sym c.in-Static.ensures)
+pub of_static-requires : goal.of_static-requires
+of_static-requires g c = static_own g.Static.StaticTables.tables c.args.text.now c.in-Static.index (sym c.in-Static.ensures)
 
 pub returns-in-Inline-clause-is_static : goal.returns-in-Inline-clause-is_static
 returns-in-Inline-clause-is_static g c =

@@ -1,7 +1,8 @@
-use Rattle.std.proofs.Common.{◌≡◌, ◌∙◌, ap, sym, subst, length, Some, slice_get}
+use Rattle.std.proofs.Common.{◌≡◌, ◌∙◌, ap, sym, subst, ℕ, ◌<◌, length, Some, slice_get}
 use Rattle.counted_cell.specs.Cell.{Cell}
 use Rattle.named_set.specs.Logged.{Kept, IsOf, LinksNoMore}
 use Rattle.named_set.proofs.Keeping.{kept_without, each_without, links_without}
+use Rattle.named_set.proofs.Rows.{remove_below}
 use Rattle.named_set.proofs.bucket.Bucket.take_out.Goals as goal
 
 pub invariant_of-self : goal.invariant_of-self
@@ -17,6 +18,10 @@ invariant_of-self g c =
       rw (c.remove.ensures.items, told.1, told.2, here.2) kept,
       rw (c.remove.ensures.items) (each_without (IsOf g.Static.StaticTables.tables (length g.N.SetName.logs) inside.number) inside.owners.items c.args.at inv.4),
     )
+
+pub returns-clause-below : goal.returns-clause-below
+returns-clause-below g c =
+    subst (λ (s : Kept). (i : ℕ) → i < c.args.at → slice_get c.remove.new.self.items i ≡ slice_get s.linked i) c.self.view_is (rw (c.remove.ensures.items) (λ i lt. remove_below c.self.inside.owners.items c.args.at i lt))
 
 pub returns-clause-less : goal.returns-clause-less
 returns-clause-less g c =
