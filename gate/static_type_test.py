@@ -97,9 +97,9 @@ sys.stdout.buffer.write(printed[sys.argv[2]].encode())
 # Whole calls: the arguments, the input, what stands in the module and what doesn't.
 BORSCHT = "    pub const BORSCHT: u64 = 0x7468_6373_726f_6271;"
 WRITTEN = [
-    ([], PAIR, ["key: 2,", "pub type Soup<'s> = Atom<'s, Soups>;", "Some(Soup::try_static(text)?"], ["key: 5,"]),
+    ([], PAIR, ["key: 2,", "pub type Soup<'s> = Atom<'s, Soups>;", "word_of::<Soups>(text)"], ["key: 5,"]),
     (["--packed"], PAIR, ["key: 2,", "pub type Soup<'s> = Atom<'s, Soups>;"], ["key: 5,"]),
-    (["--alias", "Bowl"], PAIR, ["pub type Bowl<'s> = Atom<'s, Soups>;", "Some(Bowl::try_static(text)?"], ["Soup<'s>", "Soup::"]),
+    (["--alias", "Bowl"], PAIR, ["pub type Bowl<'s> = Atom<'s, Soups>;", "word_of::<Soups>(text)"], ["Soup<'s>", "Soup::"]),
     (["--alias", "Bowl", "--packed"], PAIR, ["pub type Bowl<'s> = Atom<'s, Soups>;"], ["Soup<'s>"]),
     ([], SHORT, ['atoms: &["gazpacho"],', BORSCHT, "GAZPACHO: u64 = 0x0000_0000_0000_0002;"], ['"borscht"]']),
     (["--short"], SHORT, ['atoms: &["borscht", "gazpacho"],', BORSCHT, "GAZPACHO: u64 = 0x0000_0001_0000_0002;"], []),

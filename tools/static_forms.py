@@ -5,7 +5,7 @@ from dataclasses import dataclass
 
 MOST_INLINE = 7  # bytes
 MOST_PRODUCT = 4_000_000  # names times bytes that the checker takes in one static
-MOST_PAIRS = 1_000_000  # and in a static of the test, beside the words
+MOST_PAIRS = 100_000  # and in a static of the test, beside the words
 MANY = 250  # names from which on the checker needs to be told that `get` gives listed tables
 WRITER = ", which `tools/static_type.py` wrote.\n"  # the end of a module's first line
 
@@ -283,16 +283,16 @@ PAIRS_TEST = '''
 
 /// The word of a static text.
 #[cfg(test)]
-fn static_word(text: &str) -> Option<u64> {{
-    Some({alias}::try_static(text)?.unsafe_data())
+fn static_word<S: StaticAtomSet>(text: &str) -> Option<u64> {{
+    Some(Atom::<S>::try_static(text)?.unsafe_data())
 }}
 
 /// The word of a text that is inline or static.
 #[cfg(test)]
-fn word_of(text: &str) -> Option<u64> {{
+fn word_of<S: StaticAtomSet>(text: &str) -> Option<u64> {{
     match pack_inline_word(text) {{
         Some(word) => Some(word),
-        None => static_word(text),
+        None => static_word::<S>(text),
     }}
 }}
 
@@ -307,7 +307,7 @@ fn are_perfect<S: StaticAtomSet>() -> bool {{
 fn names_are_found(rt: HostRuntime) {{
     assert!(rt; are_perfect::<{type}>());
     for (text, word) in &{constant}_WORDS {{
-        assert!(rt; word_of(text) == Some(*word), "of {{text}}");
+        assert!(rt; word_of::<{type}>(text) == Some(*word), "of {{text}}");
     }}
 }}
 '''
@@ -355,7 +355,7 @@ class Listed(Module):
             return LIST_IMPORTS.format(used="Atom, PhfStrSet, StaticAtomSet"), self.list_test(names, self.type)
         start = f"static {self.constant()}_WORDS: [(&str, u64); {len(names)}] = "
         pairs = array_of_tuples(start, [(literal(name.text), f"{self.type}::{name.constant}") for name in names])
-        return PAIRS_IMPORTS, PAIRS_TEST.format(pairs=pairs, constant=self.constant(), type=self.type, alias=self.alias)
+        return PAIRS_IMPORTS, PAIRS_TEST.format(pairs=pairs, constant=self.constant(), type=self.type)
 
     def answers(self, tables):
         """The proof that `get` gives the tables, where there are too many for the checker's own search."""

@@ -24,6 +24,28 @@ type Word<'s, N> = NamedAtom<'s, EmptyStaticAtomSet, N>;
 /// An atom of the set with this name, as a key by its word.
 type Key<'s, N> = ByWord<'s, EmptyStaticAtomSet, N>;
 
+/// A map by words.
+type Places<'s, N> = HashMap<Key<'s, N>, usize>;
+
+/// The atom of a text, unless it is refused.
+fn interned<'s, N: SetName, R: Wait>(
+    rt: &R,
+    set: &'s Named<N>,
+    text: &str,
+) -> Result<Word<'s, N>, Fault> {
+    NamedAtom::from_str_in(rt, set, text)
+}
+
+/// A clone of an atom, unless it is refused.
+fn cloned<'s, N: SetName, R: Wait>(rt: &R, atom: &Word<'s, N>) -> Result<Word<'s, N>, Fault> {
+    atom.clone_atom(rt)
+}
+
+/// The key of an atom.
+fn key_of<'s, N: SetName>(atom: Word<'s, N>) -> Key<'s, N> {
+    ByWord::new(atom)
+}
+
 /// The set with this name, and what was timed on it.
 #[derive(Drop)]
 struct Measured<'s, N: SetName, R: Wait> {
@@ -60,7 +82,7 @@ impl<'s, N: SetName, R: Wait + Clock> Measured<'s, N, R> {
         let mut atoms = Vec::with_capacity(self.set.allocator(), texts.len())?;
         let start = Instant::now(self.rt)?;
         for text in texts {
-            atoms.push(NamedAtom::from_str_in(self.rt, self.set, text.as_str())?)?;
+            atoms.push(interned(self.rt, self.set, text.as_str())?)?;
         }
         self.note(name, texts.len(), atoms.len(), start)?;
         Ok(atoms)
@@ -71,7 +93,7 @@ impl<'s, N: SetName, R: Wait + Clock> Measured<'s, N, R> {
         let mut clones = Vec::with_capacity(self.set.allocator(), atoms.len())?;
         let start = Instant::now(self.rt)?;
         for atom in atoms {
-            clones.push(atom.clone_atom(self.rt)?)?;
+            clones.push(cloned(self.rt, atom)?)?;
         }
         self.note("clone", atoms.len(), clones.len(), start)?;
         Ok(clones)
@@ -107,27 +129,64 @@ impl<'s, N: SetName, R: Wait + Clock> Measured<'s, N, R> {
         self.note(name, rights.len(), done, start)
     }
 
+    /// Compares the atoms with their clones, and with those of other texts.
+    fn compare_both(
+        &mut self,
+        atoms: &[Word<'s, N>],
+        clones: &[Word<'s, N>],
+    ) -> Result<(), anyhow::Error> {
+        self.compare("== of one text", atoms, clones, true)?;
+        let others = clones.get(1..).unwrap_or(&[]);
+        self.compare("== of two texts", atoms, others, false)
+    }
+
+    /// The atom of a long text.
+    fn long_one(&self) -> Result<Word<'s, N>, Fault> {
+        let text = "interned, ".repeat(self.set.allocator(), 1000)?;
+        interned(self.rt, self.set, text.as_str())
+    }
+
+    /// So many clones of an atom.
+    fn clones_of(&self, atom: &Word<'s, N>, count: usize) -> Result<Vec<Word<'s, N>>, Fault> {
+        let mut clones = Vec::with_capacity(self.set.allocator(), count)?;
+        for _clone in 0..count {
+            clones.push(cloned(self.rt, atom)?)?;
+        }
+        Ok(clones)
+    }
+
     /// So many atoms of a long text.
     fn long_ones(&self, count: usize) -> Result<Vec<Word<'s, N>>, Fault> {
-        let text = "interned, ".repeat(self.set.allocator(), 1000)?;
-        let atom = NamedAtom::from_str_in(self.rt, self.set, text.as_str())?;
-        let mut atoms = Vec::with_capacity(self.set.allocator(), count)?;
-        for _atom in 0..count {
-            atoms.push(atom.clone_atom(self.rt)?)?;
-        }
-        Ok(atoms)
+        let atom = self.long_one()?;
+        self.clones_of(&atom, count)
+    }
+
+    /// Compares the atoms, of one long text, with as many others of it.
+    fn compare_with_long(&mut self, lefts: &[Word<'s, N>]) -> Result<(), anyhow::Error> {
+        let rights = self.long_ones(lefts.len())?;
+        self.compare("== of one text of 10,000 bytes", lefts, &rights, true)
     }
 
     /// Compares atoms of one long text.
     fn compare_long(&mut self, count: usize) -> Result<(), anyhow::Error> {
         let lefts = self.long_ones(count)?;
-        let rights = self.long_ones(count)?;
-        self.compare("== of one text of 10,000 bytes", &lefts, &rights, true)
+        self.compare_with_long(&lefts)
     }
 
-    /// Looks each word up in a map that has them all.
-    fn look_up(&mut self, keys: &[Key<'s, N>]) -> Result<(), anyhow::Error> {
-        let places = places_of(self.rt, self.set.allocator(), keys)?;
+    /// Clones the atoms, compares the clones with them, compares as many atoms of one long text, and drops the clones.
+    fn compare_clones(&mut self, atoms: &[Word<'s, N>]) -> Result<(), anyhow::Error> {
+        let clones = self.clone_all(atoms)?;
+        self.compare_both(atoms, &clones)?;
+        self.compare_long(atoms.len())?;
+        self.drop_all("drop of a clone", clones)
+    }
+
+    /// Looks each word up in this map, which has them all.
+    fn look_up_in(
+        &mut self,
+        places: &Places<'s, N>,
+        keys: &[Key<'s, N>],
+    ) -> Result<(), anyhow::Error> {
         let mut done = 0usize;
         let start = Instant::now(self.rt)?;
         for key in keys {
@@ -135,17 +194,34 @@ impl<'s, N: SetName, R: Wait + Clock> Measured<'s, N, R> {
         }
         self.note("look-up in a map by words", keys.len(), done, start)
     }
+
+    /// Looks each word up in a map that has them all.
+    fn look_up(&mut self, keys: &[Key<'s, N>]) -> Result<(), anyhow::Error> {
+        let places = places_of(self.rt, self.set.allocator(), keys)?;
+        self.look_up_in(&places, keys)
+    }
+
+    /// Looks the words of the atoms up, and drops the atoms.
+    fn look_up_all(&mut self, atoms: Vec<Word<'s, N>>) -> Result<(), anyhow::Error> {
+        let keys = keys_of(self.set.allocator(), atoms)?;
+        self.look_up(&keys)
+    }
 }
 
-/// A map by words: the places of these keys.
+/// The same word as a key of its own.
+fn key_again<'s, N: SetName, R: Wait>(rt: &R, key: &Key<'s, N>) -> Result<Key<'s, N>, Fault> {
+    Ok(key_of(cloned(rt, key.atom())?))
+}
+
+/// The places of these keys.
 fn places_of<'s, N: SetName, R: Wait>(
     rt: &R,
     alloc: Global,
     keys: &[Key<'s, N>],
-) -> Result<HashMap<Key<'s, N>, usize>, Fault> {
+) -> Result<Places<'s, N>, Fault> {
     let mut places = HashMap::new(alloc);
     for (place, key) in keys.iter().enumerate() {
-        places.insert(ByWord::new(key.atom().clone_atom(rt)?), place)?;
+        places.insert(key_again(rt, key)?, place)?;
     }
     Ok(places)
 }
@@ -157,7 +233,7 @@ fn keys_of<'s, N: SetName>(
 ) -> Result<Vec<Key<'s, N>>, Fault> {
     let mut keys = Vec::with_capacity(alloc, atoms.len())?;
     for atom in atoms {
-        keys.push(ByWord::new(atom))?;
+        keys.push(key_of(atom))?;
     }
     Ok(keys)
 }
@@ -201,19 +277,8 @@ fn measure_in<N: SetName, R: Wait + Clock>(
     };
     let first = measured.intern("intern of a new text", texts.first())?;
     let again = measured.intern("intern of a text that is there", texts.again())?;
-    let clones = measured.clone_all(&again)?;
-    measured.compare("== of one text", &again, &clones, true)?;
-    measured.compare(
-        "== of two texts",
-        &again,
-        clones.get(1..).unwrap_or(&[]),
-        false,
-    )?;
-    measured.compare_long(texts.len())?;
-    measured.drop_all("drop of a clone", clones)?;
-    let keys = keys_of(set.allocator(), first)?;
-    measured.look_up(&keys)?;
-    drop(keys);
+    measured.compare_clones(&again)?;
+    measured.look_up_all(first)?;
     measured.drop_all("last drop, of any", again)?;
     let Measured { phases, .. } = measured;
     Ok(phases)

@@ -3,21 +3,37 @@
 mod static_names;
 
 use static_names::{Name, Names};
-use string_cache::StaticAtomSet;
+use string_cache::{Atom, StaticAtomSet};
 use test_samples::NAMES;
+
+// These are over any static type, so that no proof has to read the tables of this one.
+
+/// The atom of a text, where it is static.
+fn static_atom<'s, S: StaticAtomSet>(text: &str) -> Option<Atom<'s, S>> {
+    Atom::try_static(text)
+}
+
+fn is_static<S: StaticAtomSet>(text: &str) -> bool {
+    static_atom::<S>(text).is_some()
+}
+
+/// How many texts the tables have.
+fn count_of<S: StaticAtomSet>() -> usize {
+    S::get().atoms.len()
+}
 
 /// Under the tables that were generated of the long names, each is found without a set.
 #[test]
 fn long_names_are_static(rt: HostRuntime) {
     let mut long = 0usize;
     for name in NAMES.lines() {
-        let is_found = Name::try_static(name).is_some();
-        assert_eq!(rt; is_found, name.len() > 7, "of {name}");
+        let is_found = is_static::<Names>(name);
+        assert!(rt; is_found == (name.len() > 7), "of {name}");
         if is_found && long < usize::MAX {
             long += 1;
         }
     }
-    assert_eq!(rt; Names::get().atoms.len(), long);
+    assert!(rt; count_of::<Names>() == long);
 }
 
 /// What languages have a name for.
@@ -39,7 +55,7 @@ fn kind_of(name: &Name) -> Kind {
 
 /// The kind of a static name.
 fn kind_of_text(text: &str) -> Option<Kind> {
-    Some(kind_of(&Name::try_static(text)?))
+    Some(kind_of(&static_atom::<Names>(text)?))
 }
 
 #[test]

@@ -6,7 +6,6 @@ use std::sync::Wait;
 use std::thread;
 use string_cache::dynamic_set::Set;
 use string_cache::static_sets::EmptyStaticAtomSet;
-use string_cache::word::ticket_word;
 use string_cache::{Atom, DefaultAtom, Fault};
 use test_calls::{are_one, has_text, has_word};
 use test_samples::One;
@@ -64,19 +63,21 @@ fn has_ticket<R: Wait + Abort>(
     atom.is_dynamic() && has_word(&atom, ticket) && has_text(&atom, text)
 }
 
+/// Texts, and their words: the low 12 bits of f1 are the bucket, of 0x86f9a2c5, 0x06a47210 and 0xb9737e77.
+const DYNAMIC: [(&str, u64); 4] = [
+    ("abcdefgh", 0x1_0b14),
+    ("interned", 0x1_0840),
+    ("tokenised", 0x1_39dc),
+    ("abcdefgh", 0x1_0b14),
+];
+
 #[test]
 fn dynamic_atoms(rt: HostRuntime) {
     let set = new_set(&rt, rt.alloc());
     // Held to the end, so that its entry is found again.
     let _held = intern(&rt, &set, "abcdefgh");
-    // The low 12 bits of f1 are the bucket: of 0x86f9a2c5, 0x06a47210 and 0xb9737e77.
-    for (text, ticket) in [
-        ("abcdefgh", ticket_word(1, 0x2c5)),
-        ("interned", ticket_word(1, 0x210)),
-        ("tokenised", ticket_word(1, 0xe77)),
-        ("abcdefgh", ticket_word(1, 0x2c5)),
-    ] {
-        assert!(rt; has_ticket(&rt, &set, text, ticket), "of {text:?}");
+    for (text, ticket) in &DYNAMIC {
+        assert!(rt; has_ticket(&rt, &set, text, *ticket), "of {text:?}");
     }
 }
 
@@ -88,25 +89,41 @@ fn atoms_of_two_sets(rt: HostRuntime) {
     assert!(rt; !are_equal(&rt, (&one, "abcdefgh"), (&other, "interned")));
 }
 
+/// Whether the number and the length make the atom of this text.
+fn is_packed(n: u64, len: u8, text: &str) -> bool {
+    match DefaultAtom::pack_inline(n, len) {
+        Some(atom) => {
+            has_text(&atom, text)
+                && has_word(&atom, n.wrapping_add(16 * u64::from(len)).wrapping_add(1))
+        }
+        None => false,
+    }
+}
+
+fn is_not_packed(n: u64, len: u8) -> bool {
+    DefaultAtom::pack_inline(n, len).is_none()
+}
+
+/// Numbers and lengths that make atoms, and their texts.
+const PACKED: [(u64, u8, &str); 3] = [(0xa9_c300, 2, "é"), (0, 1, "\0"), (0, 0, "")];
+
+/// Numbers and lengths that make none.
+const NOT_PACKED: [(u64, u8); 6] = [
+    (0xc300, 1),
+    (0x62_6100, 1),
+    (0, 8),
+    (1, 0),
+    (0, u8::MAX),
+    (u64::MAX, 7),
+];
+
 #[test]
 fn packed_inline(rt: HostRuntime) {
-    for (n, len, text) in [(0xa9_c300, 2, "é"), (0, 1, "\0"), (0, 0, "")] {
-        let atom = DefaultAtom::pack_inline(n, len).expect(&rt, "an inline word");
-        assert!(rt; has_text(&atom, text));
-        assert!(rt; has_word(&atom, n + 16 * u64::from(len) + 1));
+    for (n, len, text) in &PACKED {
+        assert!(rt; is_packed(*n, *len, text), "of {text:?}");
     }
-    for (n, len) in [
-        (0xc300, 1),
-        (0x62_6100, 1),
-        (0, 8),
-        (1, 0),
-        (0, u8::MAX),
-        (u64::MAX, 7),
-    ] {
-        assert!(rt;
-            DefaultAtom::pack_inline(n, len).is_none(),
-            "of {n:#x} and {len}"
-        );
+    for (n, len) in &NOT_PACKED {
+        assert!(rt; is_not_packed(*n, *len), "of {n:#x} and {len}");
     }
 }
 

@@ -51,29 +51,43 @@ fn check_words<R: Wait + Abort>(rt: &R, set: &DefaultSet, number: usize, place: 
     assert_eq!(rt; next.unsafe_data().wrapping_sub(first), 0x1_0000);
 }
 
+/// Checks them in a set of so many bits.
+fn check_words_of<R: Wait + Abort>(
+    rt: &R,
+    alloc: Global,
+    bits: u8,
+    number: usize,
+    place: usize,
+    first: u64,
+) {
+    let set = set_of(rt, alloc, buckets_of(rt, bits));
+    check_words(rt, &set, number, place, first);
+}
+
+/// Bits, how many buckets these are, the text's bucket, and the first word.
+const WORDS: [(u8, usize, usize, u64); 15] = [
+    (0, 1, 0, 0x1_0000),
+    (1, 2, 0, 0x1_0000),
+    (2, 4, 0, 0x1_0000),
+    (3, 8, 0, 0x1_0000),
+    (4, 16, 0, 0x1_0000),
+    (5, 32, 0x10, 0x1_0040),
+    (6, 64, 0x10, 0x1_0040),
+    (7, 128, 0x10, 0x1_0040),
+    (8, 256, 0x10, 0x1_0040),
+    (9, 512, 0x10, 0x1_0040),
+    (10, 1024, 0x210, 0x1_0840),
+    (11, 2048, 0x210, 0x1_0840),
+    (12, 4096, 0x210, 0x1_0840),
+    (13, 8192, 0x1210, 0x1_4840),
+    (14, 16384, 0x3210, 0x1_c840),
+];
+
 /// A set of each number of bits is made, and each word's bucket is the one of its set's that its text lies in.
 #[test]
 fn words_have_the_bits_of_their_set(rt: HostRuntime) {
-    // The bits, how many buckets these are, the text's bucket, and the first word.
-    for (bits, number, place, first) in [
-        (0, 1, 0, 0x1_0000),
-        (1, 2, 0, 0x1_0000),
-        (2, 4, 0, 0x1_0000),
-        (3, 8, 0, 0x1_0000),
-        (4, 16, 0, 0x1_0000),
-        (5, 32, 0x10, 0x1_0040),
-        (6, 64, 0x10, 0x1_0040),
-        (7, 128, 0x10, 0x1_0040),
-        (8, 256, 0x10, 0x1_0040),
-        (9, 512, 0x10, 0x1_0040),
-        (10, 1024, 0x210, 0x1_0840),
-        (11, 2048, 0x210, 0x1_0840),
-        (12, 4096, 0x210, 0x1_0840),
-        (13, 8192, 0x1210, 0x1_4840),
-        (14, 16384, 0x3210, 0x1_c840),
-    ] {
-        let set = set_of(&rt, rt.alloc(), buckets_of(&rt, bits));
-        check_words(&rt, &set, number, place, first);
+    for (bits, number, place, first) in &WORDS {
+        check_words_of(&rt, rt.alloc(), *bits, *number, *place, *first);
     }
 }
 

@@ -98,39 +98,55 @@ fn found(answer: Pass<u64>) -> u64 {
     }
 }
 
+/// Links "tokenised", under this ticket.
+fn link_as(rt: &impl Abort, bucket: &mut Bucket<EmptyStaticAtomSet>, ticket: u64) -> Share {
+    let share = link(bucket, "tokenised", &Limits::greatest()).expect(rt, "an answer");
+    check_share(rt, &share, "tokenised", ticket);
+    share
+}
+
+/// Whether a share keeps its text and its ticket.
+fn stays(share: &Share, ticket: u64) -> bool {
+    share.text() == "tokenised" && share.ticket() == ticket
+}
+
+/// What a pass finds of "tokenised".
+fn finds<R: Wait>(rt: &R, bucket: &mut Bucket<EmptyStaticAtomSet>, mut fake: Fake) -> u64 {
+    found(pass(rt, bucket, "tokenised", &mut fake))
+}
+
 /// What a pass finds in a bucket of three entries of one text, and which tickets it leaves.
 fn pass_over_three<R: Wait + Abort>(rt: &R, alloc: Global, fake: Fake) -> (u64, [u64; 3]) {
-    let limits = Limits::greatest();
     let mut bucket = new_bucket(alloc);
-    let one = link(&mut bucket, "tokenised", &limits).expect(rt, "an answer");
-    let two = link(&mut bucket, "tokenised", &limits).expect(rt, "an answer");
-    let three = link(&mut bucket, "tokenised", &limits).expect(rt, "an answer");
-    check_share(rt, &one, "tokenised", ticket_word(1, 0xe77));
-    check_share(rt, &two, "tokenised", ticket_word(2, 0xe77));
-    check_share(rt, &three, "tokenised", ticket_word(3, 0xe77));
-    assert!(rt; tickets(&mut bucket) == [three.ticket(), two.ticket(), one.ticket()]);
-    let mut fake = fake;
-    let finds = found(pass(rt, &mut bucket, "tokenised", &mut fake));
+    let one = link_as(rt, &mut bucket, FIRST);
+    let two = link_as(rt, &mut bucket, SECOND);
+    let three = link_as(rt, &mut bucket, THIRD);
+    assert!(rt; tickets(&mut bucket) == [THIRD, SECOND, FIRST]);
+    let finds = finds(rt, &mut bucket, fake);
     let left = tickets(&mut bucket);
-    assert!(rt; one.text() == "tokenised" && two.text() == three.text());
+    assert!(rt; stays(&one, FIRST) && stays(&two, SECOND) && stays(&three, THIRD));
     (finds, left)
 }
 
+/// The tickets of "tokenised" in the order in which they are given: by OpenSSL's SipHash its bucket is 0xe77.
+const FIRST: u64 = 0x1_39dc;
+
+const SECOND: u64 = 0x2_39dc;
+
+const THIRD: u64 = 0x3_39dc;
+
+/// Which ticket is added, which is full and which is dying to `dying`; what the pass finds, and which tickets it leaves.
+const PASSES: [(u64, u64, u64, u64, [u64; 3]); 3] = [
+    (SECOND, 0, 0, SECOND, [SECOND, FIRST, 0]),
+    (0, THIRD, FIRST, 1, [THIRD, SECOND, 0]),
+    (0, 0, 0, 0, [0, 0, 0]),
+];
+
 #[test]
 fn passes(rt: HostRuntime) {
-    let (first, second, third) = (
-        ticket_word(1, 0xe77),
-        ticket_word(2, 0xe77),
-        ticket_word(3, 0xe77),
-    );
-    // Which ticket is added, which is full and which is dying to `dying`; what the pass finds, and which tickets it leaves.
-    for (added, full, gone, finds, left) in [
-        (second, 0, 0, second, [second, first, 0]),
-        (0, third, first, 1, [third, second, 0]),
-        (0, 0, 0, 0, [0, 0, 0]),
-    ] {
-        let found = pass_over_three(&rt, rt.alloc(), Fake::new(added, full, gone));
-        assert!(rt; found == (finds, left));
+    for (added, full, gone, finds, left) in &PASSES {
+        let found = pass_over_three(&rt, rt.alloc(), Fake::new(*added, *full, *gone));
+        assert!(rt; found == (*finds, *left));
     }
 }
 

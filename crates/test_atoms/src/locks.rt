@@ -97,20 +97,32 @@ fn drop_under_three_locks<R: Wait + Abort, A: Drop>(rt: &R, set: &DefaultSet, at
     drop(atoms);
 }
 
+/// An atom of each text.
+fn atoms_of<'s, R: Wait + Abort>(
+    rt: &R,
+    set: &'s DefaultSet,
+    texts: &[&str],
+) -> Vec<DefaultAtom<'s>> {
+    let mut atoms = Vec::new(set.allocator());
+    for text in texts {
+        atoms.push(intern(rt, set, text)).expect(rt, "room");
+    }
+    atoms
+}
+
+/// Texts of the first bucket, the last one and one between.
+const SPREAD: [&str; 4] = ["afterwards", "forgotten", "magnitude", "geometric"];
+
 /// Entries die under held locks, so that their own drops leave them linked.
 #[test]
 fn sweep_reaches_each_bucket(rt: HostRuntime) {
-    let owned = default_set(&rt, rt.alloc());
-    let set = &owned;
-    let mut atoms = Vec::new(rt.alloc());
-    for text in ["afterwards", "forgotten", "magnitude", "geometric"] {
-        atoms.push(intern(&rt, set, text)).expect(&rt, "room");
-    }
-    check_linked(&rt, set, 4);
-    drop_under_three_locks(&rt, set, atoms);
-    check_linked(&rt, set, 4);
+    let set = default_set(&rt, rt.alloc());
+    let atoms = atoms_of(&rt, &set, &SPREAD);
+    check_linked(&rt, &set, 4);
+    drop_under_three_locks(&rt, &set, atoms);
+    check_linked(&rt, &set, 4);
     set.sweep(&rt);
-    check_linked(&rt, set, 0);
+    check_linked(&rt, &set, 0);
 }
 
 #[test]

@@ -141,10 +141,13 @@ fn is_cloned<R: Wait + Abort>(rt: &R, set: &Set<One>, text: &str) -> bool {
     is_clone(&clone, &atom, text) && is_clone(&other, &atom, text)
 }
 
+/// Texts that are inline, static and dynamic.
+const CLONED: [&str; 3] = ["foo", "sentence", "interned"];
+
 #[test]
 fn clones(rt: HostRuntime) {
     let set = new_set(&rt, rt.alloc());
-    for text in ["foo", "sentence", "interned"] {
+    for text in &CLONED {
         assert!(rt; is_cloned(&rt, &set, text), "of {text:?}");
     }
 }
@@ -315,19 +318,36 @@ fn count_words<'s, R: Wait + Abort>(
     }
 }
 
+/// The words of the text below, in their order, and how often each comes.
+const COUNTS: [(&str, u64); 4] = [("a", 2), ("b", 1), ("interned", 3), ("sentence", 1)];
+
+/// Whether the map has these words, as often as this, and no others.
+fn has_hashed<R: Wait + Abort>(
+    rt: &R,
+    set: &Set<One>,
+    counts: &HashMap<Atom<'_, One>, u64>,
+    wanted: &[(&str, u64)],
+) -> bool {
+    for (word, times) in wanted {
+        if count_of(rt, set, counts, word) != Some(*times) {
+            return false;
+        }
+    }
+    counts.len() == wanted.len()
+}
+
+/// Whether both maps have the words of a text.
+fn have_words<R: Wait + Abort>(rt: &R, set: &Set<One>, text: &str) -> bool {
+    let mut counts = HashMap::new(set.allocator());
+    let mut sorted = BTreeMap::new(set.allocator());
+    count_words(rt, set, &mut counts, &mut sorted, text);
+    has_hashed(rt, set, &counts, &COUNTS) && has_counts(&sorted, &COUNTS)
+}
+
 #[test]
 fn keys_of_maps(rt: HostRuntime) {
     let set = new_set(&rt, rt.alloc());
-    let mut counts = HashMap::new(rt.alloc());
-    let mut sorted = BTreeMap::new(rt.alloc());
-    let text = "interned sentence a interned b a interned";
-    count_words(&rt, &set, &mut counts, &mut sorted, text);
-    let wanted = [("a", 2), ("b", 1), ("interned", 3), ("sentence", 1)];
-    for (word, times) in wanted {
-        assert!(rt; count_of(&rt, &set, &counts, word) == Some(times));
-    }
-    assert!(rt; counts.len() == wanted.len());
-    assert!(rt; has_counts(&sorted, &wanted));
+    assert!(rt; have_words(&rt, &set, "interned sentence a interned b a interned"));
 }
 
 /// The atom, there and back as JSON.

@@ -77,39 +77,61 @@ fn five<'a>(
     Ok(chain)
 }
 
+/// Takes the items of these digits out, and passes the others.
+fn take_out(chain: &mut NodeChain<Mark>, digits: &[u64]) {
+    for _ in 0..chain.remaining() {
+        let Some(mark) = chain.look() else {
+            break;
+        };
+        if digits.contains(&mark.digit) {
+            drop(chain.take_out());
+        } else {
+            chain.keep();
+        }
+    }
+}
+
+/// Whether all items were passed, and these are left.
+fn has_passed(chain: &mut NodeChain<Mark>, stay: u64) -> bool {
+    chain.look().is_none() && chain.remaining() == 0 && digits(chain) == stay
+}
+
+/// Whether these digits stay once some are taken out, and all end in this order, once a sixth was added.
+fn are_taken_out(
+    rt: &impl Abort,
+    alloc: Global,
+    out: &[u64],
+    stay: u64,
+    ends: u64,
+) -> Result<bool, Fail> {
+    let ended = AtomicU64::new(0);
+    let mut chain = five(rt, alloc, &ended)?;
+    take_out(&mut chain, out);
+    let is_right = has_passed(&mut chain, stay);
+    add(rt, &mut chain, &ended, 6)?;
+    drop(chain);
+    Ok(is_right && ended.load(Ordering::SeqCst) == ends)
+}
+
+/// The digits that are taken out, those that stay, and the order in which all end, once a sixth was added.
+const TAKEN: [(&[u64], u64, u64); 10] = [
+    (&[], 54321, 654321),
+    (&[5], 4321, 564321),
+    (&[3], 5421, 365421),
+    (&[1], 5432, 165432),
+    (&[5, 4], 321, 546321),
+    (&[4, 3], 521, 436521),
+    (&[2, 1], 543, 216543),
+    (&[5, 3, 1], 42, 531642),
+    (&[4, 2], 531, 426531),
+    (&[5, 4, 3, 2, 1], 0, 543216),
+];
+
 #[test]
 fn items_are_taken_out_anywhere(rt: HostRuntime) -> Result<(), Fail> {
-    // The digits that are taken out, those that stay, and the order in which all end, once a sixth was added.
-    for (out, stay, ends) in [
-        (&[][..], 54321, 654321),
-        (&[5], 4321, 564321),
-        (&[3], 5421, 365421),
-        (&[1], 5432, 165432),
-        (&[5, 4], 321, 546321),
-        (&[4, 3], 521, 436521),
-        (&[2, 1], 543, 216543),
-        (&[5, 3, 1], 42, 531642),
-        (&[4, 2], 531, 426531),
-        (&[5, 4, 3, 2, 1], 0, 543216),
-    ] {
-        let ended = AtomicU64::new(0);
-        let mut chain = five(&rt, rt.alloc(), &ended)?;
-        for _ in 0..chain.remaining() {
-            let Some(mark) = chain.look() else {
-                break;
-            };
-            if out.contains(&mark.digit) {
-                drop(chain.take_out());
-            } else {
-                chain.keep();
-            }
-        }
-        assert!(rt; chain.look().is_none());
-        assert!(rt; chain.remaining() == 0);
-        assert!(rt; digits(&mut chain) == stay);
-        add(&rt, &mut chain, &ended, 6)?;
-        drop(chain);
-        assert!(rt; ended.load(Ordering::SeqCst) == ends);
+    for (out, stay, ends) in &TAKEN {
+        let is_right = are_taken_out(&rt, rt.alloc(), out, *stay, *ends)?;
+        assert!(rt; is_right, "of {out:?}");
     }
     Ok(())
 }

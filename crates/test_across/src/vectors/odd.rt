@@ -10,56 +10,67 @@ use string_cache::word::{Form, InlineText, Limits, form_of, ticket_word};
 use string_cache::{Atom, DefaultAtom, EmptyStaticAtomSet, Fault};
 use test_samples::{One, Short, Twice};
 
-/// Tags that no form has, a length above 7, bytes behind the text, bytes that aren't UTF-8, low bits beside a static tag, and a
+/// Words with tags that no form has, a length above 7, bytes behind the text, bytes that aren't UTF-8, low bits beside a static tag, and a
 /// ticket without a serial.
+const NO_WORDS: [u64; 11] = [
+    0,
+    3,
+    6,
+    0x05,
+    0x81,
+    0xff11,
+    0x80_c021,
+    0x80a0_ed31,
+    0x3ffc,
+    0x4000,
+    0x7ffc,
+];
+
+/// Numbers and lengths that make no inline word.
+const NOT_PACKED: [(u64, u8); 2] = [(0x80_c000, 2), (0xff00, 1)];
+
+fn is_no_word(word: u64) -> bool {
+    form_of(word).is_none()
+}
+
+fn is_not_packed(n: u64, len: u8) -> bool {
+    DefaultAtom::pack_inline(n, len).is_none()
+}
+
 #[test]
 fn words_of_nothing(rt: HostRuntime) {
-    for word in [
-        0,
-        3,
-        6,
-        0x05,
-        0x81,
-        0xff11,
-        0x80_c021,
-        0x80a0_ed31,
-        0x3ffc,
-        0x4000,
-        0x7ffc,
-    ] {
-        assert_eq!(rt; form_of(word), None, "of {word:#x}");
+    for word in &NO_WORDS {
+        assert!(rt; is_no_word(*word), "of {word:#x}");
     }
-    for (n, len) in [(0x80_c000, 2), (0xff00, 1)] {
-        assert!(rt; DefaultAtom::pack_inline(n, len).is_none(), "of {n:#x}");
+    for (n, len) in &NOT_PACKED {
+        assert!(rt; is_not_packed(*n, *len), "of {n:#x}");
     }
+}
+
+/// Whether the word is that of this inline text.
+fn is_inline(word: u64, text: &str) -> bool {
+    match InlineText::new(text) {
+        Some(text) => form_of(word) == Some(Form::Inline(text)),
+        None => false,
+    }
+}
+
+fn is_static(word: u64, index: u32) -> bool {
+    form_of(word) == Some(Form::Static(index))
+}
+
+fn is_ticket(word: u64, serial: u64, bucket: u16) -> bool {
+    form_of(word) == Some(Form::Dynamic { serial, bucket })
 }
 
 #[test]
 fn words_of_each_form(rt: HostRuntime) {
-    for (word, form) in [
-        (0x1, InlineText::new("").map(Form::Inline)),
-        (0x71, InlineText::new("\0\0\0\0\0\0\0").map(Form::Inline)),
-        (0x2, Some(Form::Static(0))),
-        (
-            0x1_0000,
-            Some(Form::Dynamic {
-                serial: 1,
-                bucket: 0,
-            }),
-        ),
-        (
-            0x1_fffc,
-            Some(Form::Dynamic {
-                serial: 1,
-                bucket: 16383,
-            }),
-        ),
-    ] {
-        assert!(rt; form.is_some() && form_of(word) == form, "of {word:#x}");
-    }
-    assert_eq!(rt; ticket_word(1, 4095), 0x1_3ffc);
-    assert_eq!(rt; ticket_word(1, 16383), 0x1_fffc);
-    assert_eq!(rt; ticket_word((1 << 48) - 1, 16383), 0xffff_ffff_ffff_fffc);
+    assert!(rt; is_inline(0x1, "") && is_inline(0x71, "\0\0\0\0\0\0\0"));
+    assert!(rt; is_static(0x2, 0));
+    assert!(rt; is_ticket(0x1_0000, 1, 0) && is_ticket(0x1_fffc, 1, 16383));
+    assert!(rt; ticket_word(1, 4095) == 0x1_3ffc);
+    assert!(rt; ticket_word(1, 16383) == 0x1_fffc);
+    assert!(rt; ticket_word((1 << 48) - 1, 16383) == 0xffff_ffff_ffff_fffc);
 }
 
 /// Holders and serials that limits can't have.

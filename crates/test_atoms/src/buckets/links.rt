@@ -69,35 +69,47 @@ fn leaves(
     tickets(bucket) == [ticket(first), ticket(second), ticket(third)]
 }
 
+/// A serial whose entry goes, and those of the three newest entries then.
+type Goes = (u64, [u64; 3]);
+
+/// In the order in which they go.
+const GOES: [[Goes; 4]; 3] = [
+    [
+        (5, [9, 8, 7]),
+        (9, [8, 7, 6]),
+        (1, [8, 7, 6]),
+        (7, [8, 6, 4]),
+    ],
+    [
+        (9, [8, 7, 6]),
+        (8, [7, 6, 5]),
+        (7, [6, 5, 4]),
+        (6, [5, 4, 3]),
+    ],
+    [
+        (7, [9, 8, 6]),
+        (8, [9, 6, 5]),
+        (6, [9, 5, 4]),
+        (5, [9, 4, 3]),
+    ],
+];
+
+/// Whether entries of nine go so, and the others are left.
+fn go_so(rt: &impl Abort, alloc: Global, goes: &[Goes]) -> bool {
+    let mut bucket = nine_entries(rt, alloc);
+    for (serial, newest) in goes {
+        if !leaves(&mut bucket, *serial, *newest) {
+            return false;
+        }
+    }
+    bucket.len() == 9usize.saturating_sub(goes.len())
+}
+
 /// Entries go from anywhere among the nodes, and the others stay in order.
 #[test]
 fn entries_go_one_by_one(rt: HostRuntime) {
-    // The serials in the order in which their entries go, and those of the three newest entries after each.
-    for goes in [
-        [
-            (5, [9, 8, 7]),
-            (9, [8, 7, 6]),
-            (1, [8, 7, 6]),
-            (7, [8, 6, 4]),
-        ],
-        [
-            (9, [8, 7, 6]),
-            (8, [7, 6, 5]),
-            (7, [6, 5, 4]),
-            (6, [5, 4, 3]),
-        ],
-        [
-            (7, [9, 8, 6]),
-            (8, [9, 6, 5]),
-            (6, [9, 5, 4]),
-            (5, [9, 4, 3]),
-        ],
-    ] {
-        let mut bucket = nine_entries(&rt, rt.alloc());
-        for (serial, newest) in goes {
-            assert!(rt; leaves(&mut bucket, serial, newest));
-        }
-        assert!(rt; bucket.len() == 5);
+    for goes in &GOES {
+        assert!(rt; go_so(&rt, rt.alloc(), goes), "of {goes:?}");
     }
 }
 

@@ -26,32 +26,40 @@ fn digits_of(pack: &Pack<Mark>) -> u64 {
     number
 }
 
-#[test]
-fn packs_close_their_gaps(rt: HostRuntime) -> Result<(), Fail> {
-    // How many items there are, which place is taken out, and the digits that are left, and that end.
-    for (count, index, left, ends) in [
-        (2, 0, 1, 21),
-        (2, 1, 2, 12),
-        (3, 0, 21, 321),
-        (3, 1, 31, 231),
-        (3, 2, 32, 132),
-        (4, 0, 321, 4321),
-        (4, 1, 421, 3421),
-        (4, 2, 431, 2431),
-        (4, 3, 432, 1432),
-    ] {
-        let ended = AtomicU64::new(0);
-        let mut pack = pack_of(&ended, count);
-        assert!(rt; pack.has_room() == (count < 4));
-        assert!(rt; pack.get(pack.len()).is_none());
-        if index < pack.len() && pack.len() > 1 {
-            drop(pack.remove(index));
-        }
-        assert!(rt; digits_of(&pack) == left);
-        drop(pack);
-        assert!(rt; ended.load(Ordering::SeqCst) == ends);
+/// Whether a pack of so many items, of which the one at this place is taken out, has these digits left, and all end in this order.
+fn closes(count: u64, index: usize, left: u64, ends: u64) -> bool {
+    let ended = AtomicU64::new(0);
+    let mut pack = pack_of(&ended, count);
+    let is_full = pack.has_room() == (count < 4) && pack.get(pack.len()).is_none();
+    if index < pack.len() && pack.len() > 1 {
+        drop(pack.remove(index));
     }
-    Ok(())
+    let is_left = digits_of(&pack) == left;
+    drop(pack);
+    is_full && is_left && ended.load(Ordering::SeqCst) == ends
+}
+
+/// How many items there are, which place is taken out, and the digits that are left, and that end.
+const GAPS: [(u64, usize, u64, u64); 9] = [
+    (2, 0, 1, 21),
+    (2, 1, 2, 12),
+    (3, 0, 21, 321),
+    (3, 1, 31, 231),
+    (3, 2, 32, 132),
+    (4, 0, 321, 4321),
+    (4, 1, 421, 3421),
+    (4, 2, 431, 2431),
+    (4, 3, 432, 1432),
+];
+
+#[test]
+fn packs_close_their_gaps(rt: HostRuntime) {
+    for (count, index, left, ends) in &GAPS {
+        assert!(rt;
+            closes(*count, *index, *left, *ends),
+            "of {count} at {index}"
+        );
+    }
 }
 
 #[test]

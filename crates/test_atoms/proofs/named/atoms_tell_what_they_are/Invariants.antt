@@ -1,4 +1,0 @@
-use Rattle.test_atoms.proofs.named.atoms_tell_what_they_are.Given as goal
-
-abbrev pub ghosts-tells : goal.ghosts-tells
-ghosts-tells g a = record { logs = a.name.logs }
