@@ -24,6 +24,7 @@ from copies import crates, linked
 from edits import FUNCTION, BadEdit, replaced
 from programs import kit
 from repository import TOP, said_by
+from spared import spared
 
 TOLD = re.compile(r"^fn (\S+): (.*)$", re.MULTILINE)
 PROVED = ("proved", "assumed")
@@ -163,11 +164,12 @@ def checker_of(folder):
     return [str(kit() / "bin" / "rattle"), "check", *own, "--incremental", "out/incremental"]
 
 
-def check(bodies, folder, only=True):
+def check(bodies, folder, only=True, proved=()):
     """What a check of the functions of these bodies, or else of the whole crate with them, says, in the folder of a copy of their crate,
-    whose texts are its own again afterwards. A name that is no function's is left out, so that it hides nothing of the others."""
+    whose texts are its own again afterwards. A name that is no function's is left out, so that it hides nothing of the others. The
+    functions that are proved already are spared."""
     functions, stops = list(dict.fromkeys(body.function for body in bodies)) if only else [], []
-    with replaced(texts_with(bodies, folder)):
+    with replaced(texts_with(bodies, folder)), spared(proved, bodies, folder):
         while True:
             said = said_by(*checker_of(folder), *(word for function in functions for word in ("--only", function)), folder=folder)[1]
             found = NO_FUNCTION.search(said)
@@ -223,9 +225,10 @@ def strangers(bodies, said):
     return [name for name, text in TOLD.findall(said) if name not in own and goals_of(name, text, said)]
 
 
-def judged(bodies, folder):
-    """Checks these bodies at once. Each with the goals of its own at which its function was refused, and with what else is said of it."""
-    said = check(bodies, folder)
+def judged(bodies, folder, proved=()):
+    """Checks these bodies at once. Each with the goals of its own at which its function was refused, and with what else is said of it. The
+    functions that are proved already are spared."""
+    said = check(bodies, folder, proved=proved)
     others = strangers(bodies, said)
     if others:
         return [(body, [], f"{', '.join(others)} isn't proved, though nothing of it was changed") for body in bodies]

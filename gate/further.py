@@ -101,13 +101,13 @@ def copies_of(bodies, folder):
     return {body: copy for body, copy in found.items() if copy}, own
 
 
-def in_one_check(first, further, folder):
+def in_one_check(first, further, folder, proved=()):
     """Checks bodies of different functions, and further ones of these functions in copies. Each with the goals at which it was refused, and with
-    what else is said of it; nothing where the check says nothing of any function."""
+    what else is said of it; nothing where the check says nothing of any function. The functions that are proved already are spared."""
     copies, own = copies_of(further, folder)
     every = [*first, *copies.values(), *own.values()]
     with with_files(every):
-        said = batches.check(every, folder)
+        said = batches.check(every, folder, proved=proved)
     others = batches.strangers(every, said)
     if not batches.TOLD.search(said) or others:
         return []
@@ -117,14 +117,14 @@ def in_one_check(first, further, folder):
     return found + [(body, *batches.judge(copy.function, said)) for body, copy in trusted]
 
 
-def tried(bodies, folder):
+def tried(bodies, folder, proved=()):
     """Checks the bodies of a crate in as few checks as there may be, and those that these don't refuse once more, each alone. Gives each
-    body with its goals and with what else is said."""
+    body with its goals and with what else is said. The functions that are proved already are spared, but not where a body is alone."""
     first = next(batches.batches(bodies), [])
     left = [body for body in bodies if body not in first]
-    found, alone = in_one_check(first, left, folder) if left else [], []
+    found, alone = in_one_check(first, left, folder, proved) if left else [], []
     for batch in batches.batches([body for body in bodies if body not in {it[0] for it in found}]):
-        (found if batch[1:] else alone).extend(batches.judged(batch, folder))
+        (found if batch[1:] else alone).extend(batches.judged(batch, folder, proved if batch[1:] else ()))
     yield from (it for it in found + alone if it[1] or it in alone)
     for body in [body for body, goals, _ in found if not goals]:
         yield from batches.judged([body], folder)

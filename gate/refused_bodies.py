@@ -12,12 +12,13 @@ of must-fail/ in a check of its own, and takes any refusal, wherever it is.
 Each crate is proved as it stands first, unless --proved says that `rt ci` has just done so. A crate is also WRONG where a check refuses a
 function that no body changes at a goal of its own.
 
-With --beside PID and --said FILE, while that process runs, which is an `rt ci` that writes to this file, a crate is tried once it says that the
-crate is proved, and if a processor is idle.
+With --said FILE, which has what this `rt ci` said, checks are spared the functions that it says are proved and no body changes
+(gate/spared.py). With --beside PID, too, while that process runs, which is the `rt ci` that writes to this file, a crate is tried once it says
+that the crate is proved, and if a processor is idle.
 
 What passed is kept in ~/.cache/jatzurbin, by a sum of all that was read: a later run tries only what changed. --anew tries all.
 
-usage: gate/refused_bodies.py [--jobs N] [--proved] [--beside PID --said FILE] [--anew] [CRATE ..]     without names: all crates that have such bodies
+usage: gate/refused_bodies.py [--jobs N] [--proved [--said FILE [--beside PID]]] [--anew] [CRATE ..]     without names: all crates that have such bodies
 """
 
 import argparse
@@ -38,9 +39,10 @@ import further
 from caught import Turns, runs
 from edits import BadEdit, changes_in
 from repository import TOP, crates_listed, said_by, stands_on
+from spared import functions_told
 
 KEPT = Path(os.environ.get("XDG_CACHE_HOME") or Path.home() / ".cache") / "jatzurbin" / "refused"
-TOOLS = ("refused_bodies.py", "batches.py", "further.py", "edits.py")
+TOOLS = ("refused_bodies.py", "batches.py", "further.py", "spared.py", "edits.py")
 SAID = 400  # how much is told of what was said
 PROVED = re.compile(r"^rt: (\w+) (?:proved$|is kept: )", re.MULTILINE)  # what `rt ci` says of a crate that it is done with
 MEASURED = {  # seconds of crates whose bodies take more, or less, than others
@@ -103,20 +105,22 @@ def keep(path):
         path.touch()
 
 
-def judged(bodies, folder, is_proved):
-    """Tries bodies of the crate in this folder of a copy. Each with whether it is refused as it must be, and what to say."""
-    if not is_proved:
+def judged(bodies, folder, proved=None):
+    """Tries bodies of the crate in this folder of a copy, of which these functions are proved, or which is still to be proved. Each with
+    whether it is refused as it must be, and what to say."""
+    if proved is None:
         said = batches.check([], folder)
         if "logic=proved" not in said:
             return [(body, False, f"NOT TRIED: the crate as it stands isn't proved: {said.strip()[-SAID:]}") for body in bodies]
     results = []
-    for body, goals, text in further.tried(bodies, folder):
+    for body, goals, text in further.tried(bodies, folder, proved or ()):
         results.append((body, bool(goals), f"refused at {', '.join(goals)}" if goals else f"NOT REFUSED: {text[:SAID]}"))
     return results
 
 
-def try_crate(folder, copy, is_proved, is_anew):
-    """Tries the bodies of the crate in this folder, in that of a copy. Whether each passed, or could be read."""
+def try_crate(folder, copy, proved, is_anew):
+    """Tries the bodies of the crate in this folder, in that of a copy, of which these functions are proved, or which is still to be proved.
+    Whether each passed, or could be read."""
     bodies, wrong = bodies_of(folder)
     lines, crate_sum = [f"refused {text}" for text in wrong], sum_of(folder.name)
     left = [body for body in bodies if is_anew or not kept(crate_sum, body).is_file()]
@@ -124,7 +128,7 @@ def try_crate(folder, copy, is_proved, is_anew):
     if len(left) < len(bodies):
         lines.append(f"refused {folder.name}: {len(bodies) - len(left)} of {len(bodies)} were refused by earlier runs over the same files")
     if left:
-        found = judged(left, copy, is_proved)
+        found = judged(left, copy, proved)
         is_same = sum_of(folder.name) == crate_sum  # nothing was changed meanwhile
         for body, well, text in found:
             lines.append(f"refused {body}: {'' if well else 'WRONG: '}{text}")
@@ -145,11 +149,15 @@ class Queue:
         self.turns = Turns(process)
         self.lock = threading.Lock()
 
+    def text(self):
+        """What `rt ci` said so far."""
+        return self.said.read_text(encoding="utf-8", errors="replace") if self.said and self.said.is_file() else ""
+
     def first_proved(self):
         """The first crate that needn't wait, or None."""
         if not runs(self.process):
             return next(iter(self.left), None)
-        proved = set(PROVED.findall(self.said.read_text(encoding="utf-8", errors="replace"))) if self.said.is_file() else set()
+        proved = set(PROVED.findall(self.text()))
         return next((folder for folder in self.left if folder.name in proved), None)
 
     def take(self):
@@ -170,7 +178,8 @@ def try_all(queue, room, is_proved, is_anew):
     results = []
     while folder := queue.take():
         copy = batches.copies_of([folder.name], room / folder.name)[folder.name]
-        results += try_crate(folder, copy, is_proved, is_anew)
+        proved = functions_told(folder.name, queue.text()) if is_proved else None
+        results += try_crate(folder, copy, proved, is_anew)
     return results
 
 
@@ -183,8 +192,8 @@ def main():
     parser.add_argument("--anew", action="store_true")
     parser.add_argument("crates", nargs="*")
     given = parser.parse_args()
-    if given.beside and not given.said:
-        parser.error("--beside wants --said")
+    if given.beside and not given.said or given.said and not given.proved:
+        parser.error("--beside wants --said, and that --proved")
     folders = {path.parent.name: path.parent for path in sorted(TOP.glob("crates/*/refused"))}
     if set(given.crates) - set(folders):
         sys.exit(f"refused_bodies: no wrong bodies stand in {', '.join(sorted(set(given.crates) - set(folders)))}")

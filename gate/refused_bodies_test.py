@@ -19,6 +19,7 @@ import further
 import refused_bodies
 from edits import BadEdit
 from small_repository import InSmallRepository
+from spared import functions_told, spared
 
 CRATE = """\
 //! What is edited.
@@ -45,6 +46,20 @@ pub fn same(number: u8) -> u32
     ensures { result ≡ number }
 {
     u32::from(number)
+}
+
+/// Twice the number.
+pub fn doubled(number: u8) -> u32
+    ensures { result ≡ number * 2 }
+{
+    same(number) * 2
+}
+
+/// Four times the number.
+pub fn fourfold(number: u8) -> u32
+    ensures { result ≡ number * 4 }
+{
+    doubled(number) * 2
 }
 
 /// How many of the numbers are zero.
@@ -219,7 +234,7 @@ class Crate(InSmallRepository):
 
     def test_a_function_comes_once_in_a_batch(self):
         bodies = [self.placed(str(it), "next", ("wide + 1", f"wide + {it}")) for it in (2, 3, 4)]
-        bodies.append(self.placed("5", "twice", ("(number) * 2", "(number) * 3")))
+        bodies.append(self.placed("5", "twice", ("next(number) * 2", "next(number) * 3")))
         found = [[str(body) for body in batch] for batch in batches.batches(bodies)]
         self.assertEqual(sorted(map(sorted, found)), [["2", "5"], ["3"], ["4"]])
 
@@ -263,12 +278,18 @@ class Crate(InSmallRepository):
             "stale_goal": ("same", [("    u32::from(number)", "    if number == 0 { 0 } else { u32::from(number) }")], False, "NOT REFUSED: not proved"),
             "wrong_answer": ("same", [("    u32::from(number)", "    u32::from(number / 2)")], True, "refused at `returns`: `omega`"),
         }
+        spared = {  # `same` and `doubled` are
+            "wrong": ("next", [("wide + 1", "wide + 2")], True, "refused at returns"),
+            "wrong_above": ("fourfold", [("doubled(number) * 2", "doubled(number) * 3")], True, "refused at returns"),
+            "wrong_below": ("twice", [("next(number) * 2", "next(number) * 3")], True, "refused at returns"),
+            "same_meaning": ("fourfold", [("doubled(number) * 2", "doubled(number) + doubled(number)")], False, "NOT REFUSED: proved"),
+        }
         alone = {"not_compiled": ("next", [("wide + 1", "wider + 1")], False, "NOT REFUSED: the check has 0 lines for next")}
         with tempfile.TemporaryDirectory(prefix="refused-test-") as room:
             folder = batches.copies_of(["few"], Path(room))["few"]
-            for asked, is_proved in ((rows, False), (alone, True)):
+            for asked, proved in ((rows, None), (spared, {"next", "twice", "same", "doubled", "fourfold", "zeros"}), (alone, ())):
                 bodies = [self.placed(name, function, *pairs) for name, (function, pairs, _, _) in asked.items()]
-                found = {str(body): (well, text) for body, well, text in refused_bodies.judged(bodies, folder, is_proved)}
+                found = {str(body): (well, text) for body, well, text in refused_bodies.judged(bodies, folder, proved)}
                 for name, (_, _, well, text) in asked.items():
                     self.assertEqual(found[name][0], well, (name, found[name]))
                     self.assertIn(text, found[name][1], name)
@@ -287,8 +308,44 @@ class Crate(InSmallRepository):
         file.write_text(CRATE.replace("wide + 1", "wide + 3"), encoding="utf-8")
         with tempfile.TemporaryDirectory(prefix="refused-test-") as room:
             folder = batches.copies_of(["few"], Path(room))["few"]
-            (result,) = refused_bodies.judged([self.placed("wrong", "twice", ("(number) * 2", "(number) * 3"))], folder, False)
+            (result,) = refused_bodies.judged([self.placed("wrong", "twice", ("next(number) * 2", "next(number) * 3"))], folder)
         self.assertEqual(result[1:2] + (result[2][:10],), (False, "NOT TRIED:"))
+
+
+class Spared(InSmallRepository):
+    """Which functions' proofs a check is spared."""
+
+    TOLD = """\
+== low
+fn low::first: proved
+== few
+struct few::Few: proved
+fn few::next: proved
+fn few::Few::zeros: proved, may wait
+fn few::Few::twice: proved
+fn few::fn::next::all: proved
+fn few::FewIterator+Destruct::drop: proved
+rt: few proved
+== few: its tests
+fn few::tests::rows: proved
+"""
+
+    def setUp(self):
+        self.begin("few: core\n", {"crates/few/proofs/Few/twice/Answers.antt": ANSWERS}, refused_bodies)
+        self.folder = self.top / "crates" / "few"
+
+    def files(self):
+        return {str(it.relative_to(self.folder)): it.read_text(encoding="utf-8") for it in self.folder.rglob("*.antt")}
+
+    def test_functions_of_a_crate_are_told_by_its_own_proof(self):
+        self.assertEqual(functions_told("few", self.TOLD), {"next", "Few::zeros", "Few::twice"})
+        self.assertEqual((functions_told("low", self.TOLD), functions_told("other", self.TOLD)), ({"first"}, set()))
+
+    def test_proofs_are_put_back(self):
+        before, bodies = self.files(), [SimpleNamespace(function="zeros")]
+        with spared(functions_told("few", self.TOLD), bodies, self.folder):
+            self.assertEqual(self.files(), {"proofs/next/Proof.antt": "", "proofs/Few/twice/Proof.antt": ""})
+        self.assertEqual((self.files(), (self.folder / "proofs" / "next").exists()), (before, False))
 
 
 class Turn(unittest.TestCase):
