@@ -34,16 +34,36 @@ const NODE: u128 = 48;
 
 const CELL: u128 = 40;
 
+/// The entries that a set shows.
+#[derive(Clone, Copy)]
+struct Shown {
+    number: u32,
+    /// Whether each is of one text, with two holders.
+    are_right: bool,
+}
+
+impl Shown {
+    /// Notes an entry of the other text, which has so many holders.
+    fn note(&mut self, text: &str, other: &str, holders: u64) {
+        self.number = self.number.saturating_add(1);
+        self.are_right = self.are_right && other == text && holders == 2;
+    }
+}
+
+fn look_at<R: Wait>(rt: &R, set: &OneBucket, text: &str) -> Shown {
+    let mut shown = Shown {
+        number: 0,
+        are_right: true,
+    };
+    set.for_each(rt, |other, holders| shown.note(text, other, holders));
+    shown
+}
+
 /// Whether the set shows the text's entry alone, with two holders, and the bytes that it has.
 fn is_shown<R: Wait>(rt: &R, set: &OneBucket, text: &str) -> bool {
-    let mut shown = 0u32;
-    let mut is_right = true;
-    set.for_each(rt, |other, holders| {
-        shown = shown.saturating_add(1);
-        is_right = is_right && other == text && holders == 2;
-    });
+    let shown = look_at(rt, set, text);
     let bytes = text.len().div_ceil(8) as u128 * 8;
-    is_right && shown == 1 && set.memory(rt) == EMPTY + NODE + CELL + bytes
+    shown.are_right && shown.number == 1 && set.memory(rt) == EMPTY + NODE + CELL + bytes
 }
 
 /// Whether both atoms are of one word.
