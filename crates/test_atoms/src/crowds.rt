@@ -74,8 +74,9 @@ fn clones_of<'s, R: Wait>(
     one: &DefaultAtom<'s>,
     two: &DefaultAtom<'s>,
 ) -> Result<(DefaultAtom<'s>, DefaultAtom<'s>), Fault> {
-    let one = cloned(rt, one)?;
-    Ok((one, cloned(rt, two)?))
+    let first = cloned(rt, one)?;
+    let second = cloned(rt, two)?;
+    Ok((first, second))
 }
 
 /// Two atoms, as clones of others that have gone. Whether those were apart.
