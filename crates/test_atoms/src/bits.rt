@@ -2,7 +2,7 @@
 //! bucket times 4.
 
 use crate::samples::{
-    DefaultSet, bucket_numbers, check_atom, check_linked, drop_under_locks, hash_of, intern,
+    BITS, DefaultSet, buckets_of, check_atom, check_linked, drop_under_locks, hash_of, intern,
     one_bucket,
 };
 use std::alloc::Global;
@@ -17,10 +17,6 @@ use test_calls::look_up;
 
 fn set_of(rt: &impl Abort, alloc: Global, buckets: Buckets) -> DefaultSet {
     Set::with_buckets(alloc, Limits::greatest(), buckets).expect(rt, "a set")
-}
-
-fn buckets_of(rt: &impl Abort, bits: u8) -> Buckets {
-    Buckets::new(bits).expect(rt, "bits")
 }
 
 /// Whether the set has this many buckets, and one entry, in the bucket at this place.
@@ -134,7 +130,8 @@ fn atom_of_bucket<'s, R: Wait + Abort>(
 
 #[test]
 fn sweep_takes_the_first_and_the_last_bucket(rt: HostRuntime) -> Result<(), Fail> {
-    for buckets in bucket_numbers(rt.alloc())? {
+    for bits in &BITS {
+        let buckets = buckets_of(&rt, *bits);
         let owned = set_of(&rt, rt.alloc(), buckets);
         let set = &owned;
         let first = atom_of_bucket(&rt, set, buckets, 0)?;

@@ -1,6 +1,6 @@
 //! Texts of one bucket, and many workers at them.
 
-use crate::samples::{DefaultSet, bucket_numbers, check_linked, default_set, hash_of, intern};
+use crate::samples::{BITS, DefaultSet, buckets_of, check_linked, default_set, hash_of, intern};
 use std::alloc::{AllocError, Global};
 use std::process::Abort;
 use std::sync::Wait;
@@ -68,6 +68,17 @@ fn are_apart(one: &DefaultAtom<'_>, two: &DefaultAtom<'_>) -> bool {
     one.unsafe_data() != two.unsafe_data() && one != two
 }
 
+/// Clones of two atoms.
+fn clones_of<'s, R: Wait>(
+    rt: &R,
+    one: &DefaultAtom<'s>,
+    two: &DefaultAtom<'s>,
+) -> Result<(DefaultAtom<'s>, DefaultAtom<'s>), Fault> {
+    let first = cloned(rt, one)?;
+    let second = cloned(rt, two)?;
+    Ok((first, second))
+}
+
 /// Two atoms, as clones of others that have gone. Whether those were apart.
 fn cloned_apart<'s, R: Wait>(
     rt: &R,
@@ -75,8 +86,9 @@ fn cloned_apart<'s, R: Wait>(
     first: &str,
     second: &str,
 ) -> Result<(bool, (DefaultAtom<'s>, DefaultAtom<'s>)), Fault> {
-    let (one, two) = (interned(rt, set, first)?, interned(rt, set, second)?);
-    let clones = (cloned(rt, &one)?, cloned(rt, &two)?);
+    let one = interned(rt, set, first)?;
+    let two = interned(rt, set, second)?;
+    let clones = clones_of(rt, &one, &two)?;
     Ok((are_apart(&one, &two), clones))
 }
 
@@ -164,7 +176,8 @@ fn check_apart<R: Wait + Abort>(
 #[test]
 fn two_texts_of_one_bucket(rt: HostRuntime) -> Result<(), Fail> {
     let alloc = rt.alloc();
-    for buckets in bucket_numbers(alloc)? {
+    for bits in &BITS {
+        let buckets = buckets_of(&rt, *bits);
         let texts = numbers(alloc, buckets.number() + 1)?;
         let mates = bucket_mates(alloc, buckets, &texts, 2)?;
         let [first, second] = mates.as_slice() else {

@@ -7,7 +7,6 @@ ghost use Rattle.string_cache_core.specs.Tables.{entry_hash};
 use std::alloc::{AllocError, Global};
 use std::process::Abort;
 use std::sync::{MutexGuard, Wait};
-use std::test::Fail;
 use string_cache::dynamic_set::{Bucket, Set};
 use string_cache::phf::hash;
 use string_cache::static_sets::{EmptyStaticAtomSet, StaticAtomSet, StaticTables};
@@ -26,13 +25,12 @@ pub fn hash_of<Static: StaticAtomSet>(text: &str) -> u64
     hash(text, Static::get().key).entry_hash()
 }
 
-/// The numbers of buckets that tests take: one bucket, the usual number, and the most.
-pub fn bucket_numbers(alloc: Global) -> Result<Vec<Buckets>, Fail> {
-    let mut numbers = Vec::new(alloc);
-    for bits in [0, 12, 14] {
-        numbers.push(Buckets::new(bits).ok_or("bits")?)?;
-    }
-    Ok(numbers)
+/// The bits of buckets that tests take: one bucket, the usual number, and the most.
+pub const BITS: [u8; 3] = [0, 12, 14];
+
+/// The buckets with so many bits.
+pub fn buckets_of(rt: &impl Abort, bits: u8) -> Buckets {
+    Buckets::new(bits).expect(rt, "bits")
 }
 
 /// A set of the usual limits.
