@@ -61,7 +61,8 @@ run ci rt ci &
 ci=$!
 run caught gate/caught.py --tested --beside "$ci" > "$said/bodies" &
 bodies=$!
-run prover gate/refused_bodies.py --proved --beside "$ci" --said "$said/ci" --jobs "${RT_JOBS:-2}" > "$said/edits" &
+# Behind all else, which others wait for, or which has limits of time.
+run prover nice -n 19 gate/refused_bodies.py --proved --beside "$ci" --said "$said/ci" --jobs "${RT_JOBS:-2}" > "$said/edits" &
 edits=$!
 # What reads nothing that rt ci makes begins where that leaves a processor idle, too.
 while read -r -u 5 name script; do
