@@ -1,5 +1,5 @@
 -- Words of private contracts of the table: where a text and a ticket stand.
-use Rattle.std.specs.Prelude.{◌≡◌, ℕ, ◌<◌, List, Some, slice_get}
+use Rattle.std.specs.Prelude.{◌≡◌, ℕ, ◌<◌, List, Some, length, slice_get}
 use Rattle.text_forms.specs.Map.{Holding}
 use Rattle.string_cache_core.specs.Kept.{Kept, map_of}
 
@@ -12,5 +12,6 @@ pub record IsFound (kept : Kept) (text : List ℕ) (at : ℕ) (had : Holding) : 
 pub record IsPlace (kept : Kept) (ticket at : ℕ) : Type 0 where
   pub text : List ℕ
   pub holders : ℕ
+  pub within : at < length kept.pairs
   pub found : IsFound kept text at (record { ticket = ticket; holders = holders })
   pub some : 0 < holders

@@ -20,7 +20,7 @@ past (x ∷ xs) zero h = absurd (omega arith)
 past (x ∷ xs) (suc k) h = past xs k (omega arith)
 
 pub entry_at-found : (w : World) (n k : ℕ) → n ≡ suc k → k < length w.entries → EntryAt w n k
-entry_at-found w n k e h = let found = there_is w.entries k h in record { entry = found.0; numbered = e; there = found.1 }
+entry_at-found w n k e h = let found = there_is w.entries k h in record { entry = found.0; numbered = e; within = h; there = found.1 }
 
 pub entry_at-past : (w : World) (n k : ℕ) → n ≡ suc k → length w.entries ≤ k → entry_at w.entries n ≡ None
 entry_at-past w n k e h = ap (entry_at w.entries) e ∙ past w.entries k h
@@ -87,5 +87,5 @@ place_of w party =
     let is = is_place w.passes party in
     let i = position_or_len (λ (pass : PartyPass). pass.party == party) w.passes in
     if_case (λ o. MatchOption o (pass_of w party ≡ None) (λ at. PassAt w party at)) (nat_lt i (length w.passes)) (Some i) None
-    (λ inside. let at = is.0 (ltb-true i (length w.passes) inside) in record { pass = at.pass; found = at.found; there = at.there; own = at.own; replaces = at.replaces; removes = at.removes })
+    (λ inside. let within = ltb-true i (length w.passes) inside in let at = is.0 within in record { pass = at.pass; within = within; found = at.found; there = at.there; own = at.own; replaces = at.replaces; removes = at.removes })
     (λ outside. is.1 (ltb-false i (length w.passes) outside))

@@ -92,6 +92,7 @@ module _ {Y : Type 0} (t : Tables) (limits : Bounds) (lasts : List ℕ) (es : Li
       record {
         text = p.0;
         holders = p.1;
+        within = slice_get_within (pairs_of es) at _ p.2;
         found = record { there = p.2; held = found_at es at (p.0, record { ticket = ticket; holders = p.1 }) distinct p.2 };
         some = (kept.given at (p.0, record { ticket = ticket; holders = p.1 }) p.2).held;
       }

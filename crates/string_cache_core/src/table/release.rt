@@ -37,7 +37,7 @@ impl<S: StaticTables> Table<S> {
     /// One holder more of a word, as `clone_word` says, where it is held. `None`, and nothing changes, for any other number.
     ///
     /// `FullCount` where the ticket's text has as many holders as the limits allow. A refusal changes nothing.
-    #[tactic(auto, using(std::proofs::lemmas::Option::slice_get_within), unfolding(crate::specs::Table::IsHeld))]
+    #[tactic(auto, unfolding(crate::specs::Table::IsHeld))]
     pub fn clone_held(&mut self, word: u64) -> Result<Option<u64>, Fault>
         ensures cloned { Cloned S.tables self.old word result self.new }
         ensures fault { IfErr result (λ fault. fault ≡ FullCount) }
@@ -72,7 +72,6 @@ impl<S: StaticTables> Table<S> {
     }
 
     /// One holder less of a word, as `give` says, where it is held: `true`. For any other number `false`, and nothing changes.
-    #[tactic(auto, using(std::proofs::lemmas::Option::slice_get_within))]
     pub fn release(&mut self, word: u64) -> bool
         ensures { Given S.tables self.old word result self.new }
     {

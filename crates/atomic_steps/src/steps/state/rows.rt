@@ -50,7 +50,6 @@ impl State {
     }
 
     /// One holder more of an entry with the text that the pass wants, unless it is dying or full.
-    #[tactic(auto, using(std::proofs::lemmas::Option::slice_get_within))]
     fn add(&mut self, party: u32, number: u64) -> Result<StepReply, Fault>
         requires { SoundTable self.old.entries self.old.lasts self.old.bag }
         ensures ok { IfOk result (λ reply. (t : Tables) → IsStep t self.old party (Step.Add number) reply self.new) }
@@ -79,7 +78,6 @@ impl State {
     }
 
     /// A new entry with the text that the pass wants, where each linked one of it was found dying.
-    #[tactic(auto, using(std::proofs::lemmas::Option::slice_get_within))]
     fn link<S: StaticTables>(&mut self, party: u32, room: bool) -> Result<StepReply, Fault>
         requires { SoundWorld S.tables self.old }
         ensures ok { IfOk result (λ reply. (t : Tables) → IsStep t self.old party (Step.Link room) reply self.new) }
@@ -105,7 +103,6 @@ impl State {
     }
 
     /// A step of any party, also of an idle one.
-    #[tactic(auto, using(std::proofs::lemmas::Option::slice_get_within))]
     fn clone_entry(&mut self, number: u64) -> StepReply
         requires { SoundTable self.old.entries self.old.lasts self.old.bag }
         ensures { (t : Tables) (party : ℕ) → IsStep t self.old party (Step.Clone number) result self.new }
@@ -124,7 +121,6 @@ impl State {
     }
 
     /// A step of any party, also of an idle one.
-    #[tactic(auto, using(std::proofs::lemmas::Option::slice_get_within))]
     fn give(&mut self, number: u64) -> StepReply
         requires { SoundTable self.old.entries self.old.lasts self.old.bag }
         ensures { (t : Tables) (party : ℕ) → IsStep t self.old party (Step.Give number) result self.new }
@@ -140,7 +136,6 @@ impl State {
     }
 
     /// Takes a dying entry out of the list of the pass's bucket, or finds that it is held.
-    #[tactic(auto, using(std::proofs::lemmas::Option::slice_get_within))]
     fn unlink(&mut self, party: u32, number: u64) -> Result<StepReply, Fault>
         requires { AreWithin self.old }
         ensures ok { IfOk result (λ reply. (t : Tables) → IsStep t self.old party (Step.Unlink number) reply self.new) }
@@ -178,7 +173,6 @@ impl State {
     }
 
     /// Ends the party's pass, where it may end.
-    #[tactic(auto, using(std::proofs::lemmas::Option::slice_get_within))]
     fn leave(&mut self, party: u32) -> StepReply
         requires { AreWithin self.old }
         ensures { (t : Tables) → IsStep t self.old party Step.Leave result self.new }
