@@ -44,21 +44,43 @@ fn crews_agree(rt: HostRuntime) {
     assert!(rt; !crew_says(&rt, rt.alloc(), "Größe").expect(&rt, "an answer"));
 }
 
-/// Whether one thread finds the long text, which was declared, and not another.
-fn one_finds<R: Wait>(rt: &R, alloc: Global) -> Result<bool, Fault> {
-    let long = long_text(alloc)?;
-    let short = String::from_str(alloc, "Größe")?;
-    let same = declare_and_look_up(rt, alloc, &long, 7, &long)?;
-    let other = declare_and_look_up(rt, alloc, &long, 7, &short)?;
-    Ok(same == Some(7) && other.is_none())
+/// Who looks a text up that was declared.
+#[derive(Clone, Copy)]
+enum Crew {
+    One,
+    Two,
 }
 
-/// Whether two threads do.
-fn two_find<R: Threads + Wait + Sync>(rt: &R, alloc: Global) -> Result<bool, Fault> {
-    let long = long_text(alloc)?;
+/// What is found of a text where the long one was declared.
+fn found<R: Threads + Wait + Sync>(
+    rt: &R,
+    alloc: Global,
+    crew: Crew,
+    long: &String,
+    asked: &String,
+) -> Result<Option<u32>, Fault> {
+    match crew {
+        Crew::One => declare_and_look_up(rt, alloc, long, 7, asked),
+        Crew::Two => declare_and_look_up_by_threads(rt, alloc, long, 7, asked),
+    }
+}
+
+/// What is found of a short text.
+fn found_short<R: Threads + Wait + Sync>(
+    rt: &R,
+    alloc: Global,
+    crew: Crew,
+    long: &String,
+) -> Result<Option<u32>, Fault> {
     let short = String::from_str(alloc, "Größe")?;
-    let same = declare_and_look_up_by_threads(rt, alloc, &long, 7, &long)?;
-    let other = declare_and_look_up_by_threads(rt, alloc, &long, 7, &short)?;
+    found(rt, alloc, crew, long, &short)
+}
+
+/// Whether the crew finds the long text, which was declared, and not another.
+fn do_find<R: Threads + Wait + Sync>(rt: &R, alloc: Global, crew: Crew) -> Result<bool, Fault> {
+    let long = long_text(alloc)?;
+    let same = found(rt, alloc, crew, &long, &long)?;
+    let other = found_short(rt, alloc, crew, &long)?;
     Ok(same == Some(7) && other.is_none())
 }
 
@@ -80,8 +102,8 @@ fn eight_find<R: Threads + Wait + Sync>(rt: &R, alloc: Global) -> Result<bool, F
 /// A text that was declared is found, and another isn't.
 #[test]
 fn declared_texts_are_found(rt: HostRuntime) {
-    assert!(rt; one_finds(&rt, rt.alloc()).expect(&rt, "an answer"));
-    assert!(rt; two_find(&rt, rt.alloc()).expect(&rt, "an answer"));
+    assert!(rt; do_find(&rt, rt.alloc(), Crew::One).expect(&rt, "an answer"));
+    assert!(rt; do_find(&rt, rt.alloc(), Crew::Two).expect(&rt, "an answer"));
     assert!(rt; eight_find(&rt, rt.alloc()).expect(&rt, "an answer"));
 }
 
@@ -98,13 +120,51 @@ fn declare_all<'s, N: SetName, R: Wait>(
     Ok(())
 }
 
-/// The numbers that readers were told.
-fn numbers_of<N: SetName>(alloc: Global, all: &[Told<N>]) -> Result<Vec<Option<u32>>, Fault> {
-    let mut numbers = Vec::with_capacity(alloc, all.len())?;
-    for told in all {
-        numbers.push(told.number)?;
+/// Whether readers were told these numbers.
+fn are_told<N: SetName>(all: &[Told<N>], wanted: &[Option<u32>]) -> bool {
+    for (told, number) in all.iter().zip(wanted) {
+        if told.number != *number {
+            return false;
+        }
     }
-    Ok(numbers)
+    all.len() == wanted.len()
+}
+
+/// Whether eight readers are told what the map has for these texts.
+fn are_told_of<N: SetName + Send + Sync, R: Threads + Wait + Sync>(
+    rt: &R,
+    alloc: Global,
+    set: &Texts<N>,
+    symbols: &Symbols<N>,
+    texts: &[String],
+) -> Result<bool, Fault> {
+    let told = look_up_all(rt, alloc, set, symbols, texts)?;
+    let wanted = [
+        Some(300),
+        Some(3),
+        Some(2),
+        None,
+        None,
+        Some(300),
+        Some(3),
+        None,
+    ];
+    Ok(are_told(told.as_slice(), &wanted))
+}
+
+/// The same of copies of the texts, the long one among them.
+fn are_told_of_copies<N: SetName + Send + Sync, R: Threads + Wait + Sync>(
+    rt: &R,
+    alloc: Global,
+    set: &Texts<N>,
+    symbols: &Symbols<N>,
+    long: &str,
+) -> Result<bool, Fault> {
+    let texts = copies(
+        alloc,
+        &[long, "Größe", "長さ", "größe", "", long, "Größe", "長"],
+    )?;
+    are_told_of::<N, R>(rt, alloc, set, symbols, texts.as_slice())
 }
 
 /// Eight readers of a map of three names, one of which was declared twice.
@@ -118,23 +178,7 @@ fn eight_are_told<N: SetName + Send + Sync, R: Threads + Wait + Sync>(
     let mut symbols = Symbols::new(alloc);
     let names = [(long, 300), ("Größe", 1), ("長さ", 2), ("Größe", 3)];
     declare_all(rt, set, &mut symbols, &names)?;
-    let texts = copies(
-        alloc,
-        &[long, "Größe", "長さ", "größe", "", long, "Größe", "長"],
-    )?;
-    let told = look_up_all(rt, alloc, set, &symbols, texts.as_slice())?;
-    let wanted = [
-        Some(300),
-        Some(3),
-        Some(2),
-        None,
-        None,
-        Some(300),
-        Some(3),
-        None,
-    ];
-    let numbers = numbers_of(alloc, told.as_slice())?;
-    Ok(are_same(numbers.as_slice(), &wanted))
+    are_told_of_copies::<N, R>(rt, alloc, set, &symbols, long)
 }
 
 /// The same, in the set with this name.

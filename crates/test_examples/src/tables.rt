@@ -1,5 +1,6 @@
 //! The programs over a table.
 
+mod asked;
 mod compared;
 mod kept;
 mod kinds;

@@ -185,10 +185,15 @@ fn end_of(answer: &Result<Vec<TableReply>, Fault>) -> End {
     }
 }
 
+/// The replies of a table.
+fn run(table: &mut Table<EmptyStaticAtomSet>, calls: &[Call]) -> Result<Vec<TableReply>, Fault> {
+    table.run(calls)
+}
+
 /// The replies of a new table.
 fn run_in_new_table(alloc: Global, calls: &[Call]) -> Result<Vec<TableReply>, Fault> {
     let mut table = Table::<EmptyStaticAtomSet>::new(alloc)?;
-    table.run(calls)
+    run(&mut table, calls)
 }
 
 /// Runs the calls, and tells how that ended.
@@ -198,7 +203,7 @@ fn run_watched<R: Print>(
     calls: &[Call],
 ) -> (Result<Vec<TableReply>, Fault>, End) {
     begin(rt);
-    let answer = table.run(calls);
+    let answer = run(table, calls);
     let ended = end_of(&answer);
     finish(rt, ended);
     (answer, ended)
@@ -206,24 +211,34 @@ fn run_watched<R: Print>(
 
 /// An `Err` changes nothing, and the run is made again in the same table. Where one of the calls was refused, all are made again in
 /// a new one.
-fn replies_at_last<R: Print + Abort>(
+fn replies_in<R: Print + Abort>(
     rt: &R,
     alloc: Global,
+    table: &mut Table<EmptyStaticAtomSet>,
     calls: &[Call],
 ) -> Result<Vec<TableReply>, Fault> {
-    let mut table = Table::<EmptyStaticAtomSet>::new(alloc)?;
-    let (answer, ended) = run_watched(rt, &mut table, calls);
+    let (answer, ended) = run_watched(rt, table, calls);
     match ended {
         End::Given => answer,
         End::Refused => {
-            assert!(rt; is_empty(&table));
-            table.run(calls)
+            assert!(rt; is_empty(table));
+            run(table, calls)
         }
         End::RefusedMidway => {
             assert!(rt; answer?.len() == calls.len());
             run_in_new_table(alloc, calls)
         }
     }
+}
+
+/// The same, in a new table.
+fn replies_at_last<R: Print + Abort>(
+    rt: &R,
+    alloc: Global,
+    calls: &[Call],
+) -> Result<Vec<TableReply>, Fault> {
+    let mut table = Table::<EmptyStaticAtomSet>::new(alloc)?;
+    replies_in(rt, alloc, &mut table, calls)
 }
 
 #[test]

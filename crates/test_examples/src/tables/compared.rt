@@ -1,8 +1,8 @@
 //! Names that are compared.
 
+use super::asked::{Question, check};
 use super::kept::Plain;
 use example_tables::{are_one_name, is_keyword, same_word, two_come_and_go};
-use std::alloc::Global;
 use std::process::Abort;
 use string_cache_core::word::{Form, form_of};
 
@@ -17,10 +17,6 @@ const PAIRS: [(&str, &str, bool); 7] = [
     ("a", "", false),
 ];
 
-fn empty<R: Abort>(rt: &R, alloc: Global) -> Plain {
-    Plain::new(alloc).expect(rt, "a table")
-}
-
 #[test]
 fn names_have_one_word_each(rt: HostRuntime) {
     for (left, right, wanted) in &PAIRS {
@@ -34,15 +30,15 @@ fn told_of_keyword(table: &mut Plain, name: &str, keyword: &str, wanted: bool) -
     is_keyword(table, name, keyword) == Ok(wanted) && table.entries() == 0
 }
 
+pub fn check_keywords<R: Abort>(rt: &R, table: &mut Plain) {
+    for (name, word, wanted) in &PAIRS {
+        assert!(rt; told_of_keyword(table, name, word, *wanted), "of {name:?}");
+    }
+}
+
 #[test]
 fn keywords_are_told_and_given_back(rt: HostRuntime) {
-    let mut table = empty(&rt, rt.alloc());
-    for (name, word, wanted) in &PAIRS {
-        assert!(rt;
-            told_of_keyword(&mut table, name, word, *wanted),
-            "of {name:?}"
-        );
-    }
+    check(&rt, rt.alloc(), &[], Question::Keywords);
 }
 
 /// The same of two names that go in either order.
@@ -53,15 +49,15 @@ fn told_of_two(table: &mut Plain, first: &str, second: &str, wanted: bool) -> bo
         && table.entries() == 0
 }
 
+pub fn check_two_names<R: Abort>(rt: &R, table: &mut Plain) {
+    for (first, second, wanted) in &PAIRS {
+        assert!(rt; told_of_two(table, first, second, *wanted), "of {first:?}");
+    }
+}
+
 #[test]
 fn two_names_go_in_either_order(rt: HostRuntime) {
-    let mut table = empty(&rt, rt.alloc());
-    for (first, second, wanted) in &PAIRS {
-        assert!(rt;
-            told_of_two(&mut table, first, second, *wanted),
-            "of {first:?}"
-        );
-    }
+    check(&rt, rt.alloc(), &[], Question::TwoNames);
 }
 
 /// The same of a name twice, and another.
@@ -69,15 +65,15 @@ fn told_of_three(table: &mut Plain, name: &str, other: &str, wanted: bool) -> bo
     are_one_name(table, name, name, other) == Ok(wanted) && table.entries() == 0
 }
 
+pub fn check_three_names<R: Abort>(rt: &R, table: &mut Plain) {
+    for (name, other, wanted) in &PAIRS {
+        assert!(rt; told_of_three(table, name, other, *wanted), "of {name:?}");
+    }
+}
+
 #[test]
 fn three_names_are_compared(rt: HostRuntime) {
-    let mut table = empty(&rt, rt.alloc());
-    for (name, other, wanted) in &PAIRS {
-        assert!(rt;
-            told_of_three(&mut table, name, other, *wanted),
-            "of {name:?}"
-        );
-    }
+    check(&rt, rt.alloc(), &[], Question::ThreeNames);
 }
 
 /// Whether the word of a text is a ticket. `None` where it is neither that nor inline.
@@ -93,16 +89,19 @@ fn is_long(word: &str) -> bool {
     ["sentence", "tokenised", "interned", "repeated"].contains(&word)
 }
 
-/// Of the words of the original's example, exactly four are dynamic.
-#[test]
-fn forms_of_the_example(rt: HostRuntime) {
+pub fn check_forms<R: Abort>(rt: &R, table: &mut Plain) {
     let text =
         "here is a sentence of text that will be tokenised and\ninterned and some repeated tokens is of text and";
-    let mut table = empty(&rt, rt.alloc());
     for word in text.split_whitespace() {
         assert!(rt;
-            is_dynamic(&mut table, word) == Some(is_long(word)),
+            is_dynamic(table, word) == Some(is_long(word)),
             "of {word:?}"
         );
     }
+}
+
+/// Of the words of the original's example, exactly four are dynamic.
+#[test]
+fn forms_of_the_example(rt: HostRuntime) {
+    check(&rt, rt.alloc(), &[], Question::Forms);
 }

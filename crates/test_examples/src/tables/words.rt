@@ -1,6 +1,7 @@
 //! Words that are shared, handed on and read.
 
-use super::kept::{Plain, filled};
+use super::asked::{Question, check};
+use super::kept::Plain;
 use example_tables::{
     comes_and_goes, first_byte, hand_on, is_known, is_shared, lent_text, price_of, reads_back,
     share,
@@ -24,25 +25,37 @@ fn is_read_back(alloc: Global, table: &mut Table<One>, name: &str) -> bool {
     }
 }
 
-#[test]
-fn words_of_all_forms_have_texts(rt: HostRuntime) {
-    let mut table = with_static_text(&rt, rt.alloc());
+fn check_reading_back<R: Abort>(rt: &R, alloc: Global, table: &mut Table<One>) {
     for name in &["", "table", "sentence", "tokenised", "m\u{f6}glicherweise"] {
-        assert!(rt; is_read_back(rt.alloc(), &mut table, name), "of {name:?}");
+        assert!(rt; is_read_back(alloc, table, name), "of {name:?}");
     }
 }
 
 #[test]
-fn names_are_looked_up(rt: HostRuntime) {
-    let table = filled(&rt, rt.alloc(), &["pear tree", "m\u{f6}glicherweise"]);
+fn words_of_all_forms_have_texts(rt: HostRuntime) {
+    let mut table = with_static_text(&rt, rt.alloc());
+    check_reading_back(&rt, rt.alloc(), &mut table);
+}
+
+fn knows(table: &Plain, name: &str) -> bool {
+    is_known(table, name)
+}
+
+pub fn check_look_ups<R: Abort>(rt: &R, table: &Plain) {
     for (name, wanted) in &[
         ("pear tree", true),
         ("plum tree", false),
         ("plum", true), // inline
         ("m\u{f6}glicherweise", true),
     ] {
-        assert!(rt; is_known(&table, name) == *wanted, "of {name:?}");
+        assert!(rt; knows(table, name) == *wanted, "of {name:?}");
     }
+}
+
+#[test]
+fn names_are_looked_up(rt: HostRuntime) {
+    let names = ["pear tree", "m\u{f6}glicherweise"];
+    check(&rt, rt.alloc(), &names, Question::LookUps);
 }
 
 /// Whether a name is known once another one has come and gone.
@@ -50,11 +63,14 @@ fn knows_after(table: &mut Plain, other: &str, name: &str) -> bool {
     comes_and_goes(table, other).is_ok() && is_known(table, name)
 }
 
+pub fn check_coming_and_going<R: Abort>(rt: &R, table: &mut Plain) {
+    assert!(rt; !knows_after(table, "plum tree", "plum tree"));
+    assert!(rt; knows_after(table, "pear tree", "pear tree"));
+}
+
 #[test]
 fn a_name_comes_and_goes(rt: HostRuntime) {
-    let mut table = filled(&rt, rt.alloc(), &["pear tree"]);
-    assert!(rt; !knows_after(&mut table, "plum tree", "plum tree"));
-    assert!(rt; knows_after(&mut table, "pear tree", "pear tree"));
+    check(&rt, rt.alloc(), &["pear tree"], Question::ComingAndGoing);
 }
 
 /// Whether a name is known once its word was handed on, and isn't shared.
@@ -68,11 +84,14 @@ fn is_handed_on(table: &mut Plain, name: &str) -> bool {
     }
 }
 
+pub fn check_handing_on<R: Abort>(rt: &R, table: &mut Plain) {
+    assert!(rt; is_handed_on(table, "pear tree"));
+    assert!(rt; is_handed_on(table, "plum")); // inline
+}
+
 #[test]
 fn a_word_is_handed_on(rt: HostRuntime) {
-    let mut table = filled(&rt, rt.alloc(), &["pear tree"]);
-    assert!(rt; is_handed_on(&mut table, "pear tree"));
-    assert!(rt; is_handed_on(&mut table, "plum")); // inline
+    check(&rt, rt.alloc(), &["pear tree"], Question::HandingOn);
 }
 
 /// Whether a word was held as it was shared, and is shared then.
@@ -87,12 +106,15 @@ fn shared_name(table: &mut Plain, name: &str) -> Option<(bool, bool)> {
     shared(table, word)
 }
 
+pub fn check_sharing<R: Abort>(rt: &R, table: &mut Plain) {
+    assert!(rt; shared_name(table, "pear tree") == Some((true, true)));
+    assert!(rt; shared_name(table, "plum") == Some((true, false))); // inline
+    assert!(rt; shared(table, 0) == Some((false, false))); // no word
+}
+
 #[test]
 fn words_are_shared(rt: HostRuntime) {
-    let mut table = filled(&rt, rt.alloc(), &["pear tree"]);
-    assert!(rt; shared_name(&mut table, "pear tree") == Some((true, true)));
-    assert!(rt; shared_name(&mut table, "plum") == Some((true, false))); // inline
-    assert!(rt; shared(&mut table, 0) == Some((false, false))); // no word
+    check(&rt, rt.alloc(), &["pear tree"], Question::Sharing);
 }
 
 /// The first byte of a name, by its word.
@@ -100,18 +122,22 @@ fn begins_with(table: &Plain, name: &str) -> Option<u8> {
     first_byte(table, table.get(name)?)
 }
 
-#[test]
-fn words_have_first_bytes(rt: HostRuntime) {
-    let table = filled(&rt, rt.alloc(), &["pear tree", "\u{f6}rtlich gebunden"]);
+pub fn check_first_bytes<R: Abort>(rt: &R, table: &Plain) {
     for (name, wanted) in &[
         ("pear tree", Some(0x70u8)),
         ("\u{f6}rtlich gebunden", Some(0xc3)),
         ("plum", Some(0x70)),
         ("", None),
     ] {
-        assert!(rt; begins_with(&table, name) == *wanted, "of {name:?}");
+        assert!(rt; begins_with(table, name) == *wanted, "of {name:?}");
     }
-    assert!(rt; first_byte(&table, 0).is_none()); // no word
+    assert!(rt; first_byte(table, 0).is_none()); // no word
+}
+
+#[test]
+fn words_have_first_bytes(rt: HostRuntime) {
+    let names = ["pear tree", "\u{f6}rtlich gebunden"];
+    check(&rt, rt.alloc(), &names, Question::FirstBytes);
 }
 
 /// Whether a name has a word, for which the table lends this text: none where it is inline.
@@ -122,12 +148,15 @@ fn lends(table: &Plain, name: &str, text: Option<&str>) -> bool {
     }
 }
 
+pub fn check_lending<R: Abort>(rt: &R, table: &Plain) {
+    for (name, text) in &[("pear tree", Some("pear tree")), ("plum", None)] {
+        assert!(rt; lends(table, name, *text), "of {name:?}");
+    }
+}
+
 #[test]
 fn texts_are_lent(rt: HostRuntime) {
-    let table = filled(&rt, rt.alloc(), &["pear tree"]);
-    for (name, text) in &[("pear tree", Some("pear tree")), ("plum", None)] {
-        assert!(rt; lends(&table, name, *text), "of {name:?}");
-    }
+    check(&rt, rt.alloc(), &["pear tree"], Question::Lending);
 }
 
 /// Prices by word, with one of this word.
@@ -143,16 +172,18 @@ fn priced(alloc: Global, table: &Plain, known: &str, name: &str) -> Option<u32> 
     price_of(table, &prices, name)
 }
 
-#[test]
-fn prices_are_found_by_text(rt: HostRuntime) {
-    let table = filled(&rt, rt.alloc(), &["pear tree"]);
+pub fn check_prices<R: Abort>(rt: &R, alloc: Global, table: &Plain) {
     for (known, name, price) in &[
         ("pear tree", "pear tree", Some(40u32)),
         ("pear tree", "plum tree", None), // not held
         ("pear tree", "plum", None),
         ("plum", "plum", Some(40)), // inline
     ] {
-        let found = priced(rt.alloc(), &table, known, name);
-        assert!(rt; found == *price, "of {name:?}");
+        assert!(rt; priced(alloc, table, known, name) == *price, "of {name:?}");
     }
+}
+
+#[test]
+fn prices_are_found_by_text(rt: HostRuntime) {
+    check(&rt, rt.alloc(), &["pear tree"], Question::Prices);
 }
