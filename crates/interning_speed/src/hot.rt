@@ -1,12 +1,14 @@
 //! The calls of a set on a few texts, over and over.
 
 use crate::elements::Elements;
-use crate::phases::Phase;
+use crate::phases::Phases;
+use std::alloc::Global;
 use std::rt::Clock;
 use std::sync::Wait;
 use std::time::Instant;
 use string_cache::dynamic_set::Set;
-use string_cache::{Atom, StaticAtomSet};
+use string_cache::word::{Buckets, Limits};
+use string_cache::{Atom, Fault, StaticAtomSet};
 
 /// Texts that are held in place.
 const INLINE: [&str; 8] = ["a", "be", "div", "span", "table", "strong", "section", ""];
@@ -42,7 +44,7 @@ struct Hot<'s, R: Wait> {
     set: &'s Set<Elements>,
     /// How often each call is made of each text.
     rounds: usize,
-    phases: Vec<Phase>,
+    phases: &'s mut Phases,
 }
 
 impl<'s, R: Wait + Clock> Hot<'s, R> {
@@ -54,14 +56,8 @@ impl<'s, R: Wait + Clock> Hot<'s, R> {
         done: usize,
         start: Instant,
     ) -> Result<(), anyhow::Error> {
-        let time = start.elapsed(self.rt)?;
-        self.phases.push(Phase {
-            name,
-            calls: texts.saturating_mul(self.rounds),
-            done,
-            time,
-        })?;
-        Ok(())
+        let calls = texts.saturating_mul(self.rounds);
+        self.phases.note(self.rt, name, calls, done, start)
     }
 
     /// Interns the texts in turn, and drops each atom at once.
@@ -131,6 +127,15 @@ impl<'s, R: Wait + Clock> Hot<'s, R> {
         }
         self.note(name, lefts.len(), done, start)
     }
+
+    /// Times each kind of call.
+    fn measure(&mut self) -> Result<(), anyhow::Error> {
+        self.intern("intern and drop, inline", &INLINE)?;
+        self.intern("intern and drop, static", texts_of::<Elements>())?;
+        self.intern_and_clone_held()?;
+        self.compare("== of one text", &DYNAMIC, &DYNAMIC, true)?;
+        self.compare("== of two texts", &DYNAMIC, &TURNED, false)
+    }
 }
 
 /// The atoms of the texts.
@@ -138,7 +143,7 @@ fn atoms_of<'s, R: Wait>(
     rt: &R,
     set: &'s Set<Elements>,
     texts: &[&str],
-) -> Result<Vec<Atom<'s, Elements>>, anyhow::Error> {
+) -> Result<Vec<Atom<'s, Elements>>, Fault> {
     let mut atoms = Vec::new(set.allocator());
     for text in texts {
         atoms.push(Atom::from_str_in(rt, set, text)?)?;
@@ -155,20 +160,17 @@ fn texts_of<S: StaticAtomSet>() -> &'static [&'static str] {
 /// text and of two: this number of rounds of each.
 pub fn measure<R: Wait + Clock>(
     rt: &R,
-    set: &Set<Elements>,
+    alloc: Global,
+    buckets: Buckets,
     rounds: usize,
-) -> Result<Vec<Phase>, anyhow::Error> {
+    phases: &mut Phases,
+) -> Result<(), anyhow::Error> {
+    let set = Set::with_buckets(alloc, Limits::greatest(), buckets)?;
     let mut hot = Hot {
         rt,
-        set,
+        set: &set,
         rounds,
-        phases: Vec::new(set.allocator()),
+        phases,
     };
-    hot.intern("intern and drop, inline", &INLINE)?;
-    hot.intern("intern and drop, static", texts_of::<Elements>())?;
-    hot.intern_and_clone_held()?;
-    hot.compare("== of one text", &DYNAMIC, &DYNAMIC, true)?;
-    hot.compare("== of two texts", &DYNAMIC, &TURNED, false)?;
-    let Hot { phases, .. } = hot;
-    Ok(phases)
+    hot.measure()
 }

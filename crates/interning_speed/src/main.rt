@@ -10,18 +10,14 @@ mod phases;
 mod table;
 mod texts;
 
-use elements::Elements;
-use phases::Phase;
+use phases::{Phase, Phases};
 use std::alloc::Global;
 use std::io::Print;
 use std::rt::{Clock, Env};
 use std::sync::Wait;
 use std::thread::Threads;
 use std::{env, fmt};
-use string_cache::EmptyStaticAtomSet;
-use string_cache::dynamic_set::Set;
-use string_cache::word::{Buckets, Limits};
-use texts::Texts;
+use string_cache::word::Buckets;
 
 /// What is printed of each kind of call.
 #[derive(Clone, Copy)]
@@ -137,29 +133,15 @@ fn measure<R: Threads + Wait + Clock + Sync>(
     alloc: Global,
     subject: Subject,
     command: &Command,
-) -> Result<Vec<Phase>, anyhow::Error> {
-    let limits = Limits::greatest();
+    phases: &mut Phases,
+) -> Result<(), anyhow::Error> {
+    let (buckets, number) = (command.buckets, command.number);
     match subject {
-        Subject::Table => table::measure(rt, alloc, &Texts::new(alloc, command.number)?),
-        Subject::Hot => {
-            let set = Set::<Elements>::with_buckets(alloc, limits, command.buckets)?;
-            hot::measure(rt, &set, command.number)
-        }
-        Subject::Live => {
-            let set = Set::<EmptyStaticAtomSet>::with_buckets(alloc, limits, command.buckets)?;
-            live::measure(rt, &set, &Texts::new(alloc, command.number)?)
-        }
-        Subject::Crowd => {
-            let set = Set::<EmptyStaticAtomSet>::with_buckets(alloc, limits, command.buckets)?;
-            let texts = Texts::new(alloc, command.number)?;
-            let mut phases = Vec::new(alloc);
-            phases.push(crowd::measure(rt, &set, &texts, command.workers)?)?;
-            Ok(phases)
-        }
-        Subject::Named => {
-            let texts = Texts::new(alloc, command.number)?;
-            named::measure(rt, alloc, command.buckets, &texts)
-        }
+        Subject::Table => table::measure(rt, alloc, number, phases),
+        Subject::Hot => hot::measure(rt, alloc, buckets, number, phases),
+        Subject::Live => live::measure(rt, alloc, buckets, number, phases),
+        Subject::Crowd => crowd::measure(rt, alloc, buckets, number, command.workers, phases),
+        Subject::Named => named::measure(rt, alloc, buckets, number, phases),
     }
 }
 
@@ -174,6 +156,26 @@ fn print(rt: &impl Print, report: Report, phase: &Phase) -> Result<(), anyhow::E
     Ok(())
 }
 
+fn print_all(rt: &impl Print, report: Report, phases: &[Phase]) -> Result<(), anyhow::Error> {
+    for phase in phases {
+        print(rt, report, phase)?;
+    }
+    Ok(())
+}
+
+/// Times a subject, and prints what came of it.
+fn run_subject<R: Threads + Wait + Clock + Print + Sync>(
+    rt: &R,
+    alloc: Global,
+    subject: Subject,
+    command: &Command,
+) -> Result<(), anyhow::Error> {
+    println!(rt; "{subject}:")?;
+    let mut phases = Phases::new(alloc);
+    measure(rt, alloc, subject, command, &mut phases)?;
+    print_all(rt, command.report, phases.list())
+}
+
 fn main(rt: HostRuntime) -> Result<(), anyhow::Error> {
     let Some(command) = asked_for(&rt)? else {
         println!(rt;
@@ -183,10 +185,7 @@ fn main(rt: HostRuntime) -> Result<(), anyhow::Error> {
     };
     for subject in ALL {
         if command.only.is_none_or(|only| only == subject) {
-            println!(rt; "{subject}:")?;
-            for phase in &measure(&rt, rt.alloc(), subject, &command)? {
-                print(&rt, command.report, phase)?;
-            }
+            run_subject(&rt, rt.alloc(), subject, &command)?;
         }
     }
     Ok(())

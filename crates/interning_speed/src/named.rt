@@ -2,7 +2,7 @@
 
 ghost use Rattle.std.specs.Prelude.{◌≡◌};
 
-use crate::phases::Phase;
+use crate::phases::Phases;
 use crate::texts::Texts;
 use named_atoms::{ByWord, NamedAtom};
 use named_set::{FreshName, NamedSet, SetName};
@@ -46,12 +46,25 @@ fn key_of<'s, N: SetName>(atom: Word<'s, N>) -> Key<'s, N> {
     ByWord::new(atom)
 }
 
+/// Compares the atoms with those at their places in the other list. How often `==` said what it has to say.
+fn compare_all<'s, N: SetName>(
+    lefts: &[Word<'s, N>],
+    rights: &[Word<'s, N>],
+    is_equal: bool,
+) -> usize {
+    let mut done = 0usize;
+    for (left, right) in lefts.iter().zip(rights) {
+        done = done.wrapping_add(usize::from((left == right) == is_equal));
+    }
+    done
+}
+
 /// The set with this name, and what was timed on it.
 #[derive(Drop)]
 struct Measured<'s, N: SetName, R: Wait> {
     rt: &'s R,
     set: &'s Named<N>,
-    phases: Vec<Phase>,
+    phases: &'s mut Phases,
 }
 
 impl<'s, N: SetName, R: Wait + Clock> Measured<'s, N, R> {
@@ -63,14 +76,7 @@ impl<'s, N: SetName, R: Wait + Clock> Measured<'s, N, R> {
         done: usize,
         start: Instant,
     ) -> Result<(), anyhow::Error> {
-        let time = start.elapsed(self.rt)?;
-        self.phases.push(Phase {
-            name,
-            calls,
-            done,
-            time,
-        })?;
-        Ok(())
+        self.phases.note(self.rt, name, calls, done, start)
     }
 
     /// Interns the texts, and answers their atoms.
@@ -121,11 +127,8 @@ impl<'s, N: SetName, R: Wait + Clock> Measured<'s, N, R> {
         rights: &[Word<'s, N>],
         is_equal: bool,
     ) -> Result<(), anyhow::Error> {
-        let mut done = 0usize;
         let start = Instant::now(self.rt)?;
-        for (left, right) in lefts.iter().zip(rights) {
-            done = done.wrapping_add(usize::from((left == right) == is_equal));
-        }
+        let done = compare_all(lefts, rights, is_equal);
         self.note(name, rights.len(), done, start)
     }
 
@@ -140,36 +143,15 @@ impl<'s, N: SetName, R: Wait + Clock> Measured<'s, N, R> {
         self.compare("== of two texts", atoms, others, false)
     }
 
-    /// The atom of a long text.
-    fn long_one(&self) -> Result<Word<'s, N>, Fault> {
-        let text = "interned, ".repeat(self.set.allocator(), 1000)?;
-        interned(self.rt, self.set, text.as_str())
-    }
-
-    /// So many clones of an atom.
-    fn clones_of(&self, atom: &Word<'s, N>, count: usize) -> Result<Vec<Word<'s, N>>, Fault> {
-        let mut clones = Vec::with_capacity(self.set.allocator(), count)?;
-        for _clone in 0..count {
-            clones.push(cloned(self.rt, atom)?)?;
-        }
-        Ok(clones)
-    }
-
-    /// So many atoms of a long text.
-    fn long_ones(&self, count: usize) -> Result<Vec<Word<'s, N>>, Fault> {
-        let atom = self.long_one()?;
-        self.clones_of(&atom, count)
-    }
-
     /// Compares the atoms, of one long text, with as many others of it.
     fn compare_with_long(&mut self, lefts: &[Word<'s, N>]) -> Result<(), anyhow::Error> {
-        let rights = self.long_ones(lefts.len())?;
+        let rights = long_ones(self.rt, self.set, lefts.len())?;
         self.compare("== of one text of 10,000 bytes", lefts, &rights, true)
     }
 
     /// Compares atoms of one long text.
     fn compare_long(&mut self, count: usize) -> Result<(), anyhow::Error> {
-        let lefts = self.long_ones(count)?;
+        let lefts = long_ones(self.rt, self.set, count)?;
         self.compare_with_long(&lefts)
     }
 
@@ -206,6 +188,45 @@ impl<'s, N: SetName, R: Wait + Clock> Measured<'s, N, R> {
         let keys = keys_of(self.set.allocator(), atoms)?;
         self.look_up(&keys)
     }
+
+    /// Times each kind of call.
+    fn measure(&mut self, texts: &Texts) -> Result<(), anyhow::Error> {
+        let first = self.intern("intern of a new text", texts.first())?;
+        let again = self.intern("intern of a text that is there", texts.again())?;
+        self.compare_clones(&again)?;
+        self.look_up_all(first)?;
+        self.drop_all("last drop, of any", again)
+    }
+}
+
+/// The atom of a long text.
+fn long_one<'s, N: SetName, R: Wait>(rt: &R, set: &'s Named<N>) -> Result<Word<'s, N>, Fault> {
+    let text = "interned, ".repeat(set.allocator(), 1000)?;
+    interned(rt, set, text.as_str())
+}
+
+/// So many clones of an atom.
+fn clones_of<'s, N: SetName, R: Wait>(
+    rt: &R,
+    alloc: Global,
+    atom: &Word<'s, N>,
+    count: usize,
+) -> Result<Vec<Word<'s, N>>, Fault> {
+    let mut clones = Vec::with_capacity(alloc, count)?;
+    for _clone in 0..count {
+        clones.push(cloned(rt, atom)?)?;
+    }
+    Ok(clones)
+}
+
+/// So many atoms of a long text.
+fn long_ones<'s, N: SetName, R: Wait>(
+    rt: &R,
+    set: &'s Named<N>,
+    count: usize,
+) -> Result<Vec<Word<'s, N>>, Fault> {
+    let atom = long_one(rt, set)?;
+    clones_of(rt, set.allocator(), &atom, count)
 }
 
 /// The same word as a key of its own.
@@ -238,15 +259,30 @@ fn keys_of<'s, N: SetName>(
     Ok(keys)
 }
 
-/// Times each kind of call in a set that is new.
+/// Times each kind of call in a set that is new: interning texts that are new, and in another order where they are there, cloning the
+/// atoms in that order, the comparison of clones with their atoms and with others, and of atoms of one long text, the ends of the clones,
+/// look-ups by words, and the ends of the last atoms.
 pub fn measure<R: Wait + Clock>(
     rt: &R,
     alloc: Global,
     buckets: Buckets,
+    count: usize,
+    phases: &mut Phases,
+) -> Result<(), anyhow::Error> {
+    let texts = Texts::new(alloc, count)?;
+    measure_texts(rt, alloc, buckets, &texts, phases)
+}
+
+/// The same, over these texts.
+fn measure_texts<R: Wait + Clock>(
+    rt: &R,
+    alloc: Global,
+    buckets: Buckets,
     texts: &Texts,
-) -> Result<Vec<Phase>, anyhow::Error> {
+    phases: &mut Phases,
+) -> Result<(), anyhow::Error> {
     let name = FreshName::new(alloc, buckets)?;
-    measure_named::<Brand, R>(rt, alloc, name, texts)
+    measure_named::<Brand, R>(rt, alloc, name, texts, phases)
 }
 
 /// The same, in the set with this name.
@@ -255,31 +291,21 @@ fn measure_named<N: SetName, R: Wait + Clock>(
     alloc: Global,
     name: FreshName,
     texts: &Texts,
-) -> Result<Vec<Phase>, anyhow::Error>
+    phases: &mut Phases,
+) -> Result<(), anyhow::Error>
     requires { N.logs ≡ name.logs }
 {
     let set = NamedSet::new(alloc, name, Limits::greatest())?;
-    measure_in::<N, R>(rt, &set, texts)
+    measure_in::<N, R>(rt, &set, texts, phases)
 }
 
-/// The same, in this set: interning texts that are new, and in another order where they are there, cloning the atoms in that order, the
-/// comparison of clones with their atoms and with others, and of atoms of one long text, the ends of the clones, look-ups by words, and
-/// the ends of the last atoms.
+/// The same, in this set.
 fn measure_in<N: SetName, R: Wait + Clock>(
     rt: &R,
     set: &Named<N>,
     texts: &Texts,
-) -> Result<Vec<Phase>, anyhow::Error> {
-    let mut measured = Measured {
-        rt,
-        set,
-        phases: Vec::new(set.allocator()),
-    };
-    let first = measured.intern("intern of a new text", texts.first())?;
-    let again = measured.intern("intern of a text that is there", texts.again())?;
-    measured.compare_clones(&again)?;
-    measured.look_up_all(first)?;
-    measured.drop_all("last drop, of any", again)?;
-    let Measured { phases, .. } = measured;
-    Ok(phases)
+    phases: &mut Phases,
+) -> Result<(), anyhow::Error> {
+    let mut measured = Measured { rt, set, phases };
+    measured.measure(texts)
 }

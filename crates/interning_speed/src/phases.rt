@@ -1,10 +1,11 @@
 //! What is timed.
 
+use std::alloc::Global;
 use std::rt::Clock;
 use std::time::{Duration, Instant};
 
 /// What a number of calls of one kind did, and how long they took together.
-#[derive(Drop)]
+#[derive(Clone, Copy)]
 pub struct Phase {
     /// The kind.
     pub name: &'static str,
@@ -24,5 +25,49 @@ impl Phase {
             .saturating_mul(10)
             .checked_div(self.calls as u128)
             .unwrap_or(0)
+    }
+}
+
+/// What was timed so far.
+#[derive(Drop)]
+pub struct Phases {
+    list: Vec<Phase>,
+}
+
+impl Phases {
+    /// Nothing.
+    pub fn new(alloc: Global) -> Phases {
+        Phases {
+            list: Vec::new(alloc),
+        }
+    }
+
+    /// What was timed, the first first.
+    pub fn list(&self) -> &[Phase] {
+        &self.list
+    }
+
+    /// Notes calls that were timed.
+    pub fn add(&mut self, phase: Phase) -> Result<(), anyhow::Error> {
+        self.list.push(phase)?;
+        Ok(())
+    }
+
+    /// Notes the calls since then: how many were made, and how many did what they were made for.
+    pub fn note<R: Clock>(
+        &mut self,
+        rt: &R,
+        name: &'static str,
+        calls: usize,
+        done: usize,
+        start: Instant,
+    ) -> Result<(), anyhow::Error> {
+        let time = start.elapsed(rt)?;
+        self.add(Phase {
+            name,
+            calls,
+            done,
+            time,
+        })
     }
 }

@@ -37,6 +37,19 @@ impl Random {
         }
         Ok(text)
     }
+
+    /// Adds so many texts.
+    fn push_texts(
+        &mut self,
+        alloc: Global,
+        count: usize,
+        texts: &mut Vec<String>,
+    ) -> Result<(), AllocError> {
+        for _text in 0..count {
+            texts.push(self.text(alloc)?)?;
+        }
+        Ok(())
+    }
 }
 
 /// Texts of 8 to 32 bytes, and the same texts in another order. Each order lies in memory as it is read, so that reading
@@ -54,21 +67,30 @@ impl Texts {
         let mut random = Random {
             state: 0x9e37_79b9_7f4a_7c15,
         };
-        let mut first = Vec::new(alloc);
-        for _text in 0..count {
-            first.push(random.text(alloc)?)?;
-        }
-        let mut again = Vec::new(alloc);
-        for at in shuffled(alloc, count, &mut random)? {
-            if let Some(text) = first.get(at) {
-                again.push(text.clone()?)?;
+        let mut texts = Texts {
+            first: Vec::new(alloc),
+            again: Vec::new(alloc),
+            more: Vec::new(alloc),
+        };
+        texts.fill(alloc, count, &mut random)?;
+        Ok(texts)
+    }
+
+    /// Adds so many texts, and a tenth as many more.
+    fn fill(&mut self, alloc: Global, count: usize, random: &mut Random) -> Result<(), AllocError> {
+        random.push_texts(alloc, count, &mut self.first)?;
+        self.say_again(&shuffled(alloc, count, random)?)?;
+        random.push_texts(alloc, count / 10, &mut self.more)
+    }
+
+    /// Adds the first texts once more, in this order.
+    fn say_again(&mut self, order: &[usize]) -> Result<(), AllocError> {
+        for at in order {
+            if let Some(text) = self.first.get(*at) {
+                self.again.push(text.clone()?)?;
             }
         }
-        let mut more = Vec::new(alloc);
-        for _text in 0..count / 10 {
-            more.push(random.text(alloc)?)?;
-        }
-        Ok(Texts { first, again, more })
+        Ok(())
     }
 
     /// The texts in their first order.
