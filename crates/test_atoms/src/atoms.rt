@@ -1,12 +1,11 @@
 //! What no contract says: words and texts that come from outside, and sets that threads share.
 
-use crate::samples::{intern, new_set};
+use crate::samples::{DefaultSet, intern, new_set};
 use std::process::Abort;
 use std::sync::Wait;
-use std::thread;
+use std::thread::{self, Threads};
 use string_cache::dynamic_set::Set;
-use string_cache::static_sets::EmptyStaticAtomSet;
-use string_cache::{Atom, DefaultAtom, Fault};
+use string_cache::{Atom, DefaultAtom};
 use test_calls::{are_one, has_text, has_word};
 use test_samples::One;
 
@@ -16,19 +15,14 @@ fn crosses<T: Send + Sync>(_value: &T) {}
 /// Whether atoms of the two texts, from two sets, are equal.
 fn are_equal<'s, R: Wait + Abort>(
     rt: &R,
-    left: (&'s Set<EmptyStaticAtomSet>, &str),
-    right: (&'s Set<EmptyStaticAtomSet>, &str),
+    left: (&'s DefaultSet, &str),
+    right: (&'s DefaultSet, &str),
 ) -> bool {
     intern(rt, left.0, left.1) == intern(rt, right.0, right.1)
 }
 
 /// Whether the text is inline, with this word and its own bytes.
-fn has_inline_word<R: Wait + Abort>(
-    rt: &R,
-    set: &Set<EmptyStaticAtomSet>,
-    text: &str,
-    word: u64,
-) -> bool {
+fn has_inline_word<R: Wait + Abort>(rt: &R, set: &DefaultSet, text: &str, word: u64) -> bool {
     let atom = intern(rt, set, text);
     atom.is_inline() && has_word(&atom, word) && atom.as_bytes() == text.as_bytes()
 }
@@ -53,12 +47,7 @@ fn inline_atoms(rt: HostRuntime) {
 }
 
 /// Whether the text is dynamic, with this word and its own text.
-fn has_ticket<R: Wait + Abort>(
-    rt: &R,
-    set: &Set<EmptyStaticAtomSet>,
-    text: &str,
-    ticket: u64,
-) -> bool {
+fn has_ticket<R: Wait + Abort>(rt: &R, set: &DefaultSet, text: &str, ticket: u64) -> bool {
     let atom = intern(rt, set, text);
     atom.is_dynamic() && has_word(&atom, ticket) && has_text(&atom, text)
 }
@@ -162,14 +151,8 @@ fn not_static(rt: HostRuntime) {
 /// An atom of a text that all threads intern, and one of a text of a thread's own.
 type Both<'s> = (DefaultAtom<'s>, DefaultAtom<'s>);
 
-fn intern_both<'s, R: Wait>(
-    rt: &R,
-    set: &'s Set<EmptyStaticAtomSet>,
-    own: &str,
-) -> Result<Both<'s>, Fault> {
-    let both = Atom::from_str_in(rt, set, "tokenised")?;
-    let own = Atom::from_str_in(rt, set, own)?;
-    Ok((both, own))
+fn intern_both<'s, R: Wait + Abort>(rt: &R, set: &'s DefaultSet, own: &str) -> Both<'s> {
+    (intern(rt, set, "tokenised"), intern(rt, set, own))
 }
 
 /// Whether two threads have one atom of the text that both interned.
@@ -177,19 +160,27 @@ fn is_shared(left: &DefaultAtom<'_>, right: &DefaultAtom<'_>) -> bool {
     left == right && are_one(left, right)
 }
 
+/// Whether they have, and atoms of texts of their own.
+fn are_shared(left: &Both<'_>, right: &Both<'_>) -> bool {
+    crosses(left);
+    is_shared(&left.0, &right.0)
+        && left.1 != right.1
+        && has_text(&left.1, "sentence")
+        && has_text(&right.1, "repeated")
+}
+
+fn share<R: Threads + Wait + Abort + Sync>(rt: &R, set: &DefaultSet) -> bool {
+    crosses(set);
+    let (left, right) = thread::join(
+        rt,
+        || intern_both(rt, set, "sentence"),
+        || intern_both(rt, set, "repeated"),
+    );
+    are_shared(&left, &right)
+}
+
 #[test]
 fn shared_by_threads(rt: HostRuntime) {
     let set = new_set(&rt, rt.alloc());
-    crosses(&set);
-    let (shared, handle) = (&set, &rt);
-    let (left, right) = thread::join(
-        &rt,
-        || intern_both(handle, shared, "sentence"),
-        || intern_both(handle, shared, "repeated"),
-    );
-    let left = left.expect(&rt, "an answer");
-    let right = right.expect(&rt, "an answer");
-    crosses(&left);
-    assert!(rt; is_shared(&left.0, &right.0) && left.1 != right.1);
-    assert!(rt; has_text(&left.1, "sentence") && has_text(&right.1, "repeated"));
+    assert!(rt; share(&rt, &set));
 }

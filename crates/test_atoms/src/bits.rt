@@ -2,21 +2,18 @@
 //! bucket times 4.
 
 use crate::samples::{
-    BITS, DefaultSet, buckets_of, check_atom, check_linked, drop_under_locks, hash_of, intern,
-    one_bucket,
+    BITS, DefaultSet, buckets_of, check_atom, check_linked, drop_under_locks, intern, one_bucket,
 };
 use std::alloc::Global;
 use std::process::Abort;
 use std::sync::Wait;
-use std::test::Fail;
 use string_cache::DefaultAtom;
-use string_cache::dynamic_set::Set;
 use string_cache::static_sets::EmptyStaticAtomSet;
-use string_cache::word::{Buckets, Limits};
-use test_calls::look_up;
+use string_cache::word::Buckets;
+use test_calls::{hash_of, look_up, made_with};
 
 fn set_of(rt: &impl Abort, alloc: Global, buckets: Buckets) -> DefaultSet {
-    Set::with_buckets(alloc, Limits::greatest(), buckets).expect(rt, "a set")
+    made_with(alloc, buckets).expect(rt, "a set")
 }
 
 /// Whether the set has this many buckets, and one entry, in the bucket at this place.
@@ -87,25 +84,28 @@ fn words_have_the_bits_of_their_set(rt: HostRuntime) {
     }
 }
 
-#[test]
-fn one_bucket_gives_all_tickets(rt: HostRuntime) {
-    let set = one_bucket(&rt, rt.alloc());
-    let first = intern(&rt, &set, "interned");
-    let second = intern(&rt, &set, "tokenised");
-    check_atom(&rt, &first, "interned", 0x1_0000);
-    check_atom(&rt, &second, "tokenised", 0x2_0000);
-    check_linked(&rt, &set, 2);
+fn check_tickets<R: Wait + Abort>(rt: &R, set: &DefaultSet) {
+    let first = intern(rt, set, "interned");
+    let second = intern(rt, set, "tokenised");
+    check_atom(rt, &first, "interned", 0x1_0000);
+    check_atom(rt, &second, "tokenised", 0x2_0000);
+    check_linked(rt, set, 2);
 }
 
-/// A text of the bucket.
-fn text_of_bucket(alloc: Global, buckets: Buckets, place: usize) -> Result<String, Fail> {
+#[test]
+fn one_bucket_gives_all_tickets(rt: HostRuntime) {
+    check_tickets(&rt, &one_bucket(&rt, rt.alloc()));
+}
+
+/// A text of the bucket, if one of a million has it.
+fn text_of_bucket(alloc: Global, buckets: Buckets, place: usize) -> Option<String> {
     for n in 0..1_000_000u32 {
-        let text = format!(in alloc; "w{n:07}")?;
+        let text = format!(in alloc; "w{n:07}").ok()?;
         if usize::from(buckets.bucket_of(hash_of::<EmptyStaticAtomSet>(&text))) == place {
-            return Ok(text);
+            return Some(text);
         }
     }
-    Err("no text has the bucket")?
+    None
 }
 
 /// Checks that this many entries are linked, also once they die as the atoms are dropped, and that a sweep takes them all.
@@ -123,36 +123,54 @@ fn atom_of_bucket<'s, R: Wait + Abort>(
     set: &'s DefaultSet,
     buckets: Buckets,
     place: usize,
-) -> Result<DefaultAtom<'s>, Fail> {
-    let text = text_of_bucket(set.allocator(), buckets, place)?;
-    Ok(intern(rt, set, &text))
+) -> DefaultAtom<'s> {
+    let text = text_of_bucket(set.allocator(), buckets, place).expect(rt, "a text");
+    intern(rt, set, &text)
+}
+
+/// Checks a sweep of the first bucket and the last one.
+fn check_ends<R: Wait + Abort>(rt: &R, set: &DefaultSet, buckets: Buckets) {
+    let first = atom_of_bucket(rt, set, buckets, 0);
+    let last = atom_of_bucket(rt, set, buckets, buckets.number() - 1);
+    let count = if buckets.bits() == 0 { 1 } else { 2 };
+    check_sweep(rt, set, (first, last), count);
+}
+
+/// Checks it in a set of so many bits.
+fn check_ends_of<R: Wait + Abort>(rt: &R, alloc: Global, bits: u8) {
+    let buckets = buckets_of(rt, bits);
+    check_ends(rt, &set_of(rt, alloc, buckets), buckets);
 }
 
 #[test]
-fn sweep_takes_the_first_and_the_last_bucket(rt: HostRuntime) -> Result<(), Fail> {
+fn sweep_takes_the_first_and_the_last_bucket(rt: HostRuntime) {
     for bits in &BITS {
-        let buckets = buckets_of(&rt, *bits);
-        let owned = set_of(&rt, rt.alloc(), buckets);
-        let set = &owned;
-        let first = atom_of_bucket(&rt, set, buckets, 0)?;
-        let last = atom_of_bucket(&rt, set, buckets, buckets.number() - 1)?;
-        let count = if buckets.bits() == 0 { 1 } else { 2 };
-        check_sweep(&rt, set, (first, last), count);
+        check_ends_of(&rt, rt.alloc(), *bits);
     }
-    Ok(())
+}
+
+/// An atom of each of 16 buckets.
+fn sixteen_atoms<'s, R: Wait + Abort>(
+    rt: &R,
+    set: &'s DefaultSet,
+    buckets: Buckets,
+) -> Vec<DefaultAtom<'s>> {
+    let mut atoms = Vec::new(set.allocator());
+    for place in 0..16 {
+        let atom = atom_of_bucket(rt, set, buckets, place);
+        atoms.push(atom).expect(rt, "room");
+    }
+    atoms
+}
+
+fn check_sixteen<R: Wait + Abort>(rt: &R, set: &DefaultSet, buckets: Buckets) {
+    let atoms = sixteen_atoms(rt, set, buckets);
+    check_sweep(rt, set, atoms, 16);
 }
 
 /// One entry in each of 16 buckets, held and then dying: all are counted, and a sweep takes them all.
 #[test]
-fn sweep_takes_each_of_sixteen_buckets(rt: HostRuntime) -> Result<(), Fail> {
+fn sweep_takes_each_of_sixteen_buckets(rt: HostRuntime) {
     let buckets = buckets_of(&rt, 4);
-    let owned = set_of(&rt, rt.alloc(), buckets);
-    let set = &owned;
-    let mut atoms = Vec::new(rt.alloc());
-    for place in 0..16 {
-        let atom = atom_of_bucket(&rt, set, buckets, place)?;
-        atoms.push(atom).expect(&rt, "room");
-    }
-    check_sweep(&rt, set, atoms, 16);
-    Ok(())
+    check_sixteen(&rt, &set_of(&rt, rt.alloc(), buckets), buckets);
 }

@@ -2,7 +2,6 @@
 
 mod links;
 
-use crate::samples::hash_of;
 use std::alloc::Global;
 use std::process::Abort;
 use std::sync::Wait;
@@ -10,6 +9,7 @@ use string_cache::Fault;
 use string_cache::dynamic_set::{Bucket, CountReply, Counts, Entry, OwnCounts, Pass, Share};
 use string_cache::static_sets::EmptyStaticAtomSet;
 use string_cache::word::{Buckets, Limits, ticket_word};
+use test_calls::hash_of;
 
 /// Looks at tickets alone, and gives one as its share. Entries that aren't named die to `add` and stay to `dying`, which notes the first
 /// three that it is asked about.

@@ -1,6 +1,6 @@
 //! Texts of one bucket, and many workers at them.
 
-use crate::samples::{BITS, DefaultSet, buckets_of, check_linked, default_set, hash_of, intern};
+use crate::samples::{BITS, DefaultSet, buckets_of, check_linked, clone_of, default_set, intern};
 use std::alloc::{AllocError, Global};
 use std::process::Abort;
 use std::sync::Wait;
@@ -10,8 +10,8 @@ use string_cache::dynamic_set::Set;
 use string_cache::static_sets::EmptyStaticAtomSet;
 use string_cache::table::Table;
 use string_cache::word::{Buckets, Limits};
-use string_cache::{Atom, DefaultAtom, Fault};
-use test_calls::{cloned, has_text, interned};
+use string_cache::{DefaultAtom, Fault};
+use test_calls::{has_text, hash_of, links};
 
 /// This many texts: `w0000000`, `w0000001` and so on.
 fn numbers(alloc: Global, count: usize) -> Result<Vec<String>, AllocError> {
@@ -68,34 +68,23 @@ fn are_apart(one: &DefaultAtom<'_>, two: &DefaultAtom<'_>) -> bool {
     one.unsafe_data() != two.unsafe_data() && one != two
 }
 
-/// Clones of two atoms.
-fn clones_of<'s, R: Wait>(
-    rt: &R,
-    one: &DefaultAtom<'s>,
-    two: &DefaultAtom<'s>,
-) -> Result<(DefaultAtom<'s>, DefaultAtom<'s>), Fault> {
-    let first = cloned(rt, one)?;
-    let second = cloned(rt, two)?;
-    Ok((first, second))
-}
-
-/// Two atoms, as clones of others that have gone. Whether those were apart.
-fn cloned_apart<'s, R: Wait>(
+/// Two atoms, as clones of others that were apart and have gone.
+fn cloned_apart<'s, R: Wait + Abort>(
     rt: &R,
     set: &'s DefaultSet,
     first: &str,
     second: &str,
-) -> Result<(bool, (DefaultAtom<'s>, DefaultAtom<'s>)), Fault> {
-    let one = interned(rt, set, first)?;
-    let two = interned(rt, set, second)?;
-    let clones = clones_of(rt, &one, &two)?;
-    Ok((are_apart(&one, &two), clones))
+) -> (DefaultAtom<'s>, DefaultAtom<'s>) {
+    let one = intern(rt, set, first);
+    let two = intern(rt, set, second);
+    assert!(rt; are_apart(&one, &two));
+    (clone_of(rt, &one), clone_of(rt, &two))
 }
 
 /// Interns both texts in a set, and goes on with clones.
 fn check_apart_in_a_set<R: Wait + Abort>(rt: &R, set: &DefaultSet, first: &str, second: &str) {
-    let (is_apart, (one, two)) = cloned_apart(rt, set, first, second).expect(rt, "atoms");
-    assert!(rt; is_apart && has_text(&one, first) && has_text(&two, second));
+    let (one, two) = cloned_apart(rt, set, first, second);
+    assert!(rt; has_text(&one, first) && has_text(&two, second));
     drop(one);
     assert!(rt; has_text(&two, second));
     check_linked(rt, set, 1);
@@ -156,7 +145,32 @@ fn check_apart_in_a_table(
     Ok(())
 }
 
-/// Checks two texts of one bucket in a set and in a table of this many buckets.
+/// Checks two texts in a set of this many buckets.
+fn check_set<R: Wait + Abort>(
+    rt: &R,
+    alloc: Global,
+    buckets: Buckets,
+    first: &str,
+    second: &str,
+) -> Result<(), Fault> {
+    let set = Set::with_buckets(alloc, Limits::greatest(), buckets)?;
+    check_apart_in_a_set(rt, &set, first, second);
+    Ok(())
+}
+
+/// And in such a table.
+fn check_table(
+    rt: &impl Abort,
+    alloc: Global,
+    buckets: Buckets,
+    first: &str,
+    second: &str,
+) -> Result<(), Fault> {
+    let mut table = Table::with_buckets(alloc, Limits::greatest(), buckets)?;
+    check_apart_in_a_table(rt, &mut table, first, second)
+}
+
+/// Checks two texts of one bucket in both.
 fn check_apart<R: Wait + Abort>(
     rt: &R,
     alloc: Global,
@@ -166,59 +180,78 @@ fn check_apart<R: Wait + Abort>(
 ) -> Result<(), Fault> {
     assert!(rt; first != second);
     assert!(rt; bucket_of_text(buckets, first) == bucket_of_text(buckets, second));
-    let set = Set::with_buckets(alloc, Limits::greatest(), buckets)?;
-    check_apart_in_a_set(rt, &set, first, second);
-    let mut table = Table::with_buckets(alloc, Limits::greatest(), buckets)?;
-    check_apart_in_a_table(rt, &mut table, first, second)
+    check_set(rt, alloc, buckets, first, second)?;
+    check_table(rt, alloc, buckets, first, second)
+}
+
+/// So many of the first texts that are of one bucket.
+fn first_mates(
+    alloc: Global,
+    buckets: Buckets,
+    count: usize,
+    wanted: u32,
+) -> Result<Vec<String>, Fail> {
+    let texts = numbers(alloc, count)?;
+    bucket_mates(alloc, buckets, &texts, wanted)
+}
+
+fn check_mates<R: Wait + Abort>(rt: &R, alloc: Global, buckets: Buckets) -> Result<(), Fail> {
+    let mates = first_mates(alloc, buckets, buckets.number() + 1, 2)?;
+    let [first, second] = mates.as_slice() else {
+        return Err("not two texts".into());
+    };
+    check_apart(rt, alloc, buckets, first, second)?;
+    Ok(())
 }
 
 /// Of one text more than there are buckets two have one bucket.
 #[test]
 fn two_texts_of_one_bucket(rt: HostRuntime) -> Result<(), Fail> {
-    let alloc = rt.alloc();
     for bits in &BITS {
-        let buckets = buckets_of(&rt, *bits);
-        let texts = numbers(alloc, buckets.number() + 1)?;
-        let mates = bucket_mates(alloc, buckets, &texts, 2)?;
-        let [first, second] = mates.as_slice() else {
-            return Err("not two texts".into());
-        };
-        check_apart(&rt, alloc, buckets, first, second)?;
+        check_mates(&rt, rt.alloc(), buckets_of(&rt, *bits))?;
     }
     Ok(())
 }
 
+/// Interns and clones a text. Whether the clone has it once the atom has gone.
+fn is_cloned<R: Wait + Abort>(rt: &R, set: &DefaultSet, text: &str) -> bool {
+    let atom = intern(rt, set, text);
+    let clone = clone_of(rt, &atom);
+    drop(atom);
+    has_text(&clone, text)
+}
+
 /// Interns, clones and drops each of the texts, again and again. Whether each atom had its text.
-fn turn_over<R: Wait>(rt: &R, set: &DefaultSet, texts: &[String]) -> Result<bool, Fault> {
+fn turn_over<R: Wait + Abort>(rt: &R, set: &DefaultSet, texts: &[String]) -> bool {
     let mut is_same = true;
     for _ in 0..1000 {
         for text in texts {
-            let atom = interned(rt, set, text)?;
-            let clone = cloned(rt, &atom)?;
-            drop(atom);
-            is_same = is_same && clone.as_str() == text.as_str();
+            is_same = is_same && is_cloned(rt, set, text);
         }
     }
-    Ok(is_same)
+    is_same
 }
 
 /// Workers at these texts. Whether each atom had its text, and whether none is left linked.
-fn work_together<R: Threads + Wait + Sync>(
+fn work_together<R: Threads + Wait + Abort + Sync>(
     rt: &R,
     set: &DefaultSet,
     texts: &[String],
 ) -> Result<bool, AllocError> {
     let turns = thread::map_indices(rt, set.allocator(), 64, &|_| turn_over(rt, set, texts))?;
     set.sweep(rt);
-    Ok(turns.len() == 64 && turns.iter().all(|turn| *turn == Ok(true)) && set.linked(rt) == 0)
+    Ok(turns.len() == 64 && turns.iter().all(|is_same| *is_same) && links(rt, set, 0))
 }
 
 /// Workers at eleven texts of one bucket, in a set of 2 to the power of `bits` buckets. As ten texts for each bucket would be fewer, some
 /// bucket has eleven.
-fn check_workers<R: Threads + Wait + Sync>(rt: &R, alloc: Global, bits: u8) -> Result<bool, Fail> {
+fn check_workers<R: Threads + Wait + Abort + Sync>(
+    rt: &R,
+    alloc: Global,
+    bits: u8,
+) -> Result<bool, Fail> {
     let buckets = Buckets::new(bits).ok_or("bits")?;
-    let texts = numbers(alloc, 10 * buckets.number() + 1)?;
-    let mates = bucket_mates(alloc, buckets, &texts, 11)?;
+    let mates = first_mates(alloc, buckets, 10 * buckets.number() + 1, 11)?;
     let set = Set::with_buckets(alloc, Limits::greatest(), buckets)?;
     Ok(mates.len() == 11 && work_together(rt, &set, &mates)?)
 }
@@ -241,15 +274,18 @@ fn many_workers_at_one_of_the_most_buckets(rt: HostRuntime) -> Result<(), Fail> 
     Ok(())
 }
 
+fn come_and_go<R: Wait + Abort>(rt: &R, set: &DefaultSet) {
+    let texts = numbers(set.allocator(), 10_000).expect(rt, "an answer");
+    for (n, text) in texts.iter().enumerate() {
+        assert!(rt; has_text(&intern(rt, set, text), text));
+        if n % 1000 == 999 {
+            assert!(rt; links(rt, set, 0), "after {n}");
+        }
+    }
+}
+
 /// What nobody holds doesn't stay, in a loop over many texts.
 #[test]
 fn ten_thousand_texts_come_and_go(rt: HostRuntime) {
-    let set = default_set(&rt, rt.alloc());
-    let texts = numbers(rt.alloc(), 10_000).expect(&rt, "an answer");
-    for (n, text) in texts.iter().enumerate() {
-        assert!(rt; has_text(&intern(&rt, &set, text), text));
-        if n % 1000 == 999 {
-            assert!(rt; set.linked(&rt) == 0, "after {n}");
-        }
-    }
+    come_and_go(&rt, &default_set(&rt, rt.alloc()));
 }

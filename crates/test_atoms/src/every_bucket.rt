@@ -1,6 +1,6 @@
 //! One entry in each bucket of a set: held, then dying, then gone.
 
-use crate::samples::{DefaultSet, drop_under_locks, hash_of};
+use crate::samples::{DefaultSet, drop_under_locks};
 use std::alloc::Global;
 use std::process::Abort;
 use std::sync::Wait;
@@ -9,7 +9,7 @@ use string_cache::dynamic_set::Set;
 use string_cache::static_sets::EmptyStaticAtomSet;
 use string_cache::word::{Buckets, Limits};
 use string_cache::{DefaultAtom, Fault};
-use test_calls::{interned, look_up};
+use test_calls::{hash_of, interned, look_up};
 
 /// A text of 15 bytes of each bucket.
 fn texts_of_buckets(alloc: Global, buckets: Buckets) -> Result<Vec<String>, Fail> {

@@ -1,28 +1,41 @@
 //! Holders up to their limit, and what is left of them.
 
-use crate::samples::{clone_of, intern, limited_set, new_set, word_of};
+use crate::samples::{DefaultSet, clone_of, intern, limited_set, new_set, word_of};
 use std::process::Abort;
 use std::sync::Wait;
-use string_cache::dynamic_set::Set;
 use string_cache::static_sets::EmptyStaticAtomSet;
 use string_cache::word::{Limits, ticket_word};
-use string_cache::{Atom, DefaultAtom, Fault};
-use test_calls::{are_one, has_text, has_word, links};
+use string_cache::{DefaultAtom, Fault};
+use test_calls::{are_one, cloned, copied, has_text, has_word, links, lowered, raised, refusal};
 
 fn limits_of(rt: &impl Abort, holders: u64, serials: u64) -> Limits {
     Limits::new(holders, serials).expect(rt, "limits")
 }
 
-/// What "interned" is refused for.
-fn refusal<R: Wait>(rt: &R, set: &Set<EmptyStaticAtomSet>) -> Option<Fault> {
-    DefaultAtom::from_str_in(rt, set, "interned").err()
+/// What is done with a new set.
+#[derive(Clone, Copy)]
+enum Scene {
+    Many,
+    TwoHolders,
+    OneSerial,
+    NoShareStays,
+}
+
+/// Plays the scene in a set.
+fn play<R: Wait + Abort>(rt: &R, set: DefaultSet, scene: Scene) {
+    match scene {
+        Scene::Many => hold_by_many(rt, &set),
+        Scene::TwoHolders => hold_by_two(rt, &set),
+        Scene::OneSerial => spend_one_serial(rt, &set),
+        Scene::NoShareStays => leave_no_share(rt, &set),
+    }
 }
 
 /// Whether the atom's text has as many holders as it may have, for each call that would make one more.
-fn is_full<R: Wait>(rt: &R, set: &Set<EmptyStaticAtomSet>, atom: &DefaultAtom<'_>) -> bool {
-    matches!(refusal(rt, set), Some(Fault::FullCount))
-        && matches!(atom.clone_atom(rt), Err(Fault::FullCount))
-        && matches!(Atom::from_atom(rt, atom), Err(Fault::FullCount))
+fn is_full<R: Wait>(rt: &R, set: &DefaultSet, atom: &DefaultAtom<'_>) -> bool {
+    matches!(refusal(rt, set, "interned"), Some(Fault::FullCount))
+        && matches!(cloned(rt, atom), Err(Fault::FullCount))
+        && matches!(copied(rt, atom), Err(Fault::FullCount))
 }
 
 /// Whether an atom of the same word can be made by both calls, one after the other. The last one is given.
@@ -30,33 +43,44 @@ fn next_holder<'s, R: Wait + Abort>(rt: &R, one: &DefaultAtom<'s>) -> DefaultAto
     let clone = clone_of(rt, one);
     assert!(rt; are_one(&clone, one));
     drop(clone);
-    Atom::from_atom(rt, one).expect(rt, "an atom")
+    copied(rt, one).expect(rt, "an atom")
+}
+
+/// Two atoms of a text are all that there may be, and where one of them goes, the other is cloned: that clone is given.
+fn third_holder<'s, R: Wait + Abort>(rt: &R, set: &'s DefaultSet) -> DefaultAtom<'s> {
+    let one = intern(rt, set, "interned");
+    let two = intern(rt, set, "interned");
+    assert!(rt; has_word(&one, ticket_word(1, 0x210)) && are_one(&one, &two));
+    assert!(rt; links(rt, set, 1));
+    assert!(rt; is_full(rt, set, &one));
+    drop(two);
+    let three = next_holder(rt, &one);
+    assert!(rt; are_one(&three, &one));
+    three
+}
+
+fn hold_by_two<R: Wait + Abort>(rt: &R, set: &DefaultSet) {
+    let three = third_holder(rt, set);
+    assert!(rt; links(rt, set, 1) && has_text(&three, "interned"));
+    drop(three);
+    assert!(rt; links(rt, set, 0));
+    assert!(rt; word_of(rt, set, "interned") == ticket_word(2, 0x210));
 }
 
 #[test]
 fn two_holders(rt: HostRuntime) {
-    let set = limited_set(&rt, rt.alloc(), 2, 9);
-    let one = intern(&rt, &set, "interned");
-    let two = intern(&rt, &set, "interned");
-    assert!(rt; has_word(&one, ticket_word(1, 0x210)) && are_one(&one, &two));
-    assert!(rt; links(&rt, &set, 1));
-    assert!(rt; is_full(&rt, &set, &one));
-    drop(two);
-    let three = next_holder(&rt, &one);
-    assert!(rt; are_one(&three, &one));
-    drop(one);
-    assert!(rt; links(&rt, &set, 1) && has_text(&three, "interned"));
-    drop(three);
-    assert!(rt; links(&rt, &set, 0));
-    assert!(rt; word_of(&rt, &set, "interned") == ticket_word(2, 0x210));
+    play(&rt, limited_set(&rt, rt.alloc(), 2, 9), Scene::TwoHolders);
+}
+
+fn spend_one_serial<R: Wait + Abort>(rt: &R, set: &DefaultSet) {
+    assert!(rt; word_of(rt, set, "interned") == ticket_word(1, 0x210));
+    assert!(rt; matches!(refusal(rt, set, "interned"), Some(Fault::TicketsSpent)));
+    assert!(rt; word_of(rt, set, "abc") == 0x6362_6131);
 }
 
 #[test]
 fn one_serial(rt: HostRuntime) {
-    let set = limited_set(&rt, rt.alloc(), 9, 1);
-    assert!(rt; word_of(&rt, &set, "interned") == ticket_word(1, 0x210));
-    assert!(rt; matches!(refusal(&rt, &set), Some(Fault::TicketsSpent)));
-    assert!(rt; word_of(&rt, &set, "abc") == 0x6362_6131);
+    play(&rt, limited_set(&rt, rt.alloc(), 9, 1), Scene::OneSerial);
 }
 
 #[test]
@@ -67,69 +91,102 @@ fn limits_of_a_set(rt: HostRuntime) {
     assert!(rt; set.limits() == limits_of(&rt, 2, 9));
 }
 
+/// So many pairs of atoms of one text, interned and cloned in turn.
+fn holders_of<'s, R: Wait + Abort>(
+    rt: &R,
+    set: &'s DefaultSet,
+    first: &DefaultAtom<'s>,
+    pairs: usize,
+) -> Vec<DefaultAtom<'s>> {
+    let mut atoms = Vec::new(set.allocator());
+    for _ in 0..pairs {
+        atoms.push(intern(rt, set, "interned")).expect(rt, "room");
+        atoms.push(clone_of(rt, first)).expect(rt, "room");
+    }
+    atoms
+}
+
+/// Whether each atom has this word.
+fn have_word(atoms: &[DefaultAtom<'_>], word: u64) -> bool {
+    for atom in atoms {
+        if !has_word(atom, word) {
+            return false;
+        }
+    }
+    true
+}
+
+/// A text of two thousand holders and one more, of which that one is left and given.
+fn last_of_many<'s, R: Wait + Abort>(rt: &R, set: &'s DefaultSet) -> DefaultAtom<'s> {
+    let first = intern(rt, set, "interned");
+    let atoms = holders_of(rt, set, &first, 1000);
+    assert!(rt; have_word(&atoms, ticket_word(1, 0x210)));
+    assert!(rt; links(rt, set, 1));
+    first
+}
+
+fn hold_by_many<R: Wait + Abort>(rt: &R, set: &DefaultSet) {
+    let first = last_of_many(rt, set);
+    assert!(rt; links(rt, set, 1) && has_text(&first, "interned"));
+    drop(first);
+    assert!(rt; links(rt, set, 0));
+}
+
 /// Interned and cloned in turn.
 #[test]
 fn two_thousand_holders(rt: HostRuntime) {
-    let set = new_set(&rt, rt.alloc());
-    let first = intern(&rt, &set, "interned");
-    let mut atoms = Vec::new(rt.alloc());
-    for _ in 0..1000 {
-        atoms
-            .push(intern(&rt, &set, "interned"))
-            .expect(&rt, "room");
-        atoms.push(clone_of(&rt, &first)).expect(&rt, "room");
-    }
-    assert!(rt;
-        atoms
-            .iter()
-            .all(|atom| atom.unsafe_data() == ticket_word(1, 0x210))
-    );
-    assert!(rt; links(&rt, &set, 1));
-    drop(atoms);
-    assert!(rt; links(&rt, &set, 1) && has_text(&first, "interned"));
-    drop(first);
-    assert!(rt; links(&rt, &set, 0));
-}
-
-/// The atom in upper case, and that one in lower case.
-fn other_cases<'s, R: Wait + Abort>(
-    rt: &R,
-    set: &'s Set<EmptyStaticAtomSet>,
-    atom: &DefaultAtom<'s>,
-) -> (DefaultAtom<'s>, DefaultAtom<'s>) {
-    let upper = atom.to_ascii_uppercase_in(rt, set).expect(rt, "an atom");
-    let lower = upper.to_ascii_lowercase_in(rt, set).expect(rt, "an atom");
-    (upper, lower)
+    play(&rt, new_set(&rt, rt.alloc()), Scene::Many);
 }
 
 /// Whether the atom is full, also for its text in lower case.
-fn is_full_in_lower_case<R: Wait>(
+fn is_full_in_lower_case<R: Wait>(rt: &R, set: &DefaultSet, atom: &DefaultAtom<'_>) -> bool {
+    matches!(lowered(rt, set, atom), Err(Fault::FullCount))
+}
+
+/// The atom in lower case, which is one with it.
+fn lower_of<'s, R: Wait + Abort>(
     rt: &R,
-    set: &Set<EmptyStaticAtomSet>,
-    atom: &DefaultAtom<'_>,
-) -> bool {
-    matches!(atom.to_ascii_lowercase_in(rt, set), Err(Fault::FullCount))
+    set: &'s DefaultSet,
+    atom: &DefaultAtom<'s>,
+) -> DefaultAtom<'s> {
+    lowered(rt, set, atom).expect(rt, "an atom")
+}
+
+/// While the atom's text has a holder more, which is made in lower case, there can't be a third.
+fn fill_in_lower_case<R: Wait + Abort>(
+    rt: &R,
+    set: &DefaultSet,
+    one: &DefaultAtom<'_>,
+    upper: &DefaultAtom<'_>,
+) {
+    let _lower = lower_of(rt, set, upper);
+    for _ in 0..3 {
+        assert!(rt; is_full_in_lower_case(rt, set, one));
+        assert!(rt; is_full(rt, set, one));
+    }
+}
+
+/// An atom in upper case, whose text in lower case had two holders, and no serial is left.
+fn upper_of_full<'s, R: Wait + Abort>(rt: &R, set: &'s DefaultSet) -> DefaultAtom<'s> {
+    let one = intern(rt, set, "interned");
+    let upper = raised(rt, set, &one).expect(rt, "an atom");
+    fill_in_lower_case(rt, set, &one, &upper);
+    assert!(rt; are_one(&lower_of(rt, set, &one), &one));
+    upper
+}
+
+fn leave_no_share<R: Wait + Abort>(rt: &R, set: &DefaultSet) {
+    let upper = upper_of_full(rt, set);
+    for _ in 0..3 {
+        assert!(rt; matches!(refusal(rt, set, "interned"), Some(Fault::TicketsSpent)));
+    }
+    assert!(rt; links(rt, set, 1));
+    drop(upper);
+    assert!(rt; links(rt, set, 0));
 }
 
 /// Neither a refused call nor one in another case leaves a share behind.
 #[test]
 fn no_share_stays_behind(rt: HostRuntime) {
-    let set = limited_set(&rt, rt.alloc(), 2, 1);
-    let one = intern(&rt, &set, "interned");
-    let (upper, lower) = other_cases(&rt, &set, &one);
-    for _ in 0..3 {
-        assert!(rt; is_full_in_lower_case(&rt, &set, &one));
-        assert!(rt; is_full(&rt, &set, &one));
-    }
-    drop(lower);
-    let again = one.to_ascii_lowercase_in(&rt, &set).expect(&rt, "an atom");
-    assert!(rt; are_one(&again, &one));
-    drop(again);
-    drop(one);
-    for _ in 0..3 {
-        assert!(rt; matches!(refusal(&rt, &set), Some(Fault::TicketsSpent)));
-    }
-    assert!(rt; links(&rt, &set, 1));
-    drop(upper);
-    assert!(rt; links(&rt, &set, 0));
+    play(&rt, limited_set(&rt, rt.alloc(), 2, 1), Scene::NoShareStays);
 }

@@ -2,7 +2,7 @@
 
 use crate::samples::{intern, new_set};
 use serde_json::Value;
-use std::alloc::{AllocError, Global};
+use std::alloc::Global;
 use std::borrow::CowStr;
 use std::fmt::Display;
 use std::process::Abort;
@@ -11,7 +11,7 @@ use string_cache::dynamic_set::Set;
 use string_cache::static_sets::{EmptyStaticAtomSet, StaticAtomSet};
 use string_cache::trivial_impls::PrecomputedHash;
 use string_cache::{Atom, DefaultAtom, Fault};
-use test_calls::are_one;
+use test_calls::{are_one, interned_cow, interned_owned, json_of, raised, read_json};
 use test_samples::One;
 
 /// The hash of anything that has one.
@@ -59,23 +59,37 @@ fn text_of_a_zero_byte(rt: HostRuntime) {
 fn upper_case_of_a_static_text(rt: HostRuntime) {
     let set = new_set::<One>(&rt, rt.alloc());
     let atom = intern(&rt, &set, "sentence");
-    let upper = atom.to_ascii_uppercase_in(&rt, &set).expect(&rt, "an atom");
+    let upper = raised(&rt, &set, &atom).expect(&rt, "an atom");
     check_equal(&rt, &upper, &intern(&rt, &set, "SENTENCE"));
     check_differ(&rt, &upper, &atom);
 }
 
-/// A value under options that a text heeds.
-fn styled<D: Display>(alloc: Global, value: &D) -> Result<String, AllocError> {
-    format!(in alloc; "{value}|{value:>6}|{value:<6}|{value:^6}|{value:*^9.2}|{value:.1}|{value:2}")
+/// Writes a value under widths.
+fn write_aligned<D: Display>(out: &mut String, value: &D) -> Result<(), Fault> {
+    write!(out, "{value}|{value:>6}|{value:<6}|{value:^6}|")?;
+    Ok(())
 }
 
-/// The atom of a text and the text itself, under these options.
-fn both_styled<R: Wait>(rt: &R, set: &Set<One>, text: &str) -> Result<(String, String), Fault> {
-    let atom = Atom::from_str_in(rt, set, text)?;
-    Ok((
-        styled(set.allocator(), &atom)?,
-        styled(set.allocator(), &text)?,
-    ))
+/// Writes a value under precisions, and a width that is the least.
+fn write_cut<D: Display>(out: &mut String, value: &D) -> Result<(), Fault> {
+    write!(out, "{value:*^9.2}|{value:.1}|{value:2}")?;
+    Ok(())
+}
+
+/// A value under options that a text heeds.
+fn styled<D: Display>(alloc: Global, value: &D) -> Result<String, Fault> {
+    let mut out = String::new(alloc);
+    write_aligned(&mut out, value)?;
+    write_cut(&mut out, value)?;
+    Ok(out)
+}
+
+/// The atom of a text and the text itself are this under these options.
+fn check_styled<R: Wait + Abort>(rt: &R, set: &Set<One>, text: &str, wanted: &str) {
+    let of_atom = styled(set.allocator(), &intern(rt, set, text)).expect(rt, "a text");
+    check_text(rt, &of_atom, wanted);
+    let of_text = styled(set.allocator(), &text).expect(rt, "a text");
+    check_text(rt, &of_text, wanted);
 }
 
 /// Texts, and what they are under the options of `styled`.
@@ -97,9 +111,7 @@ const STYLES: [(&str, &str); 5] = [
 fn widths_and_precisions(rt: HostRuntime) {
     let set = new_set(&rt, rt.alloc());
     for (text, wanted) in &STYLES {
-        let (of_atom, of_text) = both_styled(&rt, &set, text).expect(&rt, "an answer");
-        check_text(&rt, &of_atom, wanted);
-        check_text(&rt, &of_text, wanted);
+        check_styled(&rt, &set, text, wanted);
     }
 }
 
@@ -114,8 +126,8 @@ fn no_width_acts_on_debug(rt: HostRuntime) {
 }
 
 /// The JSON text of the atom.
-fn json_of(rt: &impl Abort, alloc: Global, atom: &Atom<'_, One>) -> String {
-    let value = atom.to_json(alloc).expect(rt, "an answer");
+fn json_text(rt: &impl Abort, alloc: Global, atom: &Atom<'_, One>) -> String {
+    let value = json_of(atom, alloc).expect(rt, "an answer");
     value.to_string(alloc).expect(rt, "an answer")
 }
 
@@ -125,13 +137,13 @@ fn parsed(rt: &impl Abort, alloc: Global, json: &str) -> Value {
 
 /// The atom of a JSON text.
 fn atom_of_json<'s, R: Wait + Abort>(rt: &R, set: &'s Set<One>, json: &str) -> Atom<'s, One> {
-    Atom::from_json_in(rt, set, &parsed(rt, set.allocator(), json)).expect(rt, "an atom")
+    read_json(rt, set, &parsed(rt, set.allocator(), json)).expect(rt, "an atom")
 }
 
 /// The text's atom is this JSON text, and the JSON text's atom is the text's.
 fn check_json<R: Wait + Abort>(rt: &R, set: &Set<One>, text: &str, json: &str) {
     let atom = intern(rt, set, text);
-    check_text(rt, &json_of(rt, set.allocator(), &atom), json);
+    check_text(rt, &json_text(rt, set.allocator(), &atom), json);
     let again = atom_of_json(rt, set, json);
     check_equal(rt, &again, &atom);
     assert!(rt; are_one(&again, &atom));
@@ -165,28 +177,30 @@ fn check_interned<R: Wait + Abort>(
     check_equal(rt, &atom, &intern(rt, set, "interned"));
 }
 
+fn interned_text(rt: &impl Abort, alloc: Global) -> String {
+    String::from_str(alloc, "interned").expect(rt, "a text")
+}
+
+/// By each call that takes a text which may be owned.
 #[test]
 fn atoms_of_one_text(rt: HostRuntime) {
     let alloc = rt.alloc();
     let set = new_set(&rt, alloc);
-    let text = String::from_str(alloc, "interned").expect(&rt, "a text");
+    let value = Value::String(interned_text(&rt, alloc));
+    check_interned(&rt, &set, read_json(&rt, &set, &value));
     check_interned(
         &rt,
         &set,
-        Atom::from_json_in(&rt, &set, &Value::String(text)),
+        interned_owned(&rt, &set, interned_text(&rt, alloc)),
     );
-    let text = String::from_str(alloc, "interned").expect(&rt, "a text");
-    check_interned(&rt, &set, Atom::from_string_in(&rt, &set, text));
     let text = CowStr::Borrowed("interned");
-    check_interned(&rt, &set, Atom::from_cow_in(&rt, &set, text));
+    check_interned(&rt, &set, interned_cow(&rt, &set, text));
 }
 
 /// Checks that a JSON text is refused as no text, under the number 4.
 fn check_refused<R: Wait + Abort>(rt: &R, set: &Set<EmptyStaticAtomSet>, json: &str) {
     let value = parsed(rt, set.allocator(), json);
-    let fault = Atom::from_json_in(rt, set, &value)
-        .err()
-        .expect(rt, "a fault");
+    let fault = read_json(rt, set, &value).err().expect(rt, "a fault");
     assert_eq!(rt; fault, Fault::NotText, "of {json}");
     assert_eq!(rt; fault.number(), 4);
 }

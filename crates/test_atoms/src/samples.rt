@@ -1,29 +1,17 @@
-//! What tests of this crate share: sets, atoms, hashes and numbers of buckets. Nearly all of these say nothing of what they do, so that each
-//! test is proved in a moment.
-
-ghost use Rattle.std.specs.Prelude.{◌≡◌};
-ghost use Rattle.string_cache_core.specs.Tables.{entry_hash};
+//! What tests of this crate share: sets, atoms and numbers of buckets. They say nothing of what they do, so that each test is proved in a
+//! moment.
 
 use std::alloc::{AllocError, Global};
 use std::process::Abort;
 use std::sync::{MutexGuard, Wait};
 use string_cache::dynamic_set::{Bucket, Set};
-use string_cache::phf::hash;
-use string_cache::static_sets::{EmptyStaticAtomSet, StaticAtomSet, StaticTables};
-use string_cache::word::{Buckets, Limits};
+use string_cache::static_sets::{EmptyStaticAtomSet, StaticTables};
+use string_cache::word::Buckets;
 use string_cache::{Atom, DefaultAtom};
-use test_calls::{cloned, interned};
+use test_calls::{cloned, interned, limited, locked, made, made_with};
 
 /// A set without static texts.
 pub type DefaultSet = Set<EmptyStaticAtomSet>;
-
-/// The hash of a text's entry.
-#[tactic(auto, unfolding(text_forms::specs::Tables::entry_hash))]
-pub fn hash_of<Static: StaticAtomSet>(text: &str) -> u64
-    ensures { result ≡ entry_hash Static.tables text.now }
-{
-    hash(text, Static::get().key).entry_hash()
-}
 
 /// The bits of buckets that tests take: one bucket, the usual number, and the most.
 pub const BITS: [u8; 3] = [0, 12, 14];
@@ -35,7 +23,7 @@ pub fn buckets_of(rt: &impl Abort, bits: u8) -> Buckets {
 
 /// A set of the usual limits.
 pub fn new_set<Static: StaticTables>(rt: &impl Abort, alloc: Global) -> Set<Static> {
-    Set::new(alloc).expect(rt, "a set")
+    made(alloc).expect(rt, "a set")
 }
 
 pub fn default_set(rt: &impl Abort, alloc: Global) -> DefaultSet {
@@ -43,14 +31,12 @@ pub fn default_set(rt: &impl Abort, alloc: Global) -> DefaultSet {
 }
 
 /// A set of one bucket.
-pub fn one_bucket(rt: &impl Abort, alloc: Global) -> DefaultSet {
-    let buckets = Buckets::new(0).expect(rt, "bits");
-    Set::with_buckets(alloc, Limits::greatest(), buckets).expect(rt, "a set")
+pub fn one_bucket<Static: StaticTables>(rt: &impl Abort, alloc: Global) -> Set<Static> {
+    made_with(alloc, buckets_of(rt, 0)).expect(rt, "a set")
 }
 
 pub fn limited_set(rt: &impl Abort, alloc: Global, holders: u64, serials: u64) -> DefaultSet {
-    let limits = Limits::new(holders, serials).expect(rt, "limits");
-    Set::with_limits(alloc, limits).expect(rt, "a set")
+    limited(alloc, holders, serials).expect(rt, "a set")
 }
 
 /// The word of a text's atom, which goes at once.
@@ -71,7 +57,10 @@ pub fn intern<'s, R: Wait + Abort, Static: StaticTables>(
     interned(rt, set, text).expect(rt, "an atom")
 }
 
-pub fn clone_of<'s, R: Wait + Abort>(rt: &R, atom: &DefaultAtom<'s>) -> DefaultAtom<'s> {
+pub fn clone_of<'s, R: Wait + Abort, Static: StaticTables>(
+    rt: &R,
+    atom: &Atom<'s, Static>,
+) -> Atom<'s, Static> {
     cloned(rt, atom).expect(rt, "an atom")
 }
 
@@ -81,7 +70,7 @@ pub fn lock_of<'s, R: Wait + Abort>(
     set: &'s DefaultSet,
     at: usize,
 ) -> MutexGuard<'s, Bucket<EmptyStaticAtomSet>> {
-    set.buckets().get(at).expect(rt, "a bucket").lock(rt)
+    locked(rt, set, at).expect(rt, "a bucket")
 }
 
 /// Checks that this many entries are linked.

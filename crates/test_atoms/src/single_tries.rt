@@ -1,31 +1,53 @@
 //! Shares with their set that are cloned by a single try.
 
-use crate::samples::{DefaultSet, hash_of, limited_set};
+use crate::samples::{DefaultSet, limited_set};
+use std::process::Abort;
 use std::sync::Wait;
-use std::test::Fail;
-use string_cache::Fault;
+use string_cache::dynamic_set;
 use string_cache::static_sets::EmptyStaticAtomSet;
+use test_calls::{hash_of, links};
+
+/// A share of a text's entry, with its set.
+type Held<'s> = dynamic_set::Held<'s, EmptyStaticAtomSet>;
+
+/// Whether a single try gives a third share beside the first and the second, and none then.
+fn has_third(first: &Held<'_>, second: &Held<'_>, text: &str) -> bool {
+    match second.try_clone_share() {
+        Some(third) => {
+            first.try_clone_share().is_none()
+                && third.text() == text
+                && third.ticket() == first.ticket()
+        }
+        None => false,
+    }
+}
+
+fn has_second(first: &Held<'_>, text: &str) -> bool {
+    match first.try_clone_share() {
+        Some(second) => has_third(first, &second, text),
+        None => false,
+    }
+}
 
 /// Whether a single try gives a share of the text's entry while it has fewer than three holders, and none then.
-fn tries<R: Wait>(rt: &R, set: &DefaultSet, text: &str) -> Result<bool, Fault> {
-    let first = set.intern(rt, text, hash_of::<EmptyStaticAtomSet>(text))?;
-    let Some(second) = first.try_clone_share() else {
-        return Ok(false);
-    };
-    let Some(third) = second.try_clone_share() else {
-        return Ok(false);
-    };
-    let is_full = first.try_clone_share().is_none();
-    Ok(is_full && third.text() == text && third.ticket() == first.ticket())
+fn tries<R: Wait>(rt: &R, set: &DefaultSet, text: &str) -> bool {
+    match set.intern(rt, text, hash_of::<EmptyStaticAtomSet>(text)) {
+        Ok(first) => has_second(&first, text),
+        Err(_) => false,
+    }
+}
+
+fn tries_long<R: Wait + Abort>(rt: &R, set: &DefaultSet) -> bool {
+    let long = "interned ".repeat(set.allocator(), 30_000);
+    tries(rt, set, &long.expect(rt, "a text"))
 }
 
 /// While no other thread changes the count, a single try succeeds below the limit, and each share that it gives goes.
 #[test]
 fn single_tries_of_held_shares(rt: HostRuntime) {
     let set = limited_set(&rt, rt.alloc(), 3, 10);
-    let long = "interned ".repeat(rt.alloc(), 30_000).expect(&rt, "a text");
-    assert!(rt; tries(&rt, &set, "interned") == Ok(true));
-    assert!(rt; tries(&rt, &set, "tokenised ü") == Ok(true));
-    assert!(rt; tries(&rt, &set, &long) == Ok(true));
-    assert!(rt; set.linked(&rt) == 0);
+    assert!(rt; tries(&rt, &set, "interned"));
+    assert!(rt; tries(&rt, &set, "tokenised ü"));
+    assert!(rt; tries_long(&rt, &set));
+    assert!(rt; links(&rt, &set, 0));
 }

@@ -1,17 +1,62 @@
 //! Orders, hashes and cases with values that come from outside, and atoms as keys of maps.
 
-use crate::samples::{intern, new_set};
+mod keys;
+
+use crate::samples::{clone_of, intern, new_set};
 use std::alloc::Global;
 use std::borrow::CowStr;
 use std::cmp::Ordering;
-use std::collections::{BTreeMap, HashMap};
 use std::process::Abort;
 use std::sync::Wait;
 use string_cache::dynamic_set::Set;
-use string_cache::static_sets::{EmptyStaticAtomSet, StaticAtomSet};
+use string_cache::static_sets::{EmptyStaticAtomSet, StaticTables};
 use string_cache::{Atom, DefaultAtom};
-use test_calls::{are_one, has_text, has_word};
+use test_calls::{
+    are_one, copied, has_text, has_word, interned_cow, interned_owned, json_of, lowered, raised,
+    read_json,
+};
 use test_samples::One;
+
+/// What is asked of a new set.
+#[derive(Clone, Copy)]
+enum Question {
+    Hashes,
+    Orders,
+    Equalities,
+    EqualTexts,
+    Clones,
+    Owners,
+    Cases,
+    StaticCases,
+    Keys,
+    LongText,
+}
+
+/// Asks it of a new set.
+fn ask<Static: StaticTables, R: Wait + Abort>(rt: &R, alloc: Global, question: Question) {
+    let set = new_set::<Static>(rt, alloc);
+    match question {
+        Question::Hashes => check_hashes(rt, &set),
+        Question::Orders => check_orders(rt, &set),
+        Question::Equalities => check_equalities(rt, &set),
+        Question::EqualTexts => check_equal_texts(rt, &set),
+        Question::Clones => check_clones(rt, &set),
+        Question::Owners => check_owners(rt, &set),
+        Question::Cases => check_cases(rt, &set),
+        Question::StaticCases => check_static_cases(rt, &set),
+        Question::Keys => keys::check_keys(rt, &set),
+        Question::LongText => check_long_text(rt, &set),
+    }
+}
+
+fn ask_default<R: Wait + Abort>(rt: &R, alloc: Global, question: Question) {
+    ask::<EmptyStaticAtomSet, R>(rt, alloc, question);
+}
+
+/// Asks it of a set with the static text "sentence".
+fn ask_one<R: Wait + Abort>(rt: &R, alloc: Global, question: Question) {
+    ask::<One, R>(rt, alloc, question);
+}
 
 #[test]
 fn default_atom(rt: HostRuntime) {
@@ -20,7 +65,11 @@ fn default_atom(rt: HostRuntime) {
     assert!(rt; atom.as_str().is_empty());
 }
 
-fn hash_of_text<R: Wait + Abort>(rt: &R, set: &Set<One>, text: &str) -> u64 {
+fn hash_of_text<R: Wait + Abort, Static: StaticTables>(
+    rt: &R,
+    set: &Set<Static>,
+    text: &str,
+) -> u64 {
     intern(rt, set, text).get_hash()
 }
 
@@ -32,23 +81,31 @@ const HASHES: [(&str, u64); 4] = [
     ("interned", 0x556a_6dba_06a4_7210),
 ];
 
-#[test]
-fn hash_numbers(rt: HostRuntime) {
-    let set = new_set(&rt, rt.alloc());
+fn check_hashes<R: Wait + Abort, Static: StaticTables>(rt: &R, set: &Set<Static>) {
     for (text, number) in &HASHES {
-        assert!(rt; hash_of_text(&rt, &set, text) == *number, "of {text:?}");
+        assert!(rt; hash_of_text(rt, set, text) == *number, "of {text:?}");
     }
 }
 
+#[test]
+fn hash_numbers(rt: HostRuntime) {
+    ask_one(&rt, rt.alloc(), Question::Hashes);
+}
+
 /// The order of the atoms of two texts, of which "sentence" is static.
-fn order<R: Wait + Abort>(rt: &R, set: &Set<One>, left: &str, right: &str) -> Ordering {
+fn order<R: Wait + Abort, Static: StaticTables>(
+    rt: &R,
+    set: &Set<Static>,
+    left: &str,
+    right: &str,
+) -> Ordering {
     let left = intern(rt, set, left);
     left.cmp(&intern(rt, set, right))
 }
 
-fn check_order<R: Wait + Abort>(
+fn check_order<R: Wait + Abort, Static: StaticTables>(
     rt: &R,
-    set: &Set<One>,
+    set: &Set<Static>,
     (left, right): (&str, &str),
     wanted: Ordering,
 ) {
@@ -66,18 +123,21 @@ const ORDERS: [(&str, &str, Ordering); 6] = [
     ("interned", "interned", Ordering::Equal),
 ];
 
-#[test]
-fn orders(rt: HostRuntime) {
-    let set = new_set(&rt, rt.alloc());
+fn check_orders<R: Wait + Abort, Static: StaticTables>(rt: &R, set: &Set<Static>) {
     for (left, right, wanted) in &ORDERS {
-        check_order(&rt, &set, (left, right), *wanted);
+        check_order(rt, set, (left, right), *wanted);
     }
 }
 
+#[test]
+fn orders(rt: HostRuntime) {
+    ask_one(&rt, rt.alloc(), Question::Orders);
+}
+
 /// Whether atoms of two texts are equal as they are, and without case, where these are true and not elsewhere.
-fn have_equalities<R: Wait + Abort>(
+fn have_equalities<R: Wait + Abort, Static: StaticTables>(
     rt: &R,
-    set: &Set<EmptyStaticAtomSet>,
+    set: &Set<Static>,
     left: &str,
     right: &str,
     (equal, without_case): (bool, bool),
@@ -87,7 +147,12 @@ fn have_equalities<R: Wait + Abort>(
 }
 
 /// Whether the atom equals a text as it is, and without case, where these are true and not elsewhere.
-fn equals_text(atom: &DefaultAtom<'_>, text: &str, equal: bool, without_case: bool) -> bool {
+fn equals_text<Static: StaticTables>(
+    atom: &Atom<'_, Static>,
+    text: &str,
+    equal: bool,
+    without_case: bool,
+) -> bool {
     atom.eq_str(text) == equal && atom.eq_str_ignore_ascii_case(text) == without_case
 }
 
@@ -100,12 +165,15 @@ const EQUALITIES: [(&str, &str, bool, bool); 5] = [
     ("foo", "foo", true, true),
 ];
 
+fn check_equalities<R: Wait + Abort, Static: StaticTables>(rt: &R, set: &Set<Static>) {
+    for (left, right, equal, without_case) in &EQUALITIES {
+        assert!(rt; have_equalities(rt, set, left, right, (*equal, *without_case)));
+    }
+}
+
 #[test]
 fn without_case(rt: HostRuntime) {
-    let set = new_set(&rt, rt.alloc());
-    for (left, right, equal, without_case) in &EQUALITIES {
-        assert!(rt; have_equalities(&rt, &set, left, right, (*equal, *without_case)));
-    }
+    ask_default(&rt, rt.alloc(), Question::Equalities);
 }
 
 /// Texts, and whether the atom of "Foo" equals them: as they are, and without case.
@@ -116,10 +184,8 @@ const EQUAL_TEXTS: [(&str, bool, bool); 4] = [
     ("fo", false, false),
 ];
 
-#[test]
-fn without_case_of_a_text(rt: HostRuntime) {
-    let set = new_set(&rt, rt.alloc());
-    let atom = intern(&rt, &set, "Foo");
+fn check_equal_texts<R: Wait + Abort, Static: StaticTables>(rt: &R, set: &Set<Static>) {
+    let atom = intern(rt, set, "Foo");
     for (text, equal, without_case) in &EQUAL_TEXTS {
         assert!(rt;
             equals_text(&atom, text, *equal, *without_case),
@@ -128,92 +194,119 @@ fn without_case_of_a_text(rt: HostRuntime) {
     }
 }
 
+#[test]
+fn without_case_of_a_text(rt: HostRuntime) {
+    ask_default(&rt, rt.alloc(), Question::EqualTexts);
+}
+
 /// Whether the clone has the atom's word, and this text.
-fn is_clone(clone: &Atom<'_, One>, atom: &Atom<'_, One>, text: &str) -> bool {
+fn is_clone<Static: StaticTables>(
+    clone: &Atom<'_, Static>,
+    atom: &Atom<'_, Static>,
+    text: &str,
+) -> bool {
     are_one(clone, atom) && has_text(clone, text)
 }
 
 /// Whether both calls clone the atom of the text.
-fn is_cloned<R: Wait + Abort>(rt: &R, set: &Set<One>, text: &str) -> bool {
+fn is_cloned<R: Wait + Abort, Static: StaticTables>(rt: &R, set: &Set<Static>, text: &str) -> bool {
     let atom = intern(rt, set, text);
-    let clone = atom.clone_atom(rt).expect(rt, "an atom");
-    let other = Atom::from_atom(rt, &atom).expect(rt, "an atom");
+    let clone = clone_of(rt, &atom);
+    let other = copied(rt, &atom).expect(rt, "an atom");
     is_clone(&clone, &atom, text) && is_clone(&other, &atom, text)
 }
 
 /// Texts that are inline, static and dynamic.
 const CLONED: [&str; 3] = ["foo", "sentence", "interned"];
 
-#[test]
-fn clones(rt: HostRuntime) {
-    let set = new_set(&rt, rt.alloc());
+fn check_clones<R: Wait + Abort, Static: StaticTables>(rt: &R, set: &Set<Static>) {
     for text in &CLONED {
-        assert!(rt; is_cloned(&rt, &set, text), "of {text:?}");
+        assert!(rt; is_cloned(rt, set, text), "of {text:?}");
     }
 }
 
+#[test]
+fn clones(rt: HostRuntime) {
+    ask_one(&rt, rt.alloc(), Question::Clones);
+}
+
 /// Whether the other is dynamic as the atom is, and one with it.
-fn is_same(atom: &DefaultAtom<'_>, other: &DefaultAtom<'_>) -> bool {
+fn is_same<Static: StaticTables>(atom: &Atom<'_, Static>, other: &Atom<'_, Static>) -> bool {
     other.is_dynamic() && other == atom && are_one(other, atom)
 }
 
-fn intern_owned<'s, R: Wait + Abort>(
-    rt: &R,
-    set: &'s Set<EmptyStaticAtomSet>,
-    text: &str,
-) -> DefaultAtom<'s> {
-    let text = String::from_str(set.allocator(), text).expect(rt, "a text");
-    Atom::from_string_in(rt, set, text).expect(rt, "an atom")
+fn owned(rt: &impl Abort, alloc: Global, text: &str) -> String {
+    String::from_str(alloc, text).expect(rt, "a text")
 }
 
-fn intern_cow<'s, R: Wait + Abort>(
+fn is_owned<R: Wait + Abort, Static: StaticTables>(
     rt: &R,
-    set: &'s Set<EmptyStaticAtomSet>,
+    set: &Set<Static>,
+    atom: &Atom<'_, Static>,
+    text: &str,
+) -> bool {
+    let own = owned(rt, set.allocator(), text);
+    match interned_owned(rt, set, own) {
+        Ok(other) => is_same(atom, &other),
+        Err(_) => false,
+    }
+}
+
+fn is_cow<R: Wait, Static: StaticTables>(
+    rt: &R,
+    set: &Set<Static>,
+    atom: &Atom<'_, Static>,
     text: CowStr<'_>,
-) -> DefaultAtom<'s> {
-    Atom::from_cow_in(rt, set, text).expect(rt, "an atom")
+) -> bool {
+    match interned_cow(rt, set, text) {
+        Ok(other) => is_same(atom, &other),
+        Err(_) => false,
+    }
 }
 
 /// Whether each call that takes a text which may be owned gives the atom.
-fn is_of_each_owner<R: Wait + Abort>(
+fn is_of_each_owner<R: Wait + Abort, Static: StaticTables>(
     rt: &R,
-    set: &Set<EmptyStaticAtomSet>,
-    atom: &DefaultAtom<'_>,
+    set: &Set<Static>,
+    atom: &Atom<'_, Static>,
     text: &str,
 ) -> bool {
-    let owned = String::from_str(set.allocator(), text).expect(rt, "a text");
-    is_same(atom, &intern_owned(rt, set, text))
-        && is_same(atom, &intern_cow(rt, set, CowStr::Borrowed(text)))
-        && is_same(atom, &intern_cow(rt, set, CowStr::Owned(owned)))
+    let own = owned(rt, set.allocator(), text);
+    is_owned(rt, set, atom, text)
+        && is_cow(rt, set, atom, CowStr::Borrowed(text))
+        && is_cow(rt, set, atom, CowStr::Owned(own))
+}
+
+fn check_owners<R: Wait + Abort, Static: StaticTables>(rt: &R, set: &Set<Static>) {
+    let atom = intern(rt, set, "interned");
+    assert!(rt; is_of_each_owner(rt, set, &atom, "interned"));
 }
 
 #[test]
 fn owned_texts(rt: HostRuntime) {
-    let set = new_set(&rt, rt.alloc());
-    let atom = intern(&rt, &set, "interned");
-    assert!(rt; is_of_each_owner(&rt, &set, &atom, "interned"));
+    ask_default(&rt, rt.alloc(), Question::Owners);
 }
 
-fn upper_of<'s, R: Wait + Abort, Static: StaticAtomSet>(
+fn upper_of<'s, R: Wait + Abort, Static: StaticTables>(
     rt: &R,
     set: &'s Set<Static>,
     atom: &Atom<'s, Static>,
 ) -> Atom<'s, Static> {
-    atom.to_ascii_uppercase_in(rt, set).expect(rt, "an atom")
+    raised(rt, set, atom).expect(rt, "an atom")
 }
 
-fn lower_of<'s, R: Wait + Abort, Static: StaticAtomSet>(
+fn lower_of<'s, R: Wait + Abort, Static: StaticTables>(
     rt: &R,
     set: &'s Set<Static>,
     atom: &Atom<'s, Static>,
 ) -> Atom<'s, Static> {
-    atom.to_ascii_lowercase_in(rt, set).expect(rt, "an atom")
+    lowered(rt, set, atom).expect(rt, "an atom")
 }
 
 /// Whether the text has these cases.
-fn has_cases<R: Wait + Abort>(
+fn has_cases<R: Wait + Abort, Static: StaticTables>(
     rt: &R,
-    set: &Set<EmptyStaticAtomSet>,
+    set: &Set<Static>,
     text: &str,
     upper: &str,
     lower: &str,
@@ -227,7 +320,11 @@ fn repeated(rt: &impl Abort, alloc: Global, text: &str, times: usize) -> String 
 }
 
 /// Whether a text of this many letters has these cases.
-fn has_long_cases<R: Wait + Abort>(rt: &R, set: &Set<EmptyStaticAtomSet>, letters: usize) -> bool {
+fn has_long_cases<R: Wait + Abort, Static: StaticTables>(
+    rt: &R,
+    set: &Set<Static>,
+    letters: usize,
+) -> bool {
     let lower = repeated(rt, set.allocator(), "a", letters);
     let upper = repeated(rt, set.allocator(), "A", letters);
     has_cases(rt, set, &lower, &upper, &lower)
@@ -242,144 +339,73 @@ const CASES: [(&str, &str, &str); 5] = [
     ("azAZ", "AZAZ", "azaz"),
 ];
 
+fn check_cases<R: Wait + Abort, Static: StaticTables>(rt: &R, set: &Set<Static>) {
+    for (text, upper, lower) in &CASES {
+        assert!(rt; has_cases(rt, set, text, upper, lower));
+    }
+    assert!(rt; has_long_cases(rt, set, 64));
+    assert!(rt; has_long_cases(rt, set, 65));
+}
+
 #[test]
 fn cases(rt: HostRuntime) {
-    let set = new_set(&rt, rt.alloc());
-    for (text, upper, lower) in &CASES {
-        assert!(rt; has_cases(&rt, &set, text, upper, lower));
-    }
-    assert!(rt; has_long_cases(&rt, &set, 64));
-    assert!(rt; has_long_cases(&rt, &set, 65));
+    ask_default(&rt, rt.alloc(), Question::Cases);
+}
+
+fn check_static_cases<R: Wait + Abort, Static: StaticTables>(rt: &R, set: &Set<Static>) {
+    let upper = upper_of(rt, set, &intern(rt, set, "sentence"));
+    assert!(rt; has_text(&upper, "SENTENCE") && upper.is_dynamic());
+    let lower = lower_of(rt, set, &upper);
+    assert!(rt; lower.is_static() && has_word(&lower, 2));
 }
 
 #[test]
 fn cases_of_a_static_text(rt: HostRuntime) {
-    let set = new_set::<One>(&rt, rt.alloc());
-    let upper = upper_of(&rt, &set, &intern(&rt, &set, "sentence"));
-    assert!(rt; has_text(&upper, "SENTENCE") && upper.is_dynamic());
-    let lower = lower_of(&rt, &set, &upper);
-    assert!(rt; lower.is_static() && has_word(&lower, 2));
-}
-
-/// Adds one to the count of an atom.
-fn count_hashed<'s>(
-    rt: &impl Abort,
-    counts: &mut HashMap<Atom<'s, One>, u64>,
-    atom: Atom<'s, One>,
-) {
-    let count = counts.entry(atom).expect(rt, "an answer").or_insert(0);
-    *count = count.saturating_add(1);
-}
-
-/// Adds one to the count of an atom.
-fn count_sorted<'s>(
-    rt: &impl Abort,
-    counts: &mut BTreeMap<Atom<'s, One>, u64>,
-    atom: Atom<'s, One>,
-) {
-    let count = counts.entry(atom).expect(rt, "an answer").or_insert(0);
-    *count = count.saturating_add(1);
-}
-
-/// How often the map has the atom of this word.
-fn count_of<R: Wait + Abort>(
-    rt: &R,
-    set: &Set<One>,
-    counts: &HashMap<Atom<'_, One>, u64>,
-    word: &str,
-) -> Option<u64> {
-    match counts.get(&intern(rt, set, word)) {
-        Some(count) => Some(*count),
-        None => None,
-    }
-}
-
-/// Whether the map has these words, in this order, as often as this.
-fn has_counts(sorted: &BTreeMap<Atom<'_, One>, u64>, wanted: &[(&str, u64)]) -> bool {
-    let mut is_right = sorted.len() == wanted.len();
-    for ((atom, count), (word, times)) in sorted.iter().zip(wanted.iter()) {
-        is_right = is_right && has_text(atom, word) && count == times;
-    }
-    is_right
-}
-
-/// Counts the words of a text, by the hashes of their atoms and by their order.
-fn count_words<'s, R: Wait + Abort>(
-    rt: &R,
-    set: &'s Set<One>,
-    counts: &mut HashMap<Atom<'s, One>, u64>,
-    sorted: &mut BTreeMap<Atom<'s, One>, u64>,
-    text: &str,
-) {
-    for word in text.split_whitespace() {
-        let atom = intern(rt, set, word);
-        count_hashed(rt, counts, atom.clone_atom(rt).expect(rt, "an atom"));
-        count_sorted(rt, sorted, atom);
-    }
-}
-
-/// The words of the text below, in their order, and how often each comes.
-const COUNTS: [(&str, u64); 4] = [("a", 2), ("b", 1), ("interned", 3), ("sentence", 1)];
-
-/// Whether the map has these words, as often as this, and no others.
-fn has_hashed<R: Wait + Abort>(
-    rt: &R,
-    set: &Set<One>,
-    counts: &HashMap<Atom<'_, One>, u64>,
-    wanted: &[(&str, u64)],
-) -> bool {
-    for (word, times) in wanted {
-        if count_of(rt, set, counts, word) != Some(*times) {
-            return false;
-        }
-    }
-    counts.len() == wanted.len()
-}
-
-/// Whether both maps have the words of a text.
-fn have_words<R: Wait + Abort>(rt: &R, set: &Set<One>, text: &str) -> bool {
-    let mut counts = HashMap::new(set.allocator());
-    let mut sorted = BTreeMap::new(set.allocator());
-    count_words(rt, set, &mut counts, &mut sorted, text);
-    has_hashed(rt, set, &counts, &COUNTS) && has_counts(&sorted, &COUNTS)
+    ask_one(&rt, rt.alloc(), Question::StaticCases);
 }
 
 #[test]
 fn keys_of_maps(rt: HostRuntime) {
-    let set = new_set(&rt, rt.alloc());
-    assert!(rt; have_words(&rt, &set, "interned sentence a interned b a interned"));
+    ask_one(&rt, rt.alloc(), Question::Keys);
 }
 
 /// The atom, there and back as JSON.
-fn json_copy<'s, R: Wait + Abort>(
+fn json_copy<'s, R: Wait + Abort, Static: StaticTables>(
     rt: &R,
-    set: &'s Set<EmptyStaticAtomSet>,
-    atom: &DefaultAtom<'s>,
-) -> DefaultAtom<'s> {
-    let value = atom.to_json(set.allocator()).expect(rt, "an answer");
-    Atom::from_json_in(rt, set, &value).expect(rt, "an atom")
+    set: &'s Set<Static>,
+    atom: &Atom<'s, Static>,
+) -> Atom<'s, Static> {
+    let value = json_of(atom, set.allocator()).expect(rt, "an answer");
+    read_json(rt, set, &value).expect(rt, "an atom")
 }
 
-fn has_length(atom: &DefaultAtom<'_>, bytes: usize) -> bool {
+fn has_length<Static: StaticTables>(atom: &Atom<'_, Static>, bytes: usize) -> bool {
     atom.as_bytes().len() == bytes
 }
 
 /// Checks the other case of an atom that has small letters and none beyond ASCII to change.
-fn check_upper<R: Wait + Abort>(rt: &R, set: &Set<EmptyStaticAtomSet>, atom: &DefaultAtom<'_>) {
-    let upper = atom.to_ascii_uppercase_in(rt, set).expect(rt, "an atom");
+fn check_upper<R: Wait + Abort, Static: StaticTables>(
+    rt: &R,
+    set: &Set<Static>,
+    atom: &Atom<'_, Static>,
+) {
+    let upper = upper_of(rt, set, atom);
     assert!(rt; has_length(&upper, 300_000));
     assert!(rt; upper != *atom);
     assert!(rt; upper.eq_ignore_ascii_case(atom));
 }
 
 /// A text of 300,000 bytes, not all of them ASCII, interned, put into another case, and there and back as JSON.
+fn check_long_text<R: Wait + Abort, Static: StaticTables>(rt: &R, set: &Set<Static>) {
+    let text = repeated(rt, set.allocator(), "aé", 100_000);
+    let atom = intern(rt, set, &text);
+    assert!(rt; has_length(&atom, 300_000));
+    assert!(rt; is_same(&atom, &json_copy(rt, set, &atom)));
+    assert!(rt; is_owned(rt, set, &atom, &text));
+    check_upper(rt, set, &atom);
+}
+
 #[test]
 fn long_text(rt: HostRuntime) {
-    let set = new_set(&rt, rt.alloc());
-    let text = repeated(&rt, rt.alloc(), "aé", 100_000);
-    let atom = intern(&rt, &set, &text);
-    assert!(rt; has_length(&atom, 300_000));
-    assert!(rt; is_same(&atom, &json_copy(&rt, &set, &atom)));
-    assert!(rt; is_same(&atom, &intern_owned(&rt, &set, &text)));
-    check_upper(&rt, &set, &atom);
+    ask_default(&rt, rt.alloc(), Question::LongText);
 }

@@ -1,37 +1,58 @@
 //! Threads at work on one set, and on one atom.
 
-use crate::samples::{DefaultSet, check_linked, default_set, intern, limited_set};
+use crate::samples::{DefaultSet, check_linked, clone_of, default_set, intern, limited_set};
+use std::process::Abort;
 use std::sync::Wait;
 use std::sync::atomic::{AtomicU64, Ordering};
-use std::thread;
+use std::thread::{self, Threads};
 use string_cache::{DefaultAtom, Fault};
-use test_calls::{cloned, interned};
+use test_calls::{cloned, has_text};
 
-/// Interns, clones and drops each of the texts, again and again. Whether each atom had its text.
-fn turn_over<R: Wait>(rt: &R, set: &DefaultSet) -> Result<bool, Fault> {
+/// What threads do with a new set.
+#[derive(Clone, Copy)]
+enum Scene {
+    AtWork,
+    OneAtom,
+    OneText,
+}
+
+/// Plays the scene in a set, which has no entry afterwards.
+fn play<R: Threads + Wait + Abort + Sync>(rt: &R, set: DefaultSet, scene: Scene) {
+    match scene {
+        Scene::AtWork => work_in_two(rt, &set),
+        Scene::OneAtom => share_one_atom(rt, &set),
+        Scene::OneText => meet_at_one_text(rt, &set),
+    }
+    check_linked(rt, &set, 0);
+}
+
+/// Interns, clones and drops a text. Whether both atoms were equal, and had it.
+fn comes_and_goes<R: Wait + Abort>(rt: &R, set: &DefaultSet, text: &str) -> bool {
+    let atom = intern(rt, set, text);
+    let clone = clone_of(rt, &atom);
+    clone == atom && has_text(&clone, text)
+}
+
+/// Does so with each of the texts, again and again.
+fn turn_over<R: Wait + Abort>(rt: &R, set: &DefaultSet) -> bool {
     let mut is_same = true;
     for _ in 0..100 {
         for text in "interned tokenised sentence repeated".split_whitespace() {
-            let atom = interned(rt, set, text)?;
-            let clone = cloned(rt, &atom)?;
-            is_same = is_same && clone == atom && clone.as_str() == text;
+            is_same = is_same && comes_and_goes(rt, set, text);
         }
     }
-    Ok(is_same)
+    is_same
+}
+
+fn work_in_two<R: Threads + Wait + Abort + Sync>(rt: &R, set: &DefaultSet) {
+    let (left, right) = thread::join(rt, || turn_over(rt, set), || turn_over(rt, set));
+    assert!(rt; left && right);
+    set.sweep(rt);
 }
 
 #[test]
 fn threads_at_work(rt: HostRuntime) {
-    let set = default_set(&rt, rt.alloc());
-    let (shared, handle) = (&set, &rt);
-    let (left, right) = thread::join(
-        &rt,
-        || turn_over(handle, shared),
-        || turn_over(handle, shared),
-    );
-    assert!(rt; left.expect(&rt, "an answer") && right.expect(&rt, "an answer"));
-    set.sweep(&rt);
-    check_linked(&rt, &set, 0);
+    play(&rt, default_set(&rt, rt.alloc()), Scene::AtWork);
 }
 
 /// Clones and drops the atom, again and again.
@@ -43,30 +64,30 @@ fn clone_and_drop<R: Wait>(rt: &R, atom: &DefaultAtom) -> Result<(), Fault> {
 }
 
 /// Whether the atom, which has a single holder, takes just two more.
-fn takes_two_more<R: Wait>(rt: &R, atom: &DefaultAtom<'_>) -> Result<bool, Fault> {
-    let _second = cloned(rt, atom)?;
-    let _third = cloned(rt, atom)?;
-    Ok(matches!(cloned(rt, atom), Err(Fault::FullCount)))
+fn takes_two_more<R: Wait + Abort>(rt: &R, atom: &DefaultAtom<'_>) -> bool {
+    let _second = clone_of(rt, atom);
+    let _third = clone_of(rt, atom);
+    matches!(cloned(rt, atom), Err(Fault::FullCount))
+}
+
+fn clone_in_two<R: Threads + Wait + Abort + Sync>(rt: &R, atom: &DefaultAtom<'_>) {
+    let (left, right) = thread::join(rt, || clone_and_drop(rt, atom), || clone_and_drop(rt, atom));
+    left.expect(rt, "an answer");
+    right.expect(rt, "an answer");
+}
+
+fn share_one_atom<R: Threads + Wait + Abort + Sync>(rt: &R, set: &DefaultSet) {
+    let atom = intern(rt, set, "interned");
+    clone_in_two(rt, &atom);
+    check_linked(rt, set, 1);
+    assert!(rt; has_text(&atom, "interned"));
+    assert!(rt; takes_two_more(rt, &atom));
 }
 
 /// No share is lost or left over, and none is refused, though both threads change one count.
 #[test]
 fn one_atom_in_two_threads(rt: HostRuntime) {
-    let set = limited_set(&rt, rt.alloc(), 3, 9);
-    let atom = intern(&rt, &set, "interned");
-    let (shared, handle) = (&atom, &rt);
-    let (left, right) = thread::join(
-        &rt,
-        || clone_and_drop(handle, shared),
-        || clone_and_drop(handle, shared),
-    );
-    left.expect(&rt, "an answer");
-    right.expect(&rt, "an answer");
-    check_linked(&rt, &set, 1);
-    assert!(rt; atom.as_str() == "interned");
-    assert!(rt; takes_two_more(&rt, &atom).expect(&rt, "an answer"));
-    drop(atom);
-    check_linked(&rt, &set, 0);
+    play(&rt, limited_set(&rt, rt.alloc(), 3, 9), Scene::OneAtom);
 }
 
 /// Waits until two threads have come here as often as this.
@@ -82,38 +103,52 @@ fn meet<R: Wait>(rt: &R, gate: &AtomicU64, times: u64) {
 
 /// Interns a text at the same time as another thread does, which nobody holds before, in each of 2,000 rounds. In how many both had
 /// one word.
-fn intern_beside<R: Wait>(
+fn intern_beside<R: Wait + Abort>(
     rt: &R,
     set: &DefaultSet,
     gate: &AtomicU64,
     mine: &AtomicU64,
     other: &AtomicU64,
-) -> Result<u64, Fault> {
+) -> u64 {
     let mut same = 0u64;
     for round in 0..2_000u64 {
         meet(rt, gate, 3 * round + 1);
-        let atom = interned(rt, set, "interned")?;
+        let atom = intern(rt, set, "interned");
         let word = atom.unsafe_data();
         mine.store(word, Ordering::SeqCst);
         meet(rt, gate, 3 * round + 2);
         same = same.saturating_add(u64::from(other.load(Ordering::SeqCst) == word));
         meet(rt, gate, 3 * round + 3);
     }
-    Ok(same)
+    same
+}
+
+/// Where two threads wait for each other, and the words that they were given.
+#[derive(Drop)]
+struct Meeting {
+    gate: AtomicU64,
+    one: AtomicU64,
+    two: AtomicU64,
+}
+
+fn meet_at_one_text<R: Threads + Wait + Abort + Sync>(rt: &R, set: &DefaultSet) {
+    let at = Meeting {
+        gate: AtomicU64::new(0),
+        one: AtomicU64::new(0),
+        two: AtomicU64::new(0),
+    };
+    let (left, right) = thread::join(
+        rt,
+        || intern_beside(rt, set, &at.gate, &at.one, &at.two),
+        || intern_beside(rt, set, &at.gate, &at.two, &at.one),
+    );
+    assert!(rt; left == 2_000);
+    assert!(rt; right == 2_000);
+    set.sweep(rt);
 }
 
 /// Of two threads that find a text absent one links it, and the other finds that entry.
 #[test]
 fn two_threads_at_one_new_text(rt: HostRuntime) {
-    let set = default_set(&rt, rt.alloc());
-    let (gate, one, two) = (AtomicU64::new(0), AtomicU64::new(0), AtomicU64::new(0));
-    let (shared, handle, at) = (&set, &rt, &gate);
-    let (first, second) = (&one, &two);
-    let (left, right) = thread::join(
-        &rt,
-        || intern_beside(handle, shared, at, first, second),
-        || intern_beside(handle, shared, at, second, first),
-    );
-    assert!(rt; left.expect(&rt, "an answer") == 2_000);
-    assert!(rt; right.expect(&rt, "an answer") == 2_000);
+    play(&rt, default_set(&rt, rt.alloc()), Scene::OneText);
 }

@@ -11,6 +11,41 @@ use std::sync::Wait;
 use string_cache::{DefaultAtom, Fault};
 use test_calls::interned;
 
+/// What is done with a new set.
+#[derive(Clone, Copy)]
+enum Scene {
+    EachOnce,
+    DyingIsVisited,
+    DyingOfABucket,
+    EachNode,
+    LongText,
+    OneOfANode,
+    DyingCounts,
+}
+
+/// Plays the scene in a set.
+fn play_in<R: Wait + Abort>(rt: &R, set: &DefaultSet, scene: Scene) {
+    match scene {
+        Scene::EachOnce => visit_each_once(rt, set),
+        Scene::DyingIsVisited => visit_dying(rt, set),
+        Scene::DyingOfABucket => visit_two_dying(rt, set),
+        Scene::EachNode => visit_each_node(rt, set),
+        Scene::LongText => measure_long_text(rt, set),
+        Scene::OneOfANode => measure_nodes(rt, set),
+        Scene::DyingCounts => measure_dying(rt, set),
+    }
+}
+
+/// Plays it in a new set of the usual buckets.
+fn play<R: Wait + Abort>(rt: &R, alloc: Global, scene: Scene) {
+    play_in(rt, &default_set(rt, alloc), scene);
+}
+
+/// Plays it in a new set of one bucket.
+fn play_in_one_bucket<R: Wait + Abort>(rt: &R, alloc: Global, scene: Scene) {
+    play_in(rt, &one_bucket(rt, alloc), scene);
+}
+
 /// The texts of the entries that are linked, each with the number of its holders.
 fn visited<R: Wait>(rt: &R, set: &DefaultSet) -> String {
     let mut seen = String::new(set.allocator());
@@ -25,53 +60,59 @@ fn visits<R: Wait>(rt: &R, set: &DefaultSet, wanted: &str) -> bool {
 }
 
 /// Bucket by bucket, and the newest first.
-#[test]
-fn each_entry_is_visited_once(rt: HostRuntime) {
-    let set = default_set(&rt, rt.alloc());
-    assert!(rt; visits(&rt, &set, ""));
-    let last = intern(&rt, &set, "geometric");
-    let forgotten = intern(&rt, &set, "forgotten");
-    let _magnitude = intern(&rt, &set, "magnitude");
-    let _first = intern(&rt, &set, "afterwards");
-    let _second = clone_of(&rt, &forgotten);
+fn visit_each_once<R: Wait + Abort>(rt: &R, set: &DefaultSet) {
+    assert!(rt; visits(rt, set, ""));
+    let last = intern(rt, set, "geometric");
+    let forgotten = intern(rt, set, "forgotten");
+    let _magnitude = intern(rt, set, "magnitude");
+    let _first = intern(rt, set, "afterwards");
+    let _second = clone_of(rt, &forgotten);
     let all = "afterwards 1;magnitude 1;forgotten 2;geometric 1;";
     for _ in 0..2 {
-        assert!(rt; visits(&rt, &set, all));
+        assert!(rt; visits(rt, set, all));
     }
     drop(last);
-    assert!(rt; visits(&rt, &set, "afterwards 1;magnitude 1;forgotten 2;"));
-    check_linked(&rt, &set, 3);
+    assert!(rt; visits(rt, set, "afterwards 1;magnitude 1;forgotten 2;"));
+    check_linked(rt, set, 3);
+}
+
+#[test]
+fn each_entry_is_visited_once(rt: HostRuntime) {
+    play(&rt, rt.alloc(), Scene::EachOnce);
 }
 
 /// An entry that died under its bucket's lock is visited, and stays.
-#[test]
-fn dying_entry_is_visited(rt: HostRuntime) {
-    let set = default_set(&rt, rt.alloc());
-    let atom = intern(&rt, &set, "interned");
-    let held = lock_of(&rt, &set, 0x210);
+fn visit_dying<R: Wait + Abort>(rt: &R, set: &DefaultSet) {
+    let atom = intern(rt, set, "interned");
+    let held = lock_of(rt, set, 0x210);
     drop(atom);
     drop(held);
     for _ in 0..2 {
-        assert!(rt; visits(&rt, &set, "interned 0;"));
+        assert!(rt; visits(rt, set, "interned 0;"));
     }
-    check_linked(&rt, &set, 1);
+    check_linked(rt, set, 1);
+}
+
+#[test]
+fn dying_entry_is_visited(rt: HostRuntime) {
+    play(&rt, rt.alloc(), Scene::DyingIsVisited);
 }
 
 /// And so are two of one bucket.
-#[test]
-fn dying_entries_of_a_bucket_are_visited(rt: HostRuntime) {
-    let set = default_set(&rt, rt.alloc());
-    let atoms = (
-        intern(&rt, &set, "forgotten"),
-        intern(&rt, &set, "magnitude"),
-    );
-    let held = lock_of(&rt, &set, 0x72f);
+fn visit_two_dying<R: Wait + Abort>(rt: &R, set: &DefaultSet) {
+    let atoms = (intern(rt, set, "forgotten"), intern(rt, set, "magnitude"));
+    let held = lock_of(rt, set, 0x72f);
     drop(atoms);
     drop(held);
     for _ in 0..2 {
-        assert!(rt; visits(&rt, &set, "magnitude 0;forgotten 0;"));
+        assert!(rt; visits(rt, set, "magnitude 0;forgotten 0;"));
     }
-    check_linked(&rt, &set, 2);
+    check_linked(rt, set, 2);
+}
+
+#[test]
+fn dying_entries_of_a_bucket_are_visited(rt: HostRuntime) {
+    play(&rt, rt.alloc(), Scene::DyingOfABucket);
 }
 
 /// The atoms of these texts, which are parted by spaces.
@@ -88,15 +129,18 @@ fn atoms_of<'s, R: Wait>(
 }
 
 /// Five texts of one bucket, which lie in two nodes.
+fn visit_each_node<R: Wait + Abort>(rt: &R, set: &DefaultSet) {
+    let texts = "interned tokenised sentence repeated forgotten";
+    let atoms = atoms_of(rt, set, texts).expect(rt, "atoms");
+    let all = "forgotten 1;repeated 1;sentence 1;tokenised 1;interned 1;";
+    assert!(rt; visits(rt, set, all));
+    drop(atoms);
+    assert!(rt; visits(rt, set, ""));
+}
+
 #[test]
 fn each_node_is_visited(rt: HostRuntime) {
-    let set = one_bucket(&rt, rt.alloc());
-    let texts = "interned tokenised sentence repeated forgotten";
-    let atoms = atoms_of(&rt, &set, texts).expect(&rt, "atoms");
-    let all = "forgotten 1;repeated 1;sentence 1;tokenised 1;interned 1;";
-    assert!(rt; visits(&rt, &set, all));
-    drop(atoms);
-    assert!(rt; visits(&rt, &set, ""));
+    play_in_one_bucket(&rt, rt.alloc(), Scene::EachNode);
 }
 
 /// The bytes of a bucket with its lock, of a node, which has room for four entries, and of a cell before its text. A cell's bytes are
@@ -143,45 +187,51 @@ fn memory_of_texts(rt: HostRuntime) {
     }
 }
 
+fn measure_long_text<R: Wait + Abort>(rt: &R, set: &DefaultSet) {
+    let text = "a".repeat(set.allocator(), 100).expect(rt, "a text");
+    let atom = intern(rt, set, &text);
+    assert!(rt; takes(rt, set, BUCKET + NODE + CELL + 104));
+    drop(atom);
+    assert!(rt; takes(rt, set, BUCKET));
+}
+
 #[test]
 fn memory_of_a_long_text(rt: HostRuntime) {
-    let set = one_bucket(&rt, rt.alloc());
-    let text = "a".repeat(rt.alloc(), 100).expect(&rt, "a text");
-    let atom = intern(&rt, &set, &text);
-    assert!(rt; takes(&rt, &set, BUCKET + NODE + CELL + 104));
-    drop(atom);
-    assert!(rt; takes(&rt, &set, BUCKET));
+    play_in_one_bucket(&rt, rt.alloc(), Scene::LongText);
 }
 
 /// A node stays for the one entry that is left in it.
-#[test]
-fn memory_of_nodes_with_one_entry(rt: HostRuntime) {
-    let set = one_bucket(&rt, rt.alloc());
-    let _first = intern(&rt, &set, "interned");
-    let three = atoms_of(&rt, &set, "sentence repeated addition").expect(&rt, "atoms");
-    let _fifth = intern(&rt, &set, "relation");
-    let others = atoms_of(&rt, &set, "sequence compiler tokenise").expect(&rt, "atoms");
+fn measure_nodes<R: Wait + Abort>(rt: &R, set: &DefaultSet) {
+    let _first = intern(rt, set, "interned");
+    let three = atoms_of(rt, set, "sentence repeated addition").expect(rt, "atoms");
+    let _fifth = intern(rt, set, "relation");
+    let others = atoms_of(rt, set, "sequence compiler tokenise").expect(rt, "atoms");
     drop(three);
     drop(others);
-    assert!(rt; takes(&rt, &set, BUCKET + 2 * NODE + 2 * (CELL + 8)));
+    assert!(rt; takes(rt, set, BUCKET + 2 * NODE + 2 * (CELL + 8)));
+}
+
+#[test]
+fn memory_of_nodes_with_one_entry(rt: HostRuntime) {
+    play_in_one_bucket(&rt, rt.alloc(), Scene::OneOfANode);
 }
 
 /// What is still linked counts, though nobody holds it.
-#[test]
-fn memory_of_dying_entries(rt: HostRuntime) {
-    let set = default_set(&rt, rt.alloc());
-    let atoms = (
-        intern(&rt, &set, "afterwards"),
-        intern(&rt, &set, "geometric"),
-    );
-    let first = lock_of(&rt, &set, 0);
-    let last = lock_of(&rt, &set, 0xfff);
+fn measure_dying<R: Wait + Abort>(rt: &R, set: &DefaultSet) {
+    let atoms = (intern(rt, set, "afterwards"), intern(rt, set, "geometric"));
+    let first = lock_of(rt, set, 0);
+    let last = lock_of(rt, set, 0xfff);
     drop(atoms);
     drop(first);
     drop(last);
     for _ in 0..2 {
-        assert!(rt; takes(&rt, &set, 4096 * BUCKET + 2 * (NODE + CELL + 16)));
+        assert!(rt; takes(rt, set, 4096 * BUCKET + 2 * (NODE + CELL + 16)));
     }
-    set.sweep(&rt);
-    assert!(rt; takes(&rt, &set, 4096 * BUCKET));
+    set.sweep(rt);
+    assert!(rt; takes(rt, set, 4096 * BUCKET));
+}
+
+#[test]
+fn memory_of_dying_entries(rt: HostRuntime) {
+    play(&rt, rt.alloc(), Scene::DyingCounts);
 }

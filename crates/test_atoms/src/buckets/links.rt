@@ -1,15 +1,15 @@
 //! Links for which there is no memory, and a great number of them in one bucket.
 
 use super::{Fake, check_share, link, new_bucket, tickets};
-use crate::samples::{DefaultSet, check_atom, check_linked, intern, one_bucket};
+use crate::samples::{DefaultSet, check_atom, check_linked, intern, lock_of, one_bucket};
 use std::alloc::Global;
 use std::process::Abort;
 use std::sync::Wait;
 use std::test::Fail;
-use string_cache::Fault;
 use string_cache::dynamic_set::{Bucket, Share};
 use string_cache::static_sets::EmptyStaticAtomSet;
 use string_cache::word::{Limits, ticket_word};
+use string_cache::{DefaultAtom, Fault};
 
 /// Links a text, once more where there is no memory: a refused link leaves the bucket as it was.
 fn link_again<R: Abort>(
@@ -113,32 +113,48 @@ fn entries_go_one_by_one(rt: HostRuntime) {
     }
 }
 
-/// Links each of 5,000 texts in the only bucket of a set.
-fn link_five_thousand<R: Wait + Abort>(rt: &R, set: &DefaultSet) -> Result<Vec<Share>, Fault> {
-    let limits = Limits::greatest();
-    let only = set.buckets().get(0).expect(rt, "a bucket");
+/// Links the text of a number in the only bucket of a set.
+fn link_numbered<R: Wait + Abort>(rt: &R, set: &DefaultSet, n: u32) -> Share {
+    let text = format!(in set.allocator(); "w{n:07}").expect(rt, "a text");
+    let mut only = lock_of(rt, set, 0);
+    link(&mut only, &text, &Limits::greatest()).expect(rt, "a share")
+}
+
+/// Links each of 5,000 texts there.
+fn link_five_thousand<R: Wait + Abort>(rt: &R, set: &DefaultSet) -> Vec<Share> {
     let mut shares = Vec::new(set.allocator());
     for n in 0..5_000u32 {
-        let text = format!(in set.allocator(); "w{n:07}")?;
-        shares.push(link(&mut only.lock(rt), &text, &limits)?)?;
+        shares.push(link_numbered(rt, set, n)).expect(rt, "room");
     }
-    Ok(shares)
+    shares
+}
+
+/// The atom of a text, which has this word.
+fn atom_of<'s, R: Wait + Abort>(
+    rt: &R,
+    set: &'s DefaultSet,
+    text: &str,
+    word: u64,
+) -> DefaultAtom<'s> {
+    let atom = intern(rt, set, text);
+    check_atom(rt, &atom, text, word);
+    atom
+}
+
+fn find_among_many<R: Wait + Abort>(rt: &R, set: &DefaultSet) {
+    let shares = link_five_thousand(rt, set);
+    check_linked(rt, set, 5_000);
+    let _oldest = atom_of(rt, set, "w0000000", 0x1_0000);
+    let _newest = atom_of(rt, set, "w0004999", 0x1388_0000);
+    let _next = atom_of(rt, set, "interned", 0x1389_0000);
+    check_linked(rt, set, 5_001);
+    drop(shares);
+    set.sweep(rt);
+    check_linked(rt, set, 3);
 }
 
 /// Each of 5,000 texts is linked in the one bucket of a set, and the oldest and the newest are found there. 5,000 is 0x1388.
 #[test]
 fn five_thousand_entries_of_one_bucket(rt: HostRuntime) {
-    let set = one_bucket(&rt, rt.alloc());
-    let shares = link_five_thousand(&rt, &set).expect(&rt, "shares");
-    check_linked(&rt, &set, 5_000);
-    let oldest = intern(&rt, &set, "w0000000");
-    let newest = intern(&rt, &set, "w0004999");
-    let next = intern(&rt, &set, "interned");
-    check_atom(&rt, &oldest, "w0000000", 0x1_0000);
-    check_atom(&rt, &newest, "w0004999", 0x1388_0000);
-    check_atom(&rt, &next, "interned", 0x1389_0000);
-    check_linked(&rt, &set, 5_001);
-    drop(shares);
-    set.sweep(&rt);
-    check_linked(&rt, &set, 3);
+    find_among_many(&rt, &one_bucket(&rt, rt.alloc()));
 }

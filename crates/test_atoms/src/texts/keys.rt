@@ -1,0 +1,105 @@
+//! Atoms as keys of maps.
+
+use crate::samples::{clone_of, intern};
+use std::collections::{BTreeMap, HashMap};
+use std::process::Abort;
+use std::sync::Wait;
+use string_cache::Atom;
+use string_cache::dynamic_set::Set;
+use string_cache::static_sets::StaticTables;
+use test_calls::has_text;
+
+/// Adds one to the count of an atom.
+fn count_hashed<'s, Static: StaticTables>(
+    rt: &impl Abort,
+    counts: &mut HashMap<Atom<'s, Static>, u64>,
+    atom: Atom<'s, Static>,
+) {
+    let count = counts.entry(atom).expect(rt, "an answer").or_insert(0);
+    *count = count.saturating_add(1);
+}
+
+/// Adds one to the count of an atom.
+fn count_sorted<'s, Static: StaticTables>(
+    rt: &impl Abort,
+    counts: &mut BTreeMap<Atom<'s, Static>, u64>,
+    atom: Atom<'s, Static>,
+) {
+    let count = counts.entry(atom).expect(rt, "an answer").or_insert(0);
+    *count = count.saturating_add(1);
+}
+
+/// How often the map has the atom of this word.
+fn count_of<R: Wait + Abort, Static: StaticTables>(
+    rt: &R,
+    set: &Set<Static>,
+    counts: &HashMap<Atom<'_, Static>, u64>,
+    word: &str,
+) -> Option<u64> {
+    match counts.get(&intern(rt, set, word)) {
+        Some(count) => Some(*count),
+        None => None,
+    }
+}
+
+/// Whether the map has these words, in this order, as often as this.
+fn has_counts<Static: StaticTables>(
+    sorted: &BTreeMap<Atom<'_, Static>, u64>,
+    wanted: &[(&str, u64)],
+) -> bool {
+    let mut is_right = sorted.len() == wanted.len();
+    for ((atom, count), (word, times)) in sorted.iter().zip(wanted.iter()) {
+        is_right = is_right && has_text(atom, word) && count == times;
+    }
+    is_right
+}
+
+/// Counts the words of a text, by the hashes of their atoms and by their order.
+fn count_words<'s, R: Wait + Abort, Static: StaticTables>(
+    rt: &R,
+    set: &'s Set<Static>,
+    counts: &mut HashMap<Atom<'s, Static>, u64>,
+    sorted: &mut BTreeMap<Atom<'s, Static>, u64>,
+    text: &str,
+) {
+    for word in text.split_whitespace() {
+        let atom = intern(rt, set, word);
+        count_hashed(rt, counts, clone_of(rt, &atom));
+        count_sorted(rt, sorted, atom);
+    }
+}
+
+/// The words of the text below, in their order, and how often each comes.
+const COUNTS: [(&str, u64); 4] = [("a", 2), ("b", 1), ("interned", 3), ("sentence", 1)];
+
+/// Whether the map has these words, as often as this, and no others.
+fn has_hashed<R: Wait + Abort, Static: StaticTables>(
+    rt: &R,
+    set: &Set<Static>,
+    counts: &HashMap<Atom<'_, Static>, u64>,
+    wanted: &[(&str, u64)],
+) -> bool {
+    for (word, times) in wanted {
+        if count_of(rt, set, counts, word) != Some(*times) {
+            return false;
+        }
+    }
+    counts.len() == wanted.len()
+}
+
+/// Whether both maps have the words of a text.
+fn have_words<R: Wait + Abort, Static: StaticTables>(
+    rt: &R,
+    set: &Set<Static>,
+    text: &str,
+) -> bool {
+    let mut counts = HashMap::new(set.allocator());
+    let mut sorted = BTreeMap::new(set.allocator());
+    count_words(rt, set, &mut counts, &mut sorted, text);
+    has_hashed(rt, set, &counts, &COUNTS) && has_counts(&sorted, &COUNTS)
+}
+
+/// The words of a text are counted as often as they come.
+pub fn check_keys<R: Wait + Abort, Static: StaticTables>(rt: &R, set: &Set<Static>) {
+    assert!(rt; have_words(rt, set, "interned sentence a interned b a interned"));
+}
