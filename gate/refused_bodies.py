@@ -46,9 +46,9 @@ TOOLS = ("refused_bodies.py", "batches.py", "further.py", "spared.py", "edits.py
 SAID = 400  # how much is told of what was said
 PROVED = re.compile(r"^rt: (\w+) (?:proved$|is kept: )", re.MULTILINE)  # what `rt ci` says of a crate that it is done with
 MEASURED = {  # seconds of crates whose bodies were timed, four checks side by side
-    "counted_set": 380, "string_cache": 340, "commands": 310, "example_tables": 300, "atomic_steps": 290, "named_set": 280, "string_cache_core": 280,
-    "named_atoms": 250, "word_counts": 250, "example_sets": 230, "table_generator": 200, "counted_cell": 170, "string_cache_c": 155,
-    "example_named": 150, "text_forms": 140, "text_streams": 90, "replay_script": 80, "node_chain": 70,
+    "counted_set": 380, "string_cache": 340, "commands": 310, "example_tables": 300, "named_set": 280, "string_cache_core": 280,
+    "named_atoms": 250, "word_counts": 250, "example_sets": 230, "table_generator": 200, "counted_cell": 170, "atomic_steps": 160,
+    "string_cache_c": 155, "example_named": 150, "text_forms": 140, "text_streams": 90, "replay_script": 80, "node_chain": 70,
 }
 
 
