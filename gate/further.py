@@ -71,7 +71,8 @@ def copied(body, number, folder, is_own=False):
     for it in written.iterdir() if written else ():
         proof = changed(it.read_text(encoding="utf-8"), [place[1:] for place in places if folder / place[0] == it])
         path = ".".join(written.relative_to(folder / "proofs").parts)
-        copy.files[written.with_name(new) / it.name] = re.sub(rf"\b{re.escape(path)}\b", path.removesuffix(last) + new, proof)
+        proof = re.sub(rf"\b{re.escape(path)}\b", path.removesuffix(last) + new, proof)
+        copy.files[written.with_name(new) / it.name] = re.sub(rf"\b{last}_spec\b", f"{new}_spec", proof)  # what a whole proof exports
     return copy
 
 

@@ -249,6 +249,14 @@ class Crate(InSmallRepository):
             proofs = {self.folder / "proofs" / last / "Invariants.antt": INVARIANTS.replace("proofs.zeros.", f"proofs.{last}.")}
             self.assertEqual(copy.files, proofs)
 
+    def test_a_whole_proof_is_copied_under_its_function_s_name(self):
+        proof = "use Rattle.few.proofs.next.Code as code\n\npub next_spec : statement\nnext_spec = proved (twice_spec next_spec_of)\n"
+        (self.folder / "proofs" / "next").mkdir()
+        (self.folder / "proofs" / "next" / "Proof.antt").write_text(proof, encoding="utf-8")
+        copies, _ = further.copies_of([self.placed("some", "next", ("wide + 1", "wide + 2"))], self.folder)
+        ((_, text),) = (files for copy in copies.values() for files in copy.files.items())
+        self.assertEqual(text, proof.replace("proofs.next.", "proofs.next_2.").replace("next_spec ", "next_2_spec "))
+
     def test_a_method_of_a_trait_is_not_copied(self):
         first = METHODS.index("self.step()")
         self.assertIsNone(further.whole_function(METHODS, first))
