@@ -8,7 +8,7 @@ use linked_list_allocator::LocalHeap;
 use std::alloc::{AllocError, Allocator, Global};
 use std::process::Abort;
 use std::sync::Wait;
-use std::thread;
+use std::thread::{self, Threads};
 
 /// A share that is given back at its drop.
 struct ShareGuard {
@@ -31,6 +31,20 @@ impl ShareGuard {
     fn into_share(self) -> CellShare {
         let Self { share } = self;
         share
+    }
+
+    fn has_text(&self, text: &str) -> bool {
+        self.share.text() == text
+    }
+
+    /// A share more of its cell.
+    fn one_more<R: Wait + Abort>(&self, rt: &R) -> ShareGuard {
+        share_answer(self.share.add(rt)).share(rt)
+    }
+
+    /// Whether a share more is refused, since there are as many as there may be.
+    fn is_full<R: Wait>(&self, rt: &R) -> bool {
+        matches!(share_answer(self.share.add(rt)), Answer::Full)
     }
 }
 
@@ -84,6 +98,36 @@ fn make<A: Allocator>(
     Ok((owner, ShareGuard { share }))
 }
 
+/// A cell of a short text, with its first share.
+fn made(rt: &impl Abort, alloc: Global) -> (Owner<Global>, ShareGuard) {
+    make(alloc, 2, "interned").expect(rt, "an answer")
+}
+
+/// A share more of the owner's cell.
+fn one_more<A: Allocator, R: Wait + Abort>(rt: &R, owner: &Owner<A>) -> ShareGuard {
+    reply_answer(owner.add(rt)).share(rt)
+}
+
+/// Whether a share more is refused, since there are as many as there may be.
+fn is_full<A: Allocator, R: Wait>(rt: &R, owner: &Owner<A>) -> bool {
+    matches!(reply_answer(owner.add(rt)), Answer::Full)
+}
+
+/// Whether the count reads 0.
+fn is_dying<A: Allocator>(owner: &Owner<A>) -> bool {
+    owner.dying().is_ok()
+}
+
+/// Whether a share more is refused, since there is none.
+fn is_over<A: Allocator, R: Wait>(rt: &R, owner: &Owner<A>) -> bool {
+    matches!(reply_answer(owner.add(rt)), Answer::Dying)
+}
+
+/// Whether the owner reads so many shares.
+fn has_shares<A: Allocator>(owner: &Owner<A>, number: u64) -> bool {
+    owner.count().shares() == number
+}
+
 /// Whether the end freed the cell.
 fn frees<A: Allocator>(owner: Owner<A>) -> bool {
     matches!(owner.finish(), Ending::Freed(_))
@@ -92,12 +136,12 @@ fn frees<A: Allocator>(owner: Owner<A>) -> bool {
 /// Makes a cell of the text, reads it through its owner and both of its shares, and ends it.
 fn one_life<R: Wait + Abort>(rt: &R, alloc: Global, text: &str) -> Result<(), AllocError> {
     let (owner, first) = make(alloc, 2, text)?;
-    let second = reply_answer(owner.add(rt)).share(rt);
-    assert!(rt; owner.text() == text && first.share.text() == text && second.share.text() == text);
+    let second = one_more(rt, &owner);
+    assert!(rt; owner.text() == text && first.has_text(text) && second.has_text(text));
     assert!(rt; owner.label().hash == 8 && first.share.label().ticket == 7);
     assert!(rt; second.share.label().limit == 2);
     assert!(rt; !first.gives_last());
-    assert!(rt; second.share.text() == text);
+    assert!(rt; second.has_text(text));
     assert!(rt; second.gives_last());
     assert!(rt; frees(owner));
     Ok(())
@@ -113,22 +157,24 @@ fn a_cell_keeps_its_text(rt: HostRuntime) {
     one_life(&rt, alloc, "a longer text, which takes more than one word").expect(&rt, "an answer");
 }
 
+/// Whether the count stays at 0, and no share is added.
+fn stays_over<A: Allocator, R: Wait>(rt: &R, owner: &Owner<A>) -> bool {
+    is_dying(owner) && is_over(rt, owner) && is_dying(owner)
+}
+
 /// The replies from the first share to the last one, at a limit of 2.
 #[test]
 fn replies(rt: HostRuntime) {
-    let (owner, first) = make(rt.alloc(), 2, "interned").expect(&rt, "an answer");
-    assert!(rt; owner.dying().is_err());
-    let second = share_answer(first.share.add(&rt)).share(&rt);
-    assert!(rt; matches!(reply_answer(owner.add(&rt)), Answer::Full));
-    assert!(rt; matches!(share_answer(first.share.add(&rt)), Answer::Full));
+    let (owner, first) = made(&rt, rt.alloc());
+    assert!(rt; !is_dying(&owner));
+    let second = first.one_more(&rt);
+    assert!(rt; is_full(&rt, &owner) && first.is_full(&rt));
     assert!(rt; !first.gives_last());
-    let third = reply_answer(owner.add(&rt)).share(&rt);
+    let third = one_more(&rt, &owner);
     assert!(rt; !second.gives_last());
-    assert!(rt; owner.dying().is_err());
+    assert!(rt; !is_dying(&owner));
     assert!(rt; third.gives_last());
-    assert!(rt; owner.dying().is_ok());
-    assert!(rt; matches!(reply_answer(owner.add(&rt)), Answer::Dying));
-    assert!(rt; owner.dying().is_ok());
+    assert!(rt; stays_over(&rt, &owner));
     assert!(rt; frees(owner));
 }
 
@@ -142,10 +188,10 @@ fn tried(share: &CellShare) -> Option<ShareGuard> {
 fn tries<R: Wait + Abort>(rt: &R, alloc: Global, text: &str) -> Result<(), AllocError> {
     let (owner, first) = make(alloc, 3, text)?;
     let second = tried(&first.share).expect(rt, "a share");
-    assert!(rt; second.share.text() == text);
+    assert!(rt; second.has_text(text));
     let third = tried(&second.share).expect(rt, "a share");
     assert!(rt; tried(&first.share).is_none());
-    assert!(rt; matches!(reply_answer(owner.add(rt)), Answer::Full));
+    assert!(rt; is_full(rt, &owner));
     assert!(rt; !first.gives_last());
     assert!(rt; !third.gives_last());
     assert!(rt; second.gives_last());
@@ -169,27 +215,31 @@ fn owner_tried<A: Allocator>(owner: &Owner<A>) -> Option<ShareGuard> {
     Some(ShareGuard { share })
 }
 
+/// Whether a single try gives none.
+fn has_no_try<A: Allocator>(owner: &Owner<A>) -> bool {
+    owner_tried(owner).is_none()
+}
+
 /// Those of an owner, at a limit of 2: one is had, at the limit there is none, and none once the shares were given back.
 #[test]
 fn single_tries_of_an_owner(rt: HostRuntime) {
-    let (owner, first) = make(rt.alloc(), 2, "interned").expect(&rt, "an answer");
+    let (owner, first) = made(&rt, rt.alloc());
     let second = owner_tried(&owner).expect(&rt, "a share");
-    assert!(rt; second.share.text() == "interned");
-    assert!(rt; owner_tried(&owner).is_none());
+    assert!(rt; second.has_text("interned") && has_no_try(&owner));
     assert!(rt; !first.gives_last());
     assert!(rt; second.gives_last());
-    assert!(rt; owner_tried(&owner).is_none());
+    assert!(rt; has_no_try(&owner));
     assert!(rt; frees(owner));
 }
 
 /// No share is left once both were given back.
 #[test]
 fn both_are_given_back(rt: HostRuntime) {
-    let (owner, first) = make(rt.alloc(), 2, "interned").expect(&rt, "an answer");
-    let second = reply_answer(owner.add(&rt)).share(&rt);
-    assert!(rt; owner.dying().is_err());
+    let (owner, first) = made(&rt, rt.alloc());
+    let second = one_more(&rt, &owner);
+    assert!(rt; !is_dying(&owner));
     drop(first_receipt(first.into_share(), second.into_share()));
-    assert!(rt; owner.dying().is_ok());
+    assert!(rt; is_dying(&owner));
     assert!(rt; frees(owner));
 }
 
@@ -204,20 +254,23 @@ fn clone_and_give<R: Wait>(rt: &R, share: &CellShare) -> u64 {
     refused
 }
 
+/// How many additions were refused to each of two threads at one count.
+fn refused_at_once<R: Threads + Wait + Sync>(rt: &R, share: &CellShare) -> (u64, u64) {
+    thread::join(
+        rt,
+        || clone_and_give(rt, share),
+        || clone_and_give(rt, share),
+    )
+}
+
 /// No share is lost or left over, and none is refused, though two threads change one count.
 #[test]
 fn one_count_in_two_threads(rt: HostRuntime) {
     let (owner, first) = make(rt.alloc(), 3, "interned").expect(&rt, "an answer");
-    let (lent, handle) = (&first.share, &rt);
-    let refused = thread::join(
-        &rt,
-        || clone_and_give(handle, lent),
-        || clone_and_give(handle, lent),
-    );
-    assert!(rt; refused == (0, 0));
-    let second = share_answer(first.share.add(&rt)).share(&rt);
-    let third = reply_answer(owner.add(&rt)).share(&rt);
-    assert!(rt; matches!(reply_answer(owner.add(&rt)), Answer::Full));
+    assert!(rt; refused_at_once(&rt, &first.share) == (0, 0));
+    let second = first.one_more(&rt);
+    let third = one_more(&rt, &owner);
+    assert!(rt; is_full(&rt, &owner));
     assert!(rt; !first.gives_last());
     assert!(rt; !third.gives_last());
     assert!(rt; second.gives_last());
@@ -227,8 +280,8 @@ fn one_count_in_two_threads(rt: HostRuntime) {
 /// Of two threads that each give a share back, exactly one gave the last.
 #[test]
 fn one_of_two_is_the_last(rt: HostRuntime) {
-    let (owner, first) = make(rt.alloc(), 2, "interned").expect(&rt, "an answer");
-    let second = share_answer(first.share.add(&rt)).share(&rt);
+    let (owner, first) = made(&rt, rt.alloc());
+    let second = first.one_more(&rt);
     let last = thread::join(&rt, || first.gives_last(), || second.gives_last());
     assert!(rt; last.0 != last.1);
     assert!(rt; frees(owner));
@@ -246,25 +299,42 @@ fn left_by_an_end(heap: &LocalHeap, text: &str, by_drop: bool) -> Result<usize, 
     Ok(heap.used())
 }
 
+/// Whether a cell of the text leaves nothing behind, whichever way its owner ends.
+fn leaves_nothing(heap: &LocalHeap, text: &str) -> Result<bool, AllocError> {
+    Ok(left_by_an_end(heap, text, false)? == 0 && left_by_an_end(heap, text, true)? == 0)
+}
+
+/// Whether the end left the cell.
+fn leaves<A: Allocator>(owner: Owner<A>) -> bool {
+    matches!(owner.finish(), Ending::Left(_))
+}
+
+/// Whether the share is the last of the text, and its block of so many bytes is in use before and after it is given back.
+fn stays(heap: &LocalHeap, share: ShareGuard, text: &str, size: usize) -> bool {
+    let is_held = share.has_text(text) && heap.used() == size;
+    let is_last = share.gives_last();
+    is_held && is_last && heap.used() == size
+}
+
+/// Whether the block of a cell stays where its owner ends before its share.
+fn is_left_behind(heap: &LocalHeap, text: &str, size: usize) -> Result<bool, AllocError> {
+    let (owner, share) = make(heap, 1, text)?;
+    let is_made = heap.used() == size;
+    let is_left = leaves(owner);
+    Ok(stays(heap, share, text, size) && is_made && is_left)
+}
+
 /// A cell is one block, which is given back at the end of the owner where no share is left, and never where one is. One of the
 /// texts has 300,000 bytes.
 #[test]
 fn the_end_frees_what_is_not_held(rt: HostRuntime) {
     let heap = LocalHeap::new(rt.alloc(), 400_000).expect(&rt, "an answer");
     let long = "a".repeat(rt.alloc(), 300_000).expect(&rt, "an answer");
-    for text in ["", "interned", long.as_str()] {
-        for by_drop in [false, true] {
-            let left = left_by_an_end(&heap, text, by_drop).expect(&rt, "an answer");
-            assert!(rt; left == 0, "of {} bytes", text.len());
-        }
+    for text in &["", "interned", long.as_str()] {
+        let is_freed = leaves_nothing(&heap, text).expect(&rt, "an answer");
+        assert!(rt; is_freed, "of {} bytes", text.len());
     }
-    let (owner, share) = make(&heap, 1, "left behind").expect(&rt, "an answer");
-    let block = heap.used();
-    assert!(rt; block == 64);
-    assert!(rt; matches!(owner.finish(), Ending::Left(_)));
-    assert!(rt; share.share.text() == "left behind" && heap.used() == block);
-    assert!(rt; share.gives_last());
-    assert!(rt; heap.used() == block);
+    assert!(rt; is_left_behind(&heap, "left behind", 64).expect(&rt, "an answer"));
 }
 
 /// Texts, the bytes of a cell's block, and those that a heap which gives out sixteens says are in use.
@@ -303,13 +373,19 @@ fn a_cell_tells_the_bytes_of_its_block(rt: HostRuntime) {
 /// What a look at the count tells.
 #[test]
 fn the_count_is_read(rt: HostRuntime) {
-    let (owner, first) = make(rt.alloc(), 2, "interned").expect(&rt, "an answer");
-    assert!(rt; owner.count().shares() == 1);
-    let second = reply_answer(owner.add(&rt)).share(&rt);
-    assert!(rt; owner.count().shares() == 2);
-    assert!(rt; !first.gives_last() && owner.count().shares() == 1);
-    assert!(rt; second.gives_last() && owner.count().shares() == 0);
+    let (owner, first) = made(&rt, rt.alloc());
+    assert!(rt; has_shares(&owner, 1));
+    let second = one_more(&rt, &owner);
+    assert!(rt; has_shares(&owner, 2));
+    assert!(rt; !first.gives_last() && has_shares(&owner, 1));
+    assert!(rt; second.gives_last() && has_shares(&owner, 0));
     assert!(rt; frees(owner));
+}
+
+/// Whether a cell of the text finds no room in the heap, and nothing is lost.
+fn finds_no_room(heap: &LocalHeap, text: &str) -> bool {
+    let used = heap.used();
+    make(heap, 1, text).is_err() && heap.used() == used
 }
 
 /// A heap without room refuses a cell and loses nothing.
@@ -317,10 +393,8 @@ fn the_count_is_read(rt: HostRuntime) {
 fn without_memory_nothing_is_made(rt: HostRuntime) {
     let heap = LocalHeap::new(rt.alloc(), 128).expect(&rt, "an answer");
     let (owner, share) = make(&heap, 1, "interned").expect(&rt, "an answer");
-    let used = heap.used();
     let long = "a text that finds no room in this heap, since it is longer than what is left of it";
-    assert!(rt; make(&heap, 1, long).is_err());
-    assert!(rt; heap.used() == used);
+    assert!(rt; finds_no_room(&heap, long));
     assert!(rt; share.gives_last());
     assert!(rt; frees(owner));
 }

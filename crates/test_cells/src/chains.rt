@@ -136,17 +136,25 @@ fn items_are_taken_out_anywhere(rt: HostRuntime) -> Result<(), Fail> {
     Ok(())
 }
 
+/// Passes an item, if there is one.
+fn pass(chain: &mut NodeChain<Mark>) {
+    if chain.look().is_some() {
+        chain.keep();
+    }
+}
+
+/// Whether the next item has this digit, and so many are to come with it.
+fn stands_at(chain: &NodeChain<Mark>, digit: u64, left: usize) -> bool {
+    matches!(chain.look(), Some(mark) if mark.digit == digit) && chain.remaining() == left
+}
+
 #[test]
 fn items_that_were_passed_end_as_well(rt: HostRuntime) -> Result<(), Fail> {
     let ended = AtomicU64::new(0);
     let mut chain = five(&rt, rt.alloc(), &ended)?;
-    for _ in 0..2u64 {
-        if chain.look().is_some() {
-            chain.keep();
-        }
-    }
-    assert!(rt; matches!(chain.look(), Some(mark) if mark.digit == 3));
-    assert!(rt; chain.remaining() == 3);
+    pass(&mut chain);
+    pass(&mut chain);
+    assert!(rt; stands_at(&chain, 3, 3));
     drop(chain);
     assert!(rt; ended.load(Ordering::SeqCst) == 54321);
     Ok(())

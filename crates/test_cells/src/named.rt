@@ -2,14 +2,15 @@
 //! out, and when the limits refuse.
 ghost use Rattle.std.specs.Prelude.{◌≡◌};
 
+use crate::calls::{are_one, cloned, found, interned, is_found_as, links};
 use named_set::callers::of_two;
-use named_set::{FreshName, NamedSet, SetName};
+use named_set::{FreshName, Held, NamedSet, SetName};
 use std::alloc::Global;
 use std::marker::Brand;
 use std::process::Abort;
 use std::sync::Wait;
 use text_forms::Fault;
-use text_forms::static_sets::EmptyStaticAtomSet;
+use text_forms::static_sets::{EmptyStaticAtomSet, StaticTables};
 use text_forms::word::{Buckets, Limits};
 
 type Named<N> = NamedSet<EmptyStaticAtomSet, N>;
@@ -19,63 +20,174 @@ fn long_text(alloc: Global) -> Result<String, Fault> {
     Ok("Größe, 長さ, 🦀".repeat(alloc, 10_000)?)
 }
 
-/// Two that hold one text have one word, and a third of another text has another.
-fn tells_apart<N: SetName, R: Wait>(
+/// Whether the words differ, and the two aren't equal.
+fn are_two<S: StaticTables, N: SetName>(one: &Held<'_, S, N>, other: &Held<'_, S, N>) -> bool {
+    one != other && !one.same(other)
+}
+
+/// Whether a text is given another word than the one that is held.
+fn is_another<S: StaticTables, N: SetName, R: Wait>(
     rt: &R,
-    set: &Named<N>,
+    set: &NamedSet<S, N>,
+    held: &Held<'_, S, N>,
+    text: &str,
+) -> bool {
+    match interned(rt, set, text) {
+        Ok(other) => are_two(held, &other),
+        Err(_) => false,
+    }
+}
+
+/// Whether the text is given the word that is held once more.
+fn is_given_again<S: StaticTables, N: SetName, R: Wait>(
+    rt: &R,
+    set: &NamedSet<S, N>,
+    held: &Held<'_, S, N>,
+    text: &str,
+) -> bool {
+    match interned(rt, set, text) {
+        Ok(again) => are_one(held, &again),
+        Err(_) => false,
+    }
+}
+
+/// Whether it is, and another text beside both another one.
+fn is_again<S: StaticTables, N: SetName, R: Wait>(
+    rt: &R,
+    set: &NamedSet<S, N>,
+    held: &Held<'_, S, N>,
     text: &str,
     other: &str,
-) -> Result<bool, Fault> {
-    let first = set.intern(rt, text)?;
-    let again = set.intern(rt, text)?;
-    let third = set.intern(rt, other)?;
-    Ok(first == again && first.word() == again.word() && first != third && !first.same(&third))
+) -> bool {
+    match interned(rt, set, text) {
+        Ok(again) => are_one(held, &again) && is_another(rt, set, held, other),
+        Err(_) => false,
+    }
+}
+
+/// Two that hold one text have one word, and a third of another text has another.
+fn tells_apart<S: StaticTables, N: SetName, R: Wait>(
+    rt: &R,
+    set: &NamedSet<S, N>,
+    text: &str,
+    other: &str,
+) -> bool {
+    match interned(rt, set, text) {
+        Ok(first) => is_again(rt, set, &first, text, other),
+        Err(_) => false,
+    }
+}
+
+/// Whether the text is looked for, and not found.
+fn finds_none<S: StaticTables, N: SetName, R: Wait>(
+    rt: &R,
+    set: &NamedSet<S, N>,
+    text: &str,
+) -> bool {
+    matches!(found(rt, set, text), Ok(None))
 }
 
 /// What is held has its text, and is found, and another text isn't.
-fn is_found<N: SetName, R: Wait>(
+fn is_found<S: StaticTables, N: SetName, R: Wait>(
     rt: &R,
-    set: &Named<N>,
+    set: &NamedSet<S, N>,
     text: &str,
     other: &str,
-) -> Result<bool, Fault> {
-    let held = set.intern(rt, text)?;
-    let word = held.word();
-    let found = match set.find(rt, text)? {
-        Some(found) => found.word() == word && found.text() == text,
-        None => false,
-    };
-    Ok(found && set.find(rt, other)?.is_none() && set.linked(rt) == 1)
+) -> bool {
+    match interned(rt, set, text) {
+        Ok(held) => {
+            is_found_as(rt, set, &held, text) && finds_none(rt, set, other) && links(rt, set, 1)
+        }
+        Err(_) => false,
+    }
+}
+
+/// The word that the text has while it is held here, unless it is refused.
+fn word_of<S: StaticTables, N: SetName, R: Wait>(
+    rt: &R,
+    set: &NamedSet<S, N>,
+    text: &str,
+) -> Option<u64> {
+    match interned(rt, set, text) {
+        Ok(held) => Some(held.word()),
+        Err(_) => None,
+    }
+}
+
+/// Whether the text, held, has another word than this one, and is the only one linked.
+fn has_new_word<S: StaticTables, N: SetName, R: Wait>(
+    rt: &R,
+    set: &NamedSet<S, N>,
+    text: &str,
+    before: u64,
+) -> bool {
+    match interned(rt, set, text) {
+        Ok(held) => held.word() != before && links(rt, set, 1),
+        Err(_) => false,
+    }
 }
 
 /// A text that nobody holds has left, and gets a word that it hasn't had.
-fn goes_with_the_last<N: SetName, R: Wait>(
+fn goes_with_the_last<S: StaticTables, N: SetName, R: Wait>(
     rt: &R,
-    set: &Named<N>,
+    set: &NamedSet<S, N>,
     text: &str,
-) -> Result<bool, Fault> {
-    let before = set.intern(rt, text)?.word();
-    let left = set.linked(rt);
-    let held = set.intern(rt, text)?;
-    Ok(left == 0 && held.word() != before && set.linked(rt) == 1)
+) -> bool {
+    match word_of(rt, set, text) {
+        Some(before) => links(rt, set, 0) && has_new_word(rt, set, text, before),
+        None => false,
+    }
+}
+
+/// What a call was refused for, if it was.
+fn refusal<T: Drop>(outcome: Result<T, Fault>) -> Option<Fault> {
+    outcome.err()
+}
+
+/// Whether no holder more is given by a clone, for the text or for a look at it.
+fn is_full<S: StaticTables, N: SetName, R: Wait>(
+    rt: &R,
+    set: &NamedSet<S, N>,
+    held: &Held<'_, S, N>,
+    text: &str,
+) -> bool {
+    let full = Some(Fault::FullCount);
+    refusal(cloned(rt, held)) == full
+        && refusal(interned(rt, set, text)) == full
+        && refusal(found(rt, set, text)) == full
+}
+
+/// Whether that is so while there is a second holder.
+fn is_full_with_another<S: StaticTables, N: SetName, R: Wait>(
+    rt: &R,
+    set: &NamedSet<S, N>,
+    held: &Held<'_, S, N>,
+    text: &str,
+) -> bool {
+    match cloned(rt, held) {
+        Ok(_second) => is_full(rt, set, held, text),
+        Err(_) => false,
+    }
 }
 
 /// With a limit of two holders: a third is refused, and taken once one has gone.
-fn is_full_at_two<N: SetName, R: Wait>(rt: &R, set: &Named<N>, text: &str) -> Result<bool, Fault> {
-    let first = set.intern(rt, text)?;
-    let second = first.clone_held(rt)?;
-    let refused = matches!(first.clone_held(rt), Err(Fault::FullCount))
-        && matches!(set.intern(rt, text), Err(Fault::FullCount))
-        && matches!(set.find(rt, text), Err(Fault::FullCount));
-    drop(second);
-    let third = set.intern(rt, text)?;
-    Ok(refused && third == first)
+fn is_full_at_two<S: StaticTables, N: SetName, R: Wait>(
+    rt: &R,
+    set: &NamedSet<S, N>,
+    text: &str,
+) -> bool {
+    match interned(rt, set, text) {
+        Ok(first) => {
+            is_full_with_another(rt, set, &first, text) && is_given_again(rt, set, &first, text)
+        }
+        Err(_) => false,
+    }
 }
 
 /// Interns and gives back until the tickets of its one bucket are spent, and tells how many it had.
-fn tickets_of<N: SetName, R: Wait>(rt: &R, set: &Named<N>) -> u64 {
+fn tickets_of<S: StaticTables, N: SetName, R: Wait>(rt: &R, set: &NamedSet<S, N>) -> u64 {
     for count in 0..100u64 {
-        if matches!(set.intern(rt, "spent"), Err(Fault::TicketsSpent)) {
+        if refusal(interned(rt, set, "spent")) == Some(Fault::TicketsSpent) {
             return count;
         }
     }
@@ -114,13 +226,13 @@ fn asks_of<N: SetName, R: Wait + Abort>(
     set: &Named<N>,
 ) -> Result<bool, Fault> {
     let long = long_text(alloc)?;
-    assert!(rt; tells_apart(rt, set, "interned", "intern")?);
-    assert!(rt; tells_apart(rt, set, long.as_str(), "")?);
-    assert!(rt; is_found(rt, set, "interned", "intern")?);
-    assert!(rt; is_found(rt, set, long.as_str(), "long")?);
-    assert!(rt; goes_with_the_last(rt, set, "interned")?);
-    assert!(rt; goes_with_the_last(rt, set, long.as_str())?);
-    assert!(rt; is_full_at_two(rt, set, "interned")?);
+    assert!(rt; tells_apart(rt, set, "interned", "intern"));
+    assert!(rt; tells_apart(rt, set, long.as_str(), ""));
+    assert!(rt; is_found(rt, set, "interned", "intern"));
+    assert!(rt; is_found(rt, set, long.as_str(), "long"));
+    assert!(rt; goes_with_the_last(rt, set, "interned"));
+    assert!(rt; goes_with_the_last(rt, set, long.as_str()));
+    assert!(rt; is_full_at_two(rt, set, "interned"));
     Ok(true)
 }
 

@@ -2,7 +2,8 @@
 //! bucket are each given theirs and leave nothing.
 ghost use Rattle.std.specs.Prelude.{◌≡◌};
 
-use named_set::{FreshName, NamedSet, SetName};
+use crate::calls::{cloned, has_text, interned, is_found_as, links};
+use named_set::{FreshName, Held, NamedSet, SetName};
 use std::alloc::Global;
 use std::marker::Brand;
 use std::sync::Wait;
@@ -49,7 +50,7 @@ fn is_won_named<N: SetName + Send + Sync, R: Threads + Wait + Sync>(
 {
     let set = NamedSet::new(alloc, name, Limits::greatest())?;
     match race {
-        Race::OneText => two_at_one_text::<N, R>(rt, &set),
+        Race::OneText => Ok(two_at_one_text::<N, R>(rt, &set)),
         Race::OneBucket => many_at_one_bucket::<N, R>(rt, alloc, &set, count),
     }
 }
@@ -104,22 +105,30 @@ fn intern_beside<N: SetName, R: Wait>(
     Ok(same)
 }
 
-/// Two threads at one new text. Whether both had one word in each round, and nothing stayed.
-fn two_at_one_text<N: SetName + Send + Sync, R: Threads + Wait + Sync>(
+/// What two threads at one new text say of their rounds.
+fn intern_at_once<N: SetName + Send + Sync, R: Threads + Wait + Sync>(
     rt: &R,
     set: &Named<N>,
-) -> Result<bool, Fault> {
+) -> (Result<u64, Fault>, Result<u64, Fault>) {
     let at = Meeting {
         gate: AtomicU64::new(0),
         one: AtomicU64::new(0),
         two: AtomicU64::new(0),
     };
-    let (left, right) = thread::join(
+    thread::join(
         rt,
         || intern_beside(rt, set, &at.gate, &at.one, &at.two),
         || intern_beside(rt, set, &at.gate, &at.two, &at.one),
-    );
-    Ok(left? == ROUNDS && right? == ROUNDS && set.linked(rt) == 0)
+    )
+}
+
+/// Two threads at one new text. Whether both had one word in each round, and nothing stayed.
+fn two_at_one_text<N: SetName + Send + Sync, R: Threads + Wait + Sync>(
+    rt: &R,
+    set: &Named<N>,
+) -> bool {
+    let (left, right) = intern_at_once::<N, R>(rt, set);
+    left == Ok(ROUNDS) && right == Ok(ROUNDS) && links(rt, set, 0)
 }
 
 /// Of two threads that find a text absent one links it, and the other is given the same word.
@@ -149,36 +158,48 @@ fn bucket_mates(alloc: Global, count: Buckets) -> Result<Vec<String>, Fault> {
     Ok(mates)
 }
 
+/// A second holder of the text's word, once the first has gone, unless it is refused.
+fn second_holder<'s, S: StaticTables, N: SetName, R: Wait>(
+    rt: &R,
+    set: &'s NamedSet<S, N>,
+    text: &str,
+) -> Result<Held<'s, S, N>, Fault> {
+    match interned(rt, set, text) {
+        Ok(first) => cloned(rt, &first),
+        Err(fault) => Err(fault),
+    }
+}
+
 /// Whether a text that is held twice, and then once, is found under its word.
-fn is_given<N: SetName, R: Wait>(rt: &R, set: &Named<N>, text: &str) -> Result<bool, Fault> {
-    let first = set.intern(rt, text)?;
-    let held = first.clone_held(rt)?;
-    drop(first);
-    let found = match set.find(rt, text)? {
-        Some(found) => found == held,
-        None => false,
-    };
-    Ok(found && held.text() == text)
+fn is_given<S: StaticTables, N: SetName, R: Wait>(
+    rt: &R,
+    set: &NamedSet<S, N>,
+    text: &str,
+) -> bool {
+    match second_holder(rt, set, text) {
+        Ok(held) => is_found_as(rt, set, &held, text) && has_text(&held, text),
+        Err(_) => false,
+    }
 }
 
 /// Whether each of the texts is.
-fn are_given<N: SetName, R: Wait>(rt: &R, set: &Named<N>, texts: &[String]) -> Result<bool, Fault> {
+fn are_given<N: SetName, R: Wait>(rt: &R, set: &Named<N>, texts: &[String]) -> bool {
     for text in texts {
-        if !is_given(rt, set, text)? {
-            return Ok(false);
+        if !is_given(rt, set, text) {
+            return false;
         }
     }
-    Ok(true)
+    true
 }
 
 /// Whether they are, again and again.
-fn turn_over<N: SetName, R: Wait>(rt: &R, set: &Named<N>, texts: &[String]) -> Result<bool, Fault> {
+fn turn_over<N: SetName, R: Wait>(rt: &R, set: &Named<N>, texts: &[String]) -> bool {
     for _ in 0..100 {
-        if !are_given(rt, set, texts)? {
-            return Ok(false);
+        if !are_given(rt, set, texts) {
+            return false;
         }
     }
-    Ok(true)
+    true
 }
 
 /// 64 workers at texts of one bucket. Whether each was given its texts, and whether none is left linked.
@@ -192,8 +213,8 @@ fn many_at_one_bucket<N: SetName + Send + Sync, R: Threads + Wait + Sync>(
     let texts = mates.as_slice();
     let turns = thread::map_indices(rt, alloc, 64, &|_| turn_over(rt, set, texts))?;
     set.sweep(rt);
-    let all = turns.len() == 64 && turns.iter().all(|turn| *turn == Ok(true));
-    Ok(all && texts.len() == 11 && set.linked(rt) == 0)
+    let all = turns.len() == 64 && turns.iter().all(|turn| *turn);
+    Ok(all && texts.len() == 11 && links(rt, set, 0))
 }
 
 /// Each of 64 workers is given its texts, and nothing stays.

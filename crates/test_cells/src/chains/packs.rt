@@ -1,7 +1,7 @@
 //! Packs: each call once, and what becomes of the items at the end.
 
 use super::{Mark, five, followed};
-use node_chain::Pack;
+use node_chain::{NodeChain, Pack};
 use std::sync::atomic::{AtomicU64, Ordering};
 use std::test::Fail;
 
@@ -62,17 +62,22 @@ fn packs_close_their_gaps(rt: HostRuntime) {
     }
 }
 
+/// Gives the next item this digit in a node that is unlinked and linked again, and passes it.
+fn relink(chain: &mut NodeChain<Mark>, digit: u64) {
+    if chain.look().is_some() {
+        let mut node = chain.unlink();
+        node.item.digit = digit;
+        chain.link(node);
+        chain.keep();
+    }
+}
+
 #[test]
 fn nodes_are_unlinked_and_linked_again(rt: HostRuntime) -> Result<(), Fail> {
     let ended = AtomicU64::new(0);
     let mut chain = five(&rt, rt.alloc(), &ended)?;
-    for digit in [6, 7, 8] {
-        if chain.look().is_some() {
-            let mut node = chain.unlink();
-            node.item.digit = digit;
-            chain.link(node);
-            chain.keep();
-        }
+    for digit in 6..9u64 {
+        relink(&mut chain, digit);
     }
     assert!(rt; chain.remaining() == 2);
     drop(chain);
