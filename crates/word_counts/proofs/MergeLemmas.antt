@@ -1,6 +1,6 @@
 -- The counts of lists of words, merged, are those of the words joined.
 use Rattle.std.proofs.Common.{◌≡◌, ℕ, ◌+◌, ◌<◌, ◌≤◌, ◌^◌, Bool, true, false, cond, ◌||◌, List, [], ◌∷◌, ◌++◌, length, length-append, drop, take, map, refl, sym, ap, ap₂, append_assoc, append-nil, ◌∙◌, subst, arith, is_eq, is_lt, Ordering, Less, Equal, Greater}
-use Rattle.std.specs.Prelude.{Option, Some, None, MatchOption, option_to_list, unwrap_or}
+use Rattle.std.specs.Prelude.{Option, Some, None, MatchOption, Result, Ok, Err, IfOk, IsOkAnd, option_to_list, unwrap_or}
 use Rattle.std.specs.Cmp.Lexicographic.{bytes_decides, nat_list_eq_equiv, nat_list_cmp_total}
 use Rattle.std.specs.List.{All, AllByRecursion, list_any}
 use Rattle.std.specs.List.Sorted.{IsStrictlySortedBy}
@@ -179,6 +179,16 @@ merges_one done p before after whole is all =
     ∙ ap (λ l. counted_texts done ++ l) (sym is) ∙ all
 
 -- ---- many lists
+
+-- what holds of some lists and of a further one holds of all
+pub gathered : {V C P D E F : Type 0} (items : D → List V) (t : V → C) (w : P → C) (lower : List P) (part : P) (all below : Result D E) (own : Result V F)
+    → IfOk all (λ lists. IsOkAnd below (λ before. IsOkAnd own (λ last. items lists ≡ items before ++ (last ∷ [])))) → IfOk below (λ before. map t (items before) ≡ map w lower) → IfOk own (λ last. t last ≡ w part)
+    → IfOk all (λ lists. map t (items lists) ≡ map w (lower ++ (part ∷ [])))
+gathered items t w lower part (Err e) below own are before last = are
+gathered items t w lower part (Ok lists) (Err e) own are before last = absurd are
+gathered items t w lower part (Ok lists) (Ok b) (Err f) are before last = absurd are
+gathered items t w lower part (Ok lists) (Ok b) (Ok l) are before last =
+    ap (map t) are ∙ map-append t (items b) (l ∷ []) ∙ ap₂ ◌++◌ before (ap (λ c. c ∷ []) last) ∙ sym (map-append w lower (part ∷ []))
 
 abbrev FitsHalf : List (List ℕ × ℕ) → Type 0
 FitsHalf counts = All (λ pair. pair.1 < 2 ^ 63) counts

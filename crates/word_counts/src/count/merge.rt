@@ -30,6 +30,19 @@ fn order_of_first<Static: StaticTables>(
     }
 }
 
+/// The pair with so many more places of its word.
+fn with_more<'e, Static: StaticTables>(
+    pair: (Atom<'e, Static>, u64),
+    more: u64,
+) -> (Atom<'e, Static>, u64)
+    requires pair { pair.1 < 2 ^ 63 }
+    requires more { more < 2 ^ 63 }
+    ensures { result ≡ (pair.entry.0, pair.entry.1 + more) }
+{
+    let (atom, n) = pair;
+    (atom, n + more)
+}
+
 /// Takes the pair of the lowest word off the list that has it, or off both as one pair.
 fn take_lowest<'e, Static: StaticTables>(
     front: &mut Rest<'e, Static>,
@@ -49,9 +62,9 @@ fn take_lowest<'e, Static: StaticTables>(
         Ordering::Less => front.pop_front(),
         Ordering::Greater => back.pop_front(),
         Ordering::Equal => {
-            let (atom, n) = front.pop_front()?;
-            let (_, more) = back.pop_front()?;
-            Some((atom, n + more))
+            let pair = front.pop_front()?;
+            let other = back.pop_front()?;
+            Some(with_more(pair, other.1))
         }
     }
 }
@@ -137,8 +150,7 @@ fn merge_halves<'e, R: Threads, Static: StaticTables + Send + Sync>(
     );
     let front = front?;
     let back = back?;
-    let counts = merge(alloc, front, back)?;
-    Ok(counts)
+    merge(alloc, front, back)
 }
 
 /// From so many words on it is worth a thread to merge a list of them, or to let their atoms go.

@@ -1,6 +1,6 @@
 //! The workers: each interns and counts the words of its part in a thread of its own.
 
-ghost use Rattle.std.specs.Prelude.{◌≡◌, ◌+◌, ◌≤◌, ◌<◌, ◌^◌, [], IfOk, IfErr, OnOk, length, map};
+ghost use Rattle.std.specs.Prelude.{◌≡◌, ◌+◌, ◌≤◌, ◌<◌, ◌^◌, [], ◌∷◌, ◌++◌, IfOk, IfErr, IsOkAnd, OnOk, length, map};
 ghost use Rattle.string_cache.specs.Faults.{IsInternFault};
 ghost use Rattle.word_counts.specs.Faults.{IsCountFault};
 ghost use Rattle.word_counts.specs.Parts.{words_of_part};
@@ -96,6 +96,31 @@ fn count_part<'e, R: Wait, Static: StaticTables, G: Gate>(
     Ok(counts)
 }
 
+/// The fault where a worker couldn't be started: that of the pieces below it goes before its own.
+fn fault_above<Static: StaticTables>(
+    below: Result<VecDeque<WordCounts<'_, Static>>, AppFault>,
+) -> AppFault
+    requires { IfErr below IsCountFault }
+    ensures { IsCountFault result }
+{
+    below.err().unwrap_or(AppFault::Worker)
+}
+
+/// The lists with a further one behind them. Their fault goes before its own.
+fn with_last<'e, Static: StaticTables>(
+    lists: Result<VecDeque<WordCounts<'e, Static>>, AppFault>,
+    last: Result<WordCounts<'e, Static>, Fault>,
+) -> Result<VecDeque<WordCounts<'e, Static>>, AppFault>
+    requires lists { IfErr lists IsCountFault }
+    requires last { IfErr last IsInternFault }
+    ensures lists { IfOk result (λ all. IsOkAnd lists.entry (λ lists. IsOkAnd last.entry (λ counts. all.items ≡ lists.items ++ (counts ∷ [])))) }
+    ensures fault { IfErr result IsCountFault }
+{
+    let mut lists = lists?;
+    lists.push_back(last?)?;
+    Ok(lists)
+}
+
 /// Starts a worker for each part, from the last down, and joins them all: the counts of each, in order. A fault is that of the
 /// lowest piece.
 fn counts_of_each<
@@ -125,13 +150,10 @@ fn counts_of_each<
     });
     let below = counts_of_each(scope, rt, set, gate, lower);
     let Ok(worker) = started else {
-        below?;
-        return Err(AppFault::Worker);
+        return Err(fault_above(below));
     };
     let own = worker.join(rt);
-    let mut lists = below?;
-    lists.push_back(own?)?;
-    Ok(lists)
+    with_last(below, own)
 }
 
 /// The counts of the words of the text, by `n` workers of the scope.
