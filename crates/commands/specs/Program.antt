@@ -1,5 +1,5 @@
 -- What the program writes and answers, by its arguments.
-use Rattle.std.specs.Prelude.{◌≡◌, ℕ, ◌≤◌, List, Option, String, IfSome}
+use Rattle.std.specs.Prelude.{◌≡◌, ℕ, ◌≤◌, List, Option, Result, String, IfSome, OnOk, OnErr}
 use Rattle.std.specs.Str.{IsUtf8}
 use Rattle.string_cache.specs.Tables.{empty_tables}
 use Rattle.replay_script.specs.Replay.{IsReplay}
@@ -8,10 +8,27 @@ use Rattle.commands.specs.CountLines.{AreCountLines}
 use Rattle.commands.specs.TableCommands.{IsAnswer, IsTableOutput}
 use Rattle.commands.specs.Told.{Begins, Writes}
 use Rattle.commands.specs.WordLines.{AreWordLines}
+use Rattle.commands.specs.declared.program.Command.{Command}
+use Rattle.commands.specs.declared.program.Command.TheVariants.{Words, Count, Replay, Generate, Check}
+use Rattle.text_streams.specs.declared.faults.AppFault.{AppFault}
+
+-- the output of a command for a text
+abbrev pub IsOutputOf : Command → List ℕ → List ℕ → Type 0
+IsOutputOf Words = AreWordLines
+IsOutputOf (Count n) = AreCountLines
+IsOutputOf Replay = IsReplay empty_tables
+IsOutputOf (Generate key bound) = IsTableOutput key bound
+IsOutputOf Check = IsAnswer
 
 module _ {S K : Type 0}
     (remaining : S → Option (List ℕ))  -- the bytes that reads give from here on, where they are known
     (contents : K → Option (List ℕ)) where  -- the bytes that the writer holds, where they are known
+  -- What a command's result says of the output that it is to make of the input: one was written, or after a fault at most a beginning of one.
+  pub record Yields {T : Type 0} (IsOutput : List ℕ → List ℕ → Type 0) (input : S) (output output' : K) (result : Result T AppFault) : Type 0 where
+    pub utf8 : OnOk result (IfSome (remaining input) IsUtf8)
+    pub all : OnOk result (IfSome (remaining input) (λ bytes. Writes (IsOutput bytes) (contents output) (contents output')))
+    pub beginning : OnErr result (IfSome (remaining input) (λ bytes. Begins (IsOutput bytes) (contents output) (contents output')))
+
   -- What a command's status says of the output that it is to make of the input: 0, that one was written; 1, that at most a beginning of one was; and
   -- it is no other.
   pub record Makes (IsOutput : List ℕ → List ℕ → Type 0) (input : S) (output output' : K) (status : ℕ) : Type 0 where

@@ -67,6 +67,26 @@ fn let_go<R: Threads + Sync, Static: StaticTables + Send + Sync>(
     );
 }
 
+/// Writes a line for each word, in order, and lets the atoms go, where they are many, in at most `threads` threads.
+fn write_all<R: Threads + Sync, Static: StaticTables + Send + Sync, K: Sink>(
+    rt: &R,
+    alloc: Global,
+    counts: &mut [(Atom<'_, Static>, u64)],
+    threads: u32,
+    writer: &mut K,
+) -> Result<(), AppFault>
+    requires threads { 1 ≤ threads }
+    requires writer { K.has_failed writer.old ≡ false }
+    ensures ok { OnOk result (Appends (K.contents writer.old) (K.contents writer.new) (flat_map count_line (counted_texts counts.old))) }
+    ensures err { OnErr result (AppendsBeginning (K.contents writer.old) (K.contents writer.new) (flat_map count_line (counted_texts counts.old))) }
+    ensures fault { IfErr result IsWritingFault }
+    ensures failed { (result ≡ Err AppFault.Write) ↔ (K.has_failed writer.new ≡ true) }
+{
+    let outcome = write_lines(alloc, counts, writer);
+    let_go(rt, counts, threads);
+    outcome
+}
+
 /// Counts the words of the text by `n` workers, and writes a line for each distinct one. They are interned in a set of this
 /// call's own, whose number of buckets fits the text.
 fn write_counts<R: Threads + Wait + Sync, K: Sink>(
@@ -87,9 +107,7 @@ fn write_counts<R: Threads + Wait + Sync, K: Sink>(
     let buckets = buckets_for(text.len());
     let set = Set::<EmptyStaticAtomSet>::with_buckets(alloc, Limits::greatest(), buckets)?;
     let mut counts = count(rt, &set, text, n, &Open)?;
-    let outcome = write_lines(alloc, &counts, writer);
-    let_go(rt, &mut counts, n);
-    outcome
+    write_all(rt, alloc, &mut counts, n, writer)
 }
 
 /// Reads all, counts its words by `n` workers, and writes a line for each distinct one. They are interned in a set of this

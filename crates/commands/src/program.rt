@@ -1,8 +1,8 @@
 //! All that the program does, over any reader and writers.
 
-ghost use Rattle.std.specs.Prelude.{◌≡◌, ◌≢◌, ℕ, ◌≤◌, codes, false, IfOk, IfSome, IsErr, IfErr, MatchOption, OnOk, OnErr};
+ghost use Rattle.std.specs.Prelude.{◌≡◌, ◌≢◌, ℕ, ◌≤◌, codes, false, IfOk, IfSome, IsErr, IfErr, MatchOption, MatchResult, OnOk, OnErr};
 ghost use Rattle.commands.specs.Commands.{AreCheck, AreCount, AreGenerate, AreWords, AreReplay, IsRequest, IsWorkers};
-ghost use Rattle.commands.specs.Program.{Runs};
+ghost use Rattle.commands.specs.Program.{IsOutputOf, Runs, Yields};
 
 use crate::count::count_command;
 use crate::generate::{check_command, generate_command};
@@ -185,6 +185,38 @@ pub fn usage<F: Sink>(faults: &mut F) -> u8
     2
 }
 
+/// Carries a command out.
+fn carry_out<R: Threads + Wait + Sync, S: Source, K: Sink>(
+    rt: &R,
+    alloc: Global,
+    command: Command,
+    input: &mut S,
+    output: &mut K,
+) -> Result<(), AppFault>
+    requires input { S.has_failed input.old ≡ false }
+    requires output { K.has_failed output.old ≡ false }
+    requires workers { (n : ℕ) → command ≡ Command.Count n → (1 ≤ n) × (n ≤ 64) }
+    ensures { Yields S.remaining K.contents (IsOutputOf command) input.old output.old output.new result }
+{
+    match command {
+        Command::Words => words_command(rt, alloc, input, output),
+        Command::Count(n) => count_command(rt, alloc, n, input, output),
+        Command::Replay => replay(alloc, input, output),
+        Command::Generate(key, bound) => generate_command(alloc, key, bound, input, output),
+        Command::Check => check_command(alloc, input, output),
+    }
+}
+
+/// The exit status after an outcome: 0, or 1 after a fault's line.
+fn status_of<F: Sink>(faults: &mut F, outcome: Result<(), AppFault>) -> u8
+    ensures { MatchResult outcome (λ _. result ≡ 0) (λ _. result ≡ 1) }
+{
+    match outcome {
+        Ok(()) => 0,
+        Err(fault) => refuse(faults, fault),
+    }
+}
+
 /// Runs the command that the arguments, without the program's name, ask for, and answers the exit status: 0, or 1 after
 /// a fault's line, or 2 after the usage line, where nothing was read or written.
 pub fn program<R: Threads + Wait + Sync, S: Source, K: Sink, F: Sink>(
@@ -203,17 +235,8 @@ pub fn program<R: Threads + Wait + Sync, S: Source, K: Sink, F: Sink>(
     let Some(command) = command_of(args) else {
         return usage(faults);
     };
-    let outcome = match command {
-        Command::Words => words_command(rt, alloc, input, output),
-        Command::Count(n) => count_command(rt, alloc, n, input, output),
-        Command::Replay => replay(alloc, input, output),
-        Command::Generate(key, bound) => generate_command(alloc, key, bound, input, output),
-        Command::Check => check_command(alloc, input, output),
-    };
-    match outcome {
-        Ok(()) => 0,
-        Err(fault) => refuse(faults, fault),
-    }
+    let outcome = carry_out(rt, alloc, command, input, output);
+    status_of(faults, outcome)
 }
 
 /// All that main does once its arguments are read, with the exit status as its answer: it runs the program on them, and

@@ -6,6 +6,6 @@ use Rattle.word_counts.specs.WordCounts.{counted_texts}
 use Rattle.commands.proofs.count.write_counts.Goals as goal
 
 pub returns-clause-err : goal.returns-clause-err
-returns-clause-err g c = subst (λ (counts : List (List ℕ × ℕ)). OnErr c.write_lines-outcome.result
-    (AppendsBeginning (g.K.Sink.contents c.args.writer.now) (g.K.Sink.contents c.write_lines-outcome.new.writer) (flat_map count_line counts)))
-    (ap counted_texts c.deref.ensures.value ∙ c.in_ok-counts.ensures.counts) c.write_lines-outcome.ensures.err
+returns-clause-err g c = subst (λ (counts : List (List ℕ × ℕ)). OnErr c.write_all.result
+    (AppendsBeginning (g.K.Sink.contents c.args.writer.now) (g.K.Sink.contents c.write_all.new.writer) (flat_map count_line counts)))
+    (ap counted_texts c.deref_mut.ensures.value ∙ c.in_ok-counts.ensures.counts) c.write_all.ensures.err
