@@ -6,7 +6,7 @@ use Rattle.std.specs.Prelude.{Option, Some, None}
 use Rattle.text_forms.specs.Pass.{PassReply, added, full, died, gone, stays, Asked, outcome, kept}
 use Rattle.counted_set.specs.Chain.{Linked}
 use Rattle.counted_set.specs.Counted.{MayGive, Replied, found_by}
-use Rattle.counted_set.specs.PassLeft.{IsPassLeft}
+use Rattle.counted_set.specs.PassLeft.{GoesOnAfter, IsPassLeft}
 use Rattle.node_chain.specs.Walked.{Walked, passed_by, taken_out}
 use Rattle.counted_set.specs.declared.dynamic_set.counts.CountReply.{CountReply}
 use Rattle.counted_set.specs.declared.dynamic_set.counts.CountReply.TheVariants.{Added, Dying, Full}
@@ -96,6 +96,26 @@ module _ {C S : Type 0} (adds : C → Linked → CountReply S → C → Type 0) 
         → (d : C) (v : Walked Linked) → IsPassLeft adds dies None m u pass.Absent d v → IsPassLeft adds dies (Some text) c w pass.Full d v
     on_full text same gives is d v p =
         on (Some text) None c m w u e rest full pass.Full pass.Absent at (kept_next w u e rest at is) gives (λ rs h. (ap Some (sym same), h)) (λ rs. refl) (λ rs h. refl) d v p
+
+  module _ (c m d : C) (w v : Walked Linked) (e : Linked) (reply : CountReply S) (gives : adds c e reply m) where
+    -- a pass that has its answer after this reply answers that
+    pub on_answered : (text : List ℕ) (rest : List Linked) (answer : Pass S) → w.left ≡ e ∷ rest → e.text ≡ text → GoesOnAfter adds dies reply m w (Some answer) d v → IsPassLeft adds dies (Some text) c w answer d v
+    on_answered text rest answer at same then = of_reply reply gives then
+      where
+        of_reply : (r : CountReply S) → adds c e r m → GoesOnAfter adds dies r m w (Some answer) d v → IsPassLeft adds dies (Some text) c w answer d v
+        of_reply (Added s) gave f = subst (λ (a : Pass S). IsPassLeft adds dies (Some text) c w a d v) (sym f.0) (on_added c m w (passed_by w w.left) e rest at text s same gave refl d v f.1)
+        of_reply Full gave f = subst (λ (a : Pass S). IsPassLeft adds dies (Some text) c w a d v) (sym f.0) (on_full c m w (passed_by w w.left) e rest at text same gave refl d v f.1)
+        of_reply Dying gave f = absurd f
+
+    -- and one that has none goes on without the entry
+    pub died_where_unanswered : (answer : Option (Pass S)) → ((a : Pass S) → answer ≢ Some a) → GoesOnAfter adds dies reply m w answer d v → adds c e Dying d × (v ≡ taken_out w w.left)
+    died_where_unanswered answer none then = of_reply reply answer none gives then
+      where
+        of_reply : (r : CountReply S) (o : Option (Pass S)) → ((a : Pass S) → o ≢ Some a) → adds c e r m → GoesOnAfter adds dies r m w o d v → adds c e Dying d × (v ≡ taken_out w w.left)
+        of_reply r (Some a) never gave f = absurd (never a refl)
+        of_reply (Added s) None never gave f = absurd f
+        of_reply Full None never gave f = absurd f
+        of_reply Dying None never gave f = (subst (adds c e Dying) f.0 gave, f.1)
 
 -- an entry that fails the test is of another text, where the hash follows from the text
 pub not_wanted : (text : List ℕ) (hash : ℕ) (e : Linked) → (e.text ≡ text → e.hash ≡ hash) → ((e.hash ≡ hash) × (e.text ≡ text) → ⊥) → Some text ≢ Some e.text

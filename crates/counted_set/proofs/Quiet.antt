@@ -4,11 +4,11 @@ use Rattle.std.proofs.lemmas.List.{append-nil, length-drop}
 use Rattle.std.specs.List.{AllByRecursion}
 use Rattle.std.specs.Prelude.{⊤}
 use Rattle.counted_set.specs.Chain.{Linked}
-use Rattle.counted_set.specs.Quiet.{IsMetAt, IsAsked, AreQuiet, Ends, Meets, MeetsInNode}
+use Rattle.counted_set.specs.Quiet.{IsMetAt, IsAsked, AreQuiet, Ends, Meets, MeetsInNode, PassesOthers, PassesQuiet, TakesOutDying}
 use Rattle.counted_set.specs.declared.dynamic_set.counts.CountReply.{CountReply}
 use Rattle.counted_set.specs.declared.dynamic_set.quiet.Met.{Met}
 use Rattle.counted_set.specs.declared.dynamic_set.quiet.Met.TheVariants.{Nothing, Dying, Alike}
-use Rattle.counted_set.proofs.Passes.{Goes, all_first, none_wanted, on_gone, on_stays}
+use Rattle.counted_set.proofs.Passes.{Goes, all_first, all_out, none_wanted, on_gone, on_stays}
 use Rattle.counted_set.specs.PassLeft.{IsPassLeft}
 use Rattle.node_chain.proofs.Packs.{gone_on, pack_passed}
 use Rattle.node_chain.specs.Packs.{ArePacked, IsWithin, from_on, items_at, joined}
@@ -177,6 +177,24 @@ module _ {C S : Type 0} (adds : C → Linked → CountReply S → C → Type 0) 
         let here = all_first P u f.0 f.1 f.2 (all_left (Dying place) m) in
         goes_before (Dying place) m answer e v
         (on_gone adds dies m.meets.before d u x f.0 f.1 f.2 text (λ is. f.3.0 (follows f.0 here is)) f.3.1 out answer e v p)
+
+    -- so it goes on over those of other texts
+    past : (met : Option Met) (v : Walked Linked) → PassesQuiet dies hash c w met d u → TakesOutDying met u v → Goes adds dies text c w d v × AllByRecursion P v.left
+    past None v m out =
+        let same : v ≡ w = out ∙ m.1 in (
+          λ answer e x p. subst (λ (y : Walked Linked). IsPassLeft adds dies text c y answer e x) same (subst (λ k. IsPassLeft adds dies text k v answer e x) (sym m.2) p),
+          subst (λ (y : Walked Linked). AllByRecursion P y.left) (sym same) all,
+        )
+    past (Some Nothing) v m out =
+        (λ answer e x p. goes_quiet m answer e x (subst (λ (y : Walked Linked). IsPassLeft adds dies text d y answer e x) out p), subst (λ (y : Walked Linked). AllByRecursion P y.left) (sym out) (all_left Nothing m))
+    past (Some (Dying at)) v m out =
+        let f = some_dying dies hash at c d w u m in
+        (λ answer e x p. goes_dying at v m out answer e x p, all_out P u v f.0 f.1 f.2 out (all_left (Dying at) m))
+    past (Some (Alike at)) v m out =
+        (λ answer e x p. goes_alike at m answer e x (subst (λ (y : Walked Linked). IsPassLeft adds dies text d y answer e x) out p), subst (λ (y : Walked Linked). AllByRecursion P y.left) (sym out) (all_left (Alike at) m))
+
+  pub goes_past : (c d : C) (w v : Walked Linked) → AllByRecursion P w.left → PassesOthers dies hash c w d v → Goes adds dies text c w d v × AllByRecursion P v.left
+  goes_past c d w v all m = past c d w m.before all m.met v m.quiet m.out
 
 each : (P : Linked → Type 0) → ((e : Linked) → P e) → (es : List Linked) → AllByRecursion P es
 each P all [] = tt

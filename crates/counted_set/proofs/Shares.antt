@@ -4,11 +4,11 @@ use Rattle.std.specs.List.{AllByRecursion}
 use Rattle.std.specs.Prelude.{Some}
 use Rattle.text_forms.specs.Pass.{PassReply, added, full, died, gone, stays, Asked, found, outcome}
 use Rattle.counted_set.specs.Chain.{Linked}
-use Rattle.counted_set.specs.Counted.{GivesShares, IsPass, Replied}
+use Rattle.counted_set.specs.Counted.{GivesShares, IfFound, IsPass, Replied}
 use Rattle.counted_set.specs.declared.dynamic_set.counts.CountReply.{CountReply}
 use Rattle.counted_set.specs.declared.dynamic_set.counts.CountReply.TheVariants.{Added}
 use Rattle.counted_set.specs.declared.dynamic_set.counts.Pass.{Pass}
-use Rattle.counted_set.specs.declared.dynamic_set.counts.Pass.TheVariants.{Found}
+use Rattle.counted_set.specs.declared.dynamic_set.counts.Pass.TheVariants.{Absent, Found, Full}
 
 module _ {C : Type 0} (adds : C → Linked → CountReply Linked → C → Type 0) (dies : C → Linked → Bool → C → Type 0) (gives : GivesShares adds) (P : Linked → Type 0) (text : List ℕ) where
   -- it is of an entry of the text
@@ -27,8 +27,8 @@ module _ {C : Type 0} (adds : C → Linked → CountReply Linked → C → Type 
   found_of (e ∷ es) (gone ∷ rs) c d s all replied asked is = found_of es rs replied.0 d s all.1 replied.2 asked.1 is
   found_of (e ∷ es) (stays ∷ rs) c d s all replied asked is = found_of es rs replied.0 d s all.1 replied.2 asked.1 is
 
-  pub share_found : (es : List Linked) (c d : C) (answer : Pass Linked) (after : List Linked) (s : Linked) → AllByRecursion P es
-      → IsPass adds dies (Some text) c es answer d after → answer ≡ Found s → (s.text ≡ text) × P s
-  share_found es c d answer after s all p is =
-      let q = subst (λ (a : Pass Linked). IsPass adds dies (Some text) c es a d after) is p in
-      found_of es q.replies c d s all q.given q.asked (sym q.answers)
+  pub share_found : (es : List Linked) (c d : C) (answer : Pass Linked) (after : List Linked) → AllByRecursion P es
+      → IsPass adds dies (Some text) c es answer d after → IfFound answer (λ s. (s.text ≡ text) × P s)
+  share_found es c d (Found s) after all p = found_of es p.replies c d s all p.given p.asked (sym p.answers)
+  share_found es c d Full after all p = tt
+  share_found es c d Absent after all p = tt

@@ -29,6 +29,12 @@ IsReadAs count limit Full = limit ≤ count
 abbrev pub GivesShares : {C : Type 0} → (C → Linked → CountReply Linked → C → Type 0) → Type 0
 GivesShares {C} adds = (c : C) (e : Linked) (r : CountReply Linked) (d : C) → adds c e r d → IfAdded r (λ share. share ≡ e)
 
+-- P holds of what was found
+abbrev pub IfFound : {S : Type 0} → Pass S → (S → Type 0) → Type 0
+IfFound (pass.Found s) P = P s
+IfFound pass.Full P = ⊤
+IfFound pass.Absent P = ⊤
+
 -- what a pass answers, as what it finds
 abbrev pub found_by : {S : Type 0} → Pass S → Outcome S
 found_by (pass.Found s) = found s

@@ -3,13 +3,20 @@ use Rattle.std.specs.Prelude.{◌≡◌, ◌≢◌, ℕ, ◌+◌, ◌<◌, ⊤, 
 use Rattle.counted_set.specs.Chain.{Linked}
 use Rattle.counted_set.specs.declared.dynamic_set.quiet.Met.{Met}
 use Rattle.counted_set.specs.declared.dynamic_set.quiet.Met.TheVariants.{Nothing, Dying, Alike}
-use Rattle.node_chain.specs.Walked.{Walked}
+use Rattle.node_chain.specs.Walked.{Walked, taken_out}
 
 -- what is met is at this place
 abbrev pub IsMetAt : ℕ → Met → Type 0
 IsMetAt place Nothing = ⊤
 IsMetAt place (Dying at) = at ≡ place
 IsMetAt place (Alike at) = at ≡ place
+
+-- what was met is taken out where it is dying
+abbrev pub TakesOutDying : Option Met → Walked Linked → Walked Linked → Type 0
+TakesOutDying None w v = v ≡ w
+TakesOutDying (Some Nothing) w v = v ≡ w
+TakesOutDying (Some (Dying at)) w v = v ≡ taken_out w w.left
+TakesOutDying (Some (Alike at)) w v = v ≡ w
 
 -- By which answers `dying` leaves one state of the counts for another is given by a relation. A hash is wanted, or none.
 module _ {C : Type 0} (dies : C → Linked → Bool → C → Type 0) (wanted : Option ℕ) where
@@ -55,3 +62,10 @@ module _ {C : Type 0} (dies : C → Linked → Bool → C → Type 0) (wanted : 
   abbrev pub PassesQuiet : C → Walked Linked → Option Met → C → Walked Linked → Type 0
   PassesQuiet c w None d u = (w.left ≡ []) × (u ≡ w) × (c ≡ d)
   PassesQuiet c w (Some met) d u = MeetsInNode c w met d u
+
+  -- and what is met then is taken out where it is dying
+  pub record PassesOthers (c : C) (w : Walked Linked) (d : C) (v : Walked Linked) : Type 0 where
+    pub met : Option Met
+    pub before : Walked Linked
+    pub quiet : PassesQuiet c w met d before
+    pub out : TakesOutDying met before v

@@ -1,14 +1,16 @@
 //! A bucket: what one lock holds.
 
-ghost use Rattle.std.specs.Prelude.{◌≡◌, ◌+◌, ◌^◌, ◌<◌, [], ◌∷◌, ◌++◌, length, IfOk, IfErr, IfSome, Some, None};
+ghost use Rattle.std.specs.Prelude.{◌≡◌, ◌+◌, ◌^◌, ◌<◌, ◌≤◌, [], ◌∷◌, ◌++◌, length, IfOk, IfErr, IfSome, Some, None};
 ghost use Rattle.std.specs.List.{AllByRecursion};
+ghost use Rattle.text_forms.specs.Layout.{holder_bound, serial_bound};
 ghost use Rattle.text_forms.specs.Tables.{entry_hash};
 ghost use Rattle.counted_set.specs.Chain.{IsKept, IsRightOf};
-ghost use Rattle.counted_set.specs.Counted.{GivesShares, IsPass};
+ghost use Rattle.counted_set.specs.Counted.{GivesShares, IfFound, IsPass};
 ghost use Rattle.counted_set.specs.Find.{IsFind};
-ghost use Rattle.counted_set.specs.Link.{IsLink, IsIntern};
+ghost use Rattle.counted_set.specs.Link.{IsLink, IsIntern, next_entry};
 ghost use Rattle.counted_set.specs.Memory.{IsMemory};
-ghost use Rattle.counted_set.specs.PassLeft.{IsPassLeft};
+ghost use Rattle.counted_set.specs.PassLeft.{GoesOnAfter, IsPassLeft};
+ghost use Rattle.counted_set.specs.Quiet.{PassesOthers};
 ghost use Rattle.counted_set.specs.Visits.{VisitsEach};
 ghost use Rattle.node_chain.specs.Walked.{at_start, passed_by};
 
@@ -18,7 +20,7 @@ use super::quiet::Met;
 use super::share::{Entry, Share};
 use super::visits::{memory_of, number_of, visit_each};
 use node_chain::{Pack, StoredChain};
-use std::alloc::{AllocFailed, Global};
+use std::alloc::{AllocError, AllocFailed, Global};
 use std::marker::{Model, PhantomData};
 use std::mem::replace;
 use std::sync::Wait;
@@ -189,20 +191,42 @@ impl<Static: StaticTables> Bucket<Static> {
             return Err(Fault::TicketsSpent);
         }
         let serial = self.last + 1;
+        let (entry, share) = self.made_entry(serial, text, hash, limits.holders())?;
+        Ok(self.link_shared(entry, share, serial)?)
+    }
+
+    /// The entry of a text that is linked next, which has the next serial, and its only share. `hash` is that of the text.
+    fn made_entry(
+        &self,
+        serial: u64,
+        text: &str,
+        hash: u64,
+        holders: u64,
+    ) -> Result<(Entry, Share), AllocError>
+        requires next { serial ≡ self.now.last + 1 }
+        requires below { serial < serial_bound }
+        requires hash { hash ≡ entry_hash Static.tables text.now }
+        requires holders { (1 ≤ holders) × (holders < holder_bound) }
+        ensures entry { IfOk result (λ made. made.0 ≡ next_entry self.now text.now hash holders made.0.name) }
+        ensures share { IfOk result (λ made. made.1 ≡ made.0) }
+        ensures right { IfOk result (λ made. IsRightOf Static.tables self.now.bits made.1) }
+        ensures kept { IfOk result (λ made. IsKept Static.tables (record { bits = self.now.bits; entries = made.0 ∷ self.now.entries; last = serial })) }
+    {
         let ticket = ticket_word(serial, self.buckets.bucket_of(hash));
-        let (entry, share) = Entry::new(
-            self.alloc,
-            self.buckets,
-            ticket,
-            text,
-            hash,
-            limits.holders(),
-        )?;
+        Entry::new(self.alloc, self.buckets, ticket, text, hash, holders)
+    }
+
+    /// Links an entry as the first, which has this serial, and gives its only share. A refusal changes nothing.
+    fn link_shared(&mut self, entry: Entry, share: Share, serial: u64) -> Result<Share, AllocError>
+        requires { IsKept Static.tables (record { bits = self.old.bits; entries = entry ∷ self.old.entries; last = serial }) }
+        ensures linked { IfOk result (λ s. (s ≡ share) × (self.new ≡ record { bits = self.old.bits; entries = entry ∷ self.old.entries; last = serial })) }
+        ensures refused { IfErr result (λ _. self.new ≡ self.old) }
+    {
         if let Err(refused) = self.link_entry(entry, serial) {
             // The share goes first, so that the entry ends without any.
             drop(share);
             drop(refused);
-            return Err(Fault::Memory);
+            return Err(AllocError);
         }
         Ok(share)
     }
@@ -227,12 +251,29 @@ impl<Static: StaticTables> Bucket<Static> {
         }
     }
 
+    /// A pass for the text by counts whose shares are those of entries: it tells of what it finds. `hash` is that of the text.
+    fn pass_for_share<R: Wait, C: Counts<Share = Share>>(
+        &mut self,
+        rt: &R,
+        text: &str,
+        hash: u64,
+        counts: &mut C,
+    ) -> Pass<Share>
+        requires { hash ≡ entry_hash Static.tables text.now }
+        ensures pass { IsPass C.adds C.dies (Some text.now) counts.old self.old.entries result counts.new self.new.entries }
+        ensures bits { self.new.bits ≡ self.old.bits }
+        ensures last { self.new.last ≡ self.old.last }
+        ensures share { GivesShares C.adds → IfFound result (λ s. (s.text ≡ text.now) × IsRightOf Static.tables self.old.bits s) }
+    {
+        let _ = &self.nodes; // so that the proof sees what the bucket keeps
+        self.pass(rt, text, hash, counts)
+    }
+
     /// A pass for the text, which goes on to `link` where it is absent. `hash` is that of the text, as for
     /// `pass`.
     ///
     /// It gives the share that the pass found, and `FullCount` where the pass found the entry full. Other refusals are those
     /// of `link`. Where the counts give shares of the entries that they are asked about, the share is of the text.
-    #[tactic(auto, using(crate::proofs::Shares::share_found))]
     pub fn intern<R: Wait, C: Counts<Share = Share>>(
         &mut self,
         rt: &R,
@@ -245,8 +286,7 @@ impl<Static: StaticTables> Bucket<Static> {
         ensures intern { IsIntern C.adds C.dies limits.now text.now hash counts.old self.old result counts.new self.new }
         ensures share { GivesShares C.adds → IfOk result (λ s. (s.text ≡ text.now) × IsRightOf Static.tables self.old.bits s) }
     {
-        let _ = &self.nodes; // so that the proof sees what the bucket keeps
-        match self.pass(rt, text, hash, counts) {
+        match self.pass_for_share(rt, text, hash, counts) {
             Pass::Found(share) => Ok(share),
             Pass::Full => Err(Fault::FullCount),
             Pass::Absent => self.link(text, hash, limits),
@@ -257,7 +297,6 @@ impl<Static: StaticTables> Bucket<Static> {
     ///
     /// It gives the share that the pass found, `None` exactly where the pass finds the text absent, and `FullCount` exactly where it
     /// finds the entry full. Where the counts give shares of the entries that they are asked about, the share is of the text.
-    #[tactic(auto, using(crate::proofs::Shares::share_found))]
     pub fn find<R: Wait, C: Counts<Share = Share>>(
         &mut self,
         rt: &R,
@@ -269,8 +308,7 @@ impl<Static: StaticTables> Bucket<Static> {
         ensures find { IsFind C.adds C.dies text.now counts.old self.old result counts.new self.new }
         ensures share { GivesShares C.adds → IfOk result (λ found. IfSome found (λ s. (s.text ≡ text.now) × IsRightOf Static.tables self.old.bits s)) }
     {
-        let _ = &self.nodes; // so that the proof sees what the bucket keeps
-        match self.pass(rt, text, hash, counts) {
+        match self.pass_for_share(rt, text, hash, counts) {
             Pass::Found(share) => Ok(Some(share)),
             Pass::Full => Err(Fault::FullCount),
             Pass::Absent => Ok(None),
@@ -291,24 +329,12 @@ fn pass_left<R: Wait, C: Counts>(
 {
     while let Some(entry) = entries.look() {
         if entry.is_of(text, hash) {
-            match counts.add(rt, entry) {
-                CountReply::Added(share) => {
-                    prune_after(entries, counts);
-                    return Pass::Found(share);
-                }
-                CountReply::Full => {
-                    prune_after(entries, counts);
-                    return Pass::Full;
-                }
-                CountReply::Dying => entries.take_out(),
+            let reply = counts.add(rt, entry);
+            if let Some(answer) = go_on_after(reply, entries, counts) {
+                return answer;
             }
         } else if !entry.has_hash(hash) {
-            match entries.keep_quiet(Some(hash), counts) {
-                Some(Met::Dying(_)) => entries.take_out(),
-                Some(Met::Nothing) => {}
-                Some(Met::Alike(_)) => {}
-                None => {}
-            }
+            pass_others(hash, entries, counts);
         } else if counts.dying(entry) {
             entries.take_out();
         } else {
@@ -316,6 +342,46 @@ fn pass_left<R: Wait, C: Counts>(
         }
     }
     Pass::Absent
+}
+
+// Goes on after this reply about the next entry, which is of the text. It takes out an entry that is dying, and the pass has no answer
+// yet. Any other reply is the answer, and those after the entry which are dying are taken out.
+#[inline]
+fn go_on_after<C: Counts>(
+    reply: CountReply<C::Share>,
+    asked: &mut Entries,
+    counts: &mut C,
+) -> Option<Pass<C::Share>>
+    requires { 0 < length asked.old.left }
+    ensures { GoesOnAfter C.adds C.dies reply counts.old asked.old result counts.new asked.new }
+{
+    match reply {
+        CountReply::Added(share) => {
+            prune_after(asked, counts);
+            Some(Pass::Found(share))
+        }
+        CountReply::Full => {
+            prune_after(asked, counts);
+            Some(Pass::Full)
+        }
+        CountReply::Dying => {
+            asked.take_out();
+            None
+        }
+    }
+}
+
+// Passes entries of the next node by that haven't the hash, and takes out the first that is dying.
+#[inline]
+fn pass_others<C: Counts>(hash: u64, entries: &mut Entries, counts: &mut C)
+    ensures { PassesOthers C.dies (Some hash) counts.old entries.old counts.new entries.new }
+{
+    match entries.keep_quiet(Some(hash), counts) {
+        Some(Met::Dying(_)) => entries.take_out(),
+        Some(Met::Nothing) => {}
+        Some(Met::Alike(_)) => {}
+        None => {}
+    }
 }
 
 // Takes out those after the next entry which are dying. Often there are none after it, and then nothing moves.

@@ -1,6 +1,6 @@
 //! The set: buckets behind locks.
 
-ghost use Rattle.std.specs.Prelude.{◌≡◌, ◌-◌, ◌^◌, length, IfOk, IfErr, IfSome};
+ghost use Rattle.std.specs.Prelude.{◌≡◌, ◌-◌, ◌^◌, length, vec_len, IfOk, IfErr, IfSome};
 ghost use Rattle.text_forms.specs.Faults.{IsInternFault};
 ghost use Rattle.text_forms.specs.Layout.{holder_bound, serial_bound, usual_bits};
 ghost use Rattle.text_forms.specs.Tables.{entry_hash};
@@ -9,6 +9,7 @@ ghost use Rattle.counted_set.specs.Chain.{IsRight};
 use super::bucket::Bucket;
 use super::counts::OwnCounts;
 use super::held::Held;
+use super::share::Share;
 use counted_cell::{CellShare, Receipt};
 use std::alloc::Global;
 use std::marker::Model;
@@ -64,16 +65,25 @@ impl<Static: StaticTables> Set<Static> {
         ensures bits { IfOk result (λ set. set.bits ≡ count) }
         ensures refused { IfErr result (λ fault. fault ≡ Fault.Memory) }
     {
-        let mut buckets = Vec::with_capacity(alloc, count.number())?;
-        for _ in 0..count.number() {
-            buckets.push(Mutex::new(Bucket::new(alloc, count)))?;
-        }
+        let buckets = Self::empty_buckets(alloc, count)?;
         Ok(Set {
             buckets,
             count,
             limits,
             alloc,
         })
+    }
+
+    /// This many buckets without entries, each behind a lock. It is refused for `Memory` alone.
+    fn empty_buckets(alloc: Global, count: Buckets) -> Result<Vec<Mutex<Bucket<Static>>>, Fault>
+        ensures number { IfOk result (λ buckets. vec_len buckets ≡ 2 ^ count) }
+        ensures refused { IfErr result (λ fault. fault ≡ Fault.Memory) }
+    {
+        let mut buckets = Vec::with_capacity(alloc, count.number())?;
+        for _ in 0..count.number() {
+            buckets.push(Mutex::new(Bucket::new(alloc, count)))?;
+        }
+        Ok(buckets)
     }
 
     /// The limits of its entries' holders and of its buckets' serials.
@@ -154,9 +164,19 @@ impl<Static: StaticTables> Set<Static> {
         ensures right { IfOk result (λ held. IsRight Static.tables held) }
         ensures refused { IfErr result IsInternFault }
     {
-        let mut bucket = self.buckets[usize::from(self.count.bucket_of(hash))].lock(rt);
-        let share = bucket.intern(rt, text, hash, &self.limits, &mut OwnCounts)?;
+        let share = self.intern_share(rt, text, hash)?;
         Ok(Held::new(share, self))
+    }
+
+    /// The same, without its set.
+    fn intern_share<R: Wait>(&self, rt: &R, text: &str, hash: u64) -> Result<Share, Fault>
+        requires { hash ≡ entry_hash Static.tables text.now }
+        ensures text { IfOk result (λ share. share.text ≡ text.now) }
+        ensures right { IfOk result (IsRight Static.tables) }
+        ensures refused { IfErr result IsInternFault }
+    {
+        let mut bucket = self.buckets[usize::from(self.count.bucket_of(hash))].lock(rt);
+        bucket.intern(rt, text, hash, &self.limits, &mut OwnCounts)
     }
 
     /// A share of the entry of a text with this hash, in the bucket of the hash, if one is linked there that isn't dying. Atoms ask
@@ -173,11 +193,21 @@ impl<Static: StaticTables> Set<Static> {
         ensures right { IfOk result (λ found. IfSome found (λ held. IsRight Static.tables held)) }
         ensures refused { IfErr result (λ fault. fault ≡ Fault.FullCount) }
     {
-        let bucket = &self.buckets[usize::from(self.count.bucket_of(hash))];
-        match bucket.lock(rt).find(rt, text, hash, &mut OwnCounts)? {
+        match self.find_share(rt, text, hash)? {
             Some(share) => Ok(Some(Held::new(share, self))),
             None => Ok(None),
         }
+    }
+
+    /// The same, without its set.
+    fn find_share<R: Wait>(&self, rt: &R, text: &str, hash: u64) -> Result<Option<Share>, Fault>
+        requires { hash ≡ entry_hash Static.tables text.now }
+        ensures text { IfOk result (λ found. IfSome found (λ share. share.text ≡ text.now)) }
+        ensures right { IfOk result (λ found. IfSome found (IsRight Static.tables)) }
+        ensures refused { IfErr result (λ fault. fault ≡ Fault.FullCount) }
+    {
+        let bucket = &self.buckets[usize::from(self.count.bucket_of(hash))];
+        bucket.lock(rt).find(rt, text, hash, &mut OwnCounts)
     }
 
     /// Gives a share back. Where it was its entry's last, tries the lock of the entry's bucket, once, and prunes the bucket.

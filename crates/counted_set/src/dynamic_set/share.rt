@@ -1,15 +1,15 @@
 //! Counted entries, and the shares of them.
 
-ghost use Rattle.std.specs.Prelude.{◌≡◌, ◌≤◌, ◌<◌, ◌^◌, ◌↔◌, length, IsTrue, IfOk, IfSome};
+ghost use Rattle.std.specs.Prelude.{◌≡◌, ◌≤◌, ◌<◌, ◌^◌, ◌↔◌, length, IsTrue, IfErr, IfOk, IfSome};
 ghost use Rattle.text_forms.specs.Layout.{holder_bound};
 ghost use Rattle.counted_cell.specs.Cell.{block_size};
-ghost use Rattle.counted_cell.specs.Counting.{none_left, some_receipt};
+ghost use Rattle.counted_cell.specs.Counting.{CellName, none_left, some_receipt};
 ghost use Rattle.counted_set.specs.Counted.{IfAdded, IsDying, IsReadAs};
 ghost use base.Fml.{fall};
 ghost use types.Logic.{sem};
 
 use super::counts::CountReply;
-use counted_cell::{CellShare, Label, Owner, Reading, Receipt, ShareReply};
+use counted_cell::{CellShare, Label, NoShares, Owner, Reading, Receipt, ShareReply, SharesLeft};
 use std::alloc::{AllocError, Global};
 use std::marker::Model;
 use std::sync::Wait;
@@ -149,10 +149,19 @@ impl Entry {
     fn looked(&self) -> (bool, Reading)
         ensures { (result.1.name ≡ self.now.name) × (IsTrue result.0 ↔ (result.1.count ≡ 0)) }
     {
-        match self.owner.dying() {
-            Ok(none) => (true, none.reading()),
-            Err(some) => (false, some.reading()),
-        }
+        none_left_by(self.owner.dying())
+    }
+}
+
+// Whether no share is left by what a cell answers, with what was read.
+#[inline]
+fn none_left_by(answer: Result<NoShares, SharesLeft>) -> (bool, Reading)
+    ensures name { (n : CellName) → IfOk answer (λ none. none ≡ n) → IfErr answer (λ some. some ≡ n) → result.1.name ≡ n }
+    ensures read { IsTrue result.0 ↔ (result.1.count ≡ 0) }
+{
+    match answer {
+        Ok(none) => (true, none.reading()),
+        Err(some) => (false, some.reading()),
     }
 }
 

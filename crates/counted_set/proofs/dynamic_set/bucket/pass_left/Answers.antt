@@ -2,77 +2,52 @@ use Rattle.std.proofs.Common.{◌≡◌, refl}
 use Rattle.std.proofs.lemmas.Bool.{false≢true}
 use Rattle.std.specs.Prelude.{Some}
 use Rattle.counted_set.specs.Chain.{Linked}
-use Rattle.counted_set.proofs.Passes.{all_first, all_kept, all_out, not_wanted, on_added, on_died, on_full, on_gone, on_stays}
-use Rattle.counted_set.proofs.Quiet.{all_left, goes_alike, goes_dying, goes_quiet, hash_follows, met_is, some_dying}
+use Rattle.counted_set.proofs.Passes.{all_first, all_kept, all_out, died_where_unanswered, not_wanted, on_answered, on_died, on_gone, on_stays}
+use Rattle.counted_set.proofs.Quiet.{goes_past, hash_follows}
 use Rattle.counted_set.proofs.dynamic_set.bucket.pass_left.Goals as goal
 
-pub returns-in-Added : goal.returns-in-Added
-returns-in-Added g c =
-    let next = c.in-Some.ensures in
-    c.loop-entry.invariant.0 _ _ _
-    (on_added g.C.Counts.adds g.C.Counts.dies _ _ _ _ _ next.0 next.1 c.args.text.now c.in-Added.share (c.if-is_of.ensures.0 refl).1 c.in-Added.ensures refl _ _ c.prune_after.ensures)
+pub returns-in-Some-go_on_after : goal.returns-in-Some-go_on_after
+returns-in-Some-go_on_after g c =
+    let next = c.in-Some.ensures in let d = c.go_on_after.new.counts in let v = c.go_on_after.new.asked in let answer = c.in-Some-go_on_after.answer in
+    c.loop-entry.invariant.0 answer d v
+    (on_answered g.C.Counts.adds g.C.Counts.dies c.loop-entry.counts c.add-reply.new.self d c.loop-entry.entries v c.in-Some.entry.now c.add-reply.result c.add-reply.ensures c.args.text.now next.0 answer next.1 (c.if-is_of.ensures.0 refl).1 c.in-Some-go_on_after.ensures)
 
-pub returns-in-Full : goal.returns-in-Full
-returns-in-Full g c =
-    let next = c.in-Some.ensures in
-    c.loop-entry.invariant.0 _ _ _
-    (on_full g.C.Counts.adds g.C.Counts.dies _ _ _ _ _ next.0 next.1 c.args.text.now (c.if-is_of.ensures.0 refl).1 c.in-Full.ensures refl _ _ c.prune_after-in-Full.ensures)
-
-pub loop-entry-preserved-in-Dying : goal.loop-entry-preserved-in-Dying
-loop-entry-preserved-in-Dying g c =
-    let next = c.in-Some.ensures in
-    let P : Linked → Type 0 = λ e. e.text ≡ c.args.text.now → e.hash ≡ c.args.hash in (
+pub loop-entry-preserved-in_default-go_on_after : goal.loop-entry-preserved-in_default-go_on_after
+loop-entry-preserved-in_default-go_on_after g c =
+    let next = c.in-Some.ensures in let m = c.go_on_after.new.counts in let w = c.loop-entry.entries in let u = c.go_on_after.new.asked in let e = c.in-Some.entry.now in
+    let P : Linked → Type 0 = λ x. x.text ≡ c.args.text.now → x.hash ≡ c.args.hash in
+    let died = died_where_unanswered g.C.Counts.adds g.C.Counts.dies c.loop-entry.counts c.add-reply.new.self m w u e c.add-reply.result c.add-reply.ensures c.go_on_after.result c.in_default-go_on_after.not-Some c.go_on_after.ensures in (
       λ answer d v p. c.loop-entry.invariant.0 answer d v
-          (on_died g.C.Counts.adds g.C.Counts.dies _ _ _ _ _ next.0 next.1 c.args.text.now (c.if-is_of.ensures.0 refl).1 c.in-Dying.ensures c.take_out.ensures answer d v p),
-      all_out P _ _ _ next.0 next.1 c.take_out.ensures c.loop-entry.invariant.1,
+          (on_died g.C.Counts.adds g.C.Counts.dies c.loop-entry.counts m w u e next.0 next.1 c.args.text.now (c.if-is_of.ensures.0 refl).1 died.0 died.1 answer d v p),
+      all_out P w u e next.0 next.1 died.1 c.loop-entry.invariant.1,
     )
 
-pub loop-entry-preserved-in-Some-Dying : goal.loop-entry-preserved-in-Some-Dying
-loop-entry-preserved-in-Some-Dying g c =
-    let P : Linked → Type 0 = λ e. e.text ≡ c.args.text.now → e.hash ≡ c.args.hash in
-    let follows = hash_follows c.args.text.now c.args.hash in
-    let m = met_is g.C.Counts.dies (Some c.args.hash) _ _ _ _ _ _ c.in-Some-Dying.field-0-is c.in-Some-Dying.ensures in
-    let out = some_dying g.C.Counts.dies (Some c.args.hash) c.in-Some-Dying.field-0-0 _ _ _ _ m in (
-      λ answer d v p. c.loop-entry.invariant.0 answer d v (goes_dying g.C.Counts.adds g.C.Counts.dies (Some c.args.text.now) (Some c.args.hash) P follows _ _ _ _ c.loop-entry.invariant.1 c.in-Some-Dying.field-0-0 _ m c.take_out-in-Some-Dying.ensures answer d v p),
-      all_out P _ _ out.0 out.1 out.2 c.take_out-in-Some-Dying.ensures (all_left g.C.Counts.adds g.C.Counts.dies (Some c.args.text.now) (Some c.args.hash) P follows _ _ _ _ c.loop-entry.invariant.1 _ m),
-    )
-
-pub loop-entry-preserved-in-Some-Nothing : goal.loop-entry-preserved-in-Some-Nothing
-loop-entry-preserved-in-Some-Nothing g c =
-    let P : Linked → Type 0 = λ e. e.text ≡ c.args.text.now → e.hash ≡ c.args.hash in
-    let follows = hash_follows c.args.text.now c.args.hash in
-    let m = met_is g.C.Counts.dies (Some c.args.hash) _ _ _ _ _ _ c.in-Some-Nothing.field-0-is c.in-Some-Nothing.ensures in (
-      λ answer d v p. c.loop-entry.invariant.0 answer d v (goes_quiet g.C.Counts.adds g.C.Counts.dies (Some c.args.text.now) (Some c.args.hash) P follows _ _ _ _ c.loop-entry.invariant.1 m answer d v p),
-      all_left g.C.Counts.adds g.C.Counts.dies (Some c.args.text.now) (Some c.args.hash) P follows _ _ _ _ c.loop-entry.invariant.1 _ m,
-    )
-
-pub loop-entry-preserved-in-Some-Alike : goal.loop-entry-preserved-in-Some-Alike
-loop-entry-preserved-in-Some-Alike g c =
-    let P : Linked → Type 0 = λ e. e.text ≡ c.args.text.now → e.hash ≡ c.args.hash in
-    let follows = hash_follows c.args.text.now c.args.hash in
-    let m = met_is g.C.Counts.dies (Some c.args.hash) _ _ _ _ _ _ c.in-Some-Alike.field-0-is c.in-Some-Alike.ensures in (
-      λ answer d v p. c.loop-entry.invariant.0 answer d v (goes_alike g.C.Counts.adds g.C.Counts.dies (Some c.args.text.now) (Some c.args.hash) P follows _ _ _ _ c.loop-entry.invariant.1 c.in-Some-Alike.field-0-0 m answer d v p),
-      all_left g.C.Counts.adds g.C.Counts.dies (Some c.args.text.now) (Some c.args.hash) P follows _ _ _ _ c.loop-entry.invariant.1 _ m,
+pub loop-entry-preserved-then-not-has_hash : goal.loop-entry-preserved-then-not-has_hash
+loop-entry-preserved-then-not-has_hash g c =
+    let P : Linked → Type 0 = λ x. x.text ≡ c.args.text.now → x.hash ≡ c.args.hash in
+    let past = goes_past g.C.Counts.adds g.C.Counts.dies (Some c.args.text.now) (Some c.args.hash) P (hash_follows c.args.text.now c.args.hash) c.loop-entry.counts c.pass_others.new.counts c.loop-entry.entries c.pass_others.new.entries c.loop-entry.invariant.1 c.pass_others.ensures in (
+      λ answer d v p. c.loop-entry.invariant.0 answer d v (past.0 answer d v p),
+      past.1,
     )
 
 pub loop-entry-preserved-then-dying : goal.loop-entry-preserved-then-dying
 loop-entry-preserved-then-dying g c =
-    let next = c.in-Some.ensures in
-    let P : Linked → Type 0 = λ e. e.text ≡ c.args.text.now → e.hash ≡ c.args.hash in
+    let next = c.in-Some.ensures in let w = c.loop-entry.entries in let u = c.take_out.new.self in let e = c.in-Some.entry.now in
+    let P : Linked → Type 0 = λ x. x.text ≡ c.args.text.now → x.hash ≡ c.args.hash in
     let all = c.loop-entry.invariant.1 in
-    let other = not_wanted c.args.text.now c.args.hash c.in-Some.entry.now (all_first P c.loop-entry.entries c.in-Some.entry.now next.0 next.1 all) (λ is. false≢true (c.if-is_of.ensures.1 is)) in (
+    let other = not_wanted c.args.text.now c.args.hash e (all_first P w e next.0 next.1 all) (λ is. false≢true (c.if-is_of.ensures.1 is)) in (
       λ answer d v p. c.loop-entry.invariant.0 answer d v
-          (on_gone g.C.Counts.adds g.C.Counts.dies _ _ _ _ _ next.0 next.1 (Some c.args.text.now) other c.if-dying.ensures c.take_out-then-dying.ensures answer d v p),
-      all_out P _ _ _ next.0 next.1 c.take_out-then-dying.ensures all,
+          (on_gone g.C.Counts.adds g.C.Counts.dies c.loop-entry.counts _ w u e next.0 next.1 (Some c.args.text.now) other c.if-dying.ensures c.take_out.ensures answer d v p),
+      all_out P w u e next.0 next.1 c.take_out.ensures all,
     )
 
 pub loop-entry-preserved : goal.loop-entry-preserved
 loop-entry-preserved g c =
-    let next = c.in-Some.ensures in
-    let P : Linked → Type 0 = λ e. e.text ≡ c.args.text.now → e.hash ≡ c.args.hash in
+    let next = c.in-Some.ensures in let w = c.loop-entry.entries in let u = c.keep.new.self in let e = c.in-Some.entry.now in
+    let P : Linked → Type 0 = λ x. x.text ≡ c.args.text.now → x.hash ≡ c.args.hash in
     let all = c.loop-entry.invariant.1 in
-    let other = not_wanted c.args.text.now c.args.hash c.in-Some.entry.now (all_first P c.loop-entry.entries c.in-Some.entry.now next.0 next.1 all) (λ is. false≢true (c.if-is_of.ensures.1 is)) in (
+    let other = not_wanted c.args.text.now c.args.hash e (all_first P w e next.0 next.1 all) (λ is. false≢true (c.if-is_of.ensures.1 is)) in (
       λ answer d v p. c.loop-entry.invariant.0 answer d v
-          (on_stays g.C.Counts.adds g.C.Counts.dies _ _ _ _ _ next.0 next.1 (Some c.args.text.now) other c.if-dying.ensures c.keep.ensures answer d v p),
-      all_kept P _ _ _ next.0 next.1 c.keep.ensures all,
+          (on_stays g.C.Counts.adds g.C.Counts.dies c.loop-entry.counts _ w u e next.0 next.1 (Some c.args.text.now) other c.if-dying.ensures c.keep.ensures answer d v p),
+      all_kept P w u e next.0 next.1 c.keep.ensures all,
     )
