@@ -2,7 +2,7 @@
 use Rattle.std.proofs.Common.{◌≡◌, ℕ, suc, List, [], ◌∷◌, ◌++◌, length, map, take, slice_index_or, refl, ap, sym, ◌∙◌, subst}
 use Rattle.std.specs.List.{AllByRecursion}
 use Rattle.counted_cell.specs.declared.cell_log.CellLog.{CellLog}
-use Rattle.named_set.specs.Names.{IsEmpty}
+use Rattle.named_set.specs.Names.{AreFirst, IsEmpty}
 
 abbrev name_of : CellLog → ℕ
 name_of l = l.name
@@ -20,13 +20,13 @@ each_front : (xs : List CellLog) (x : CellLog) → AllByRecursion IsEmpty (xs ++
 each_front [] x all = (tt, all.0)
 each_front (y ∷ xs) x all = (let rest = each_front xs x all.1 in ((all.0, rest.0), rest.1))
 
--- without the last row
-pub popped : (ys xs : List CellLog) (x : CellLog) (rows : List ℕ) → ys ≡ xs ++ x ∷ [] → map (λ (l : CellLog). l.name) ys ≡ take (length ys) rows → AllByRecursion IsEmpty ys
-    → (map (λ (l : CellLog). l.name) xs ≡ take (length xs) rows) × (x.name ≡ slice_index_or rows (length xs) 0) × AllByRecursion IsEmpty xs × IsEmpty x
-popped ys xs x rows is names all =
-    let a = last_of xs x rows (subst (λ (zs : List CellLog). map name_of zs ≡ take (length zs) rows) is names) in
-    let b = each_front xs x (subst (λ (zs : List CellLog). AllByRecursion IsEmpty zs) is all) in
-    (a.0, a.1, b.0, b.1)
+-- without the last log
+pub popped : (ys xs : List CellLog) (x : CellLog) (names : List ℕ) → ys ≡ xs ++ x ∷ [] → AreFirst names ys → AreFirst names xs × (x.name ≡ slice_index_or names (length xs) 0) × IsEmpty x
+popped ys xs x names is first =
+    let all = subst (λ (zs : List CellLog). AreFirst names zs) is first in
+    let a = last_of xs x names all.named in
+    let b = each_front xs x all.empty in
+    (record { named = a.0; empty = b.0 }, a.1, b.1)
 
 take_all : (xs : List ℕ) → xs ≡ take (length xs) xs
 take_all [] = refl
@@ -37,7 +37,7 @@ length_names [] = refl
 length_names (x ∷ xs) = ap suc (length_names xs)
 
 -- at first all are there
-pub all_names : (xs : List CellLog) (rows : List ℕ) → rows ≡ map (λ (l : CellLog). l.name) xs → (map (λ (l : CellLog). l.name) xs ≡ take (length xs) rows) × (length rows ≡ length xs)
-all_names xs rows is =
-    let n : length rows ≡ length xs = ap length is ∙ length_names xs in
-    (sym is ∙ (take_all rows ∙ ap (λ (k : ℕ). take k rows) n), n)
+pub all_names : (xs : List CellLog) (names : List ℕ) → names ≡ map (λ (l : CellLog). l.name) xs → AllByRecursion IsEmpty xs → AreFirst names xs × (length names ≡ length xs)
+all_names xs names is empty =
+    let n : length names ≡ length xs = ap length is ∙ length_names xs in
+    (record { named = sym is ∙ (take_all names ∙ ap (λ (k : ℕ). take k names) n); empty = empty }, n)

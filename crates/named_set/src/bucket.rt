@@ -4,14 +4,16 @@ ghost use Rattle.std.specs.Prelude.{◌≡◌, ◌+◌, ◌<◌, ◌≤◌, ℕ,
 ghost use Rattle.text_forms.specs.Faults.{IsInternFault};
 ghost use Rattle.text_forms.specs.Layout.{most_buckets};
 ghost use Rattle.text_forms.specs.Tables.{bucket_of, entry_hash};
+ghost use Rattle.text_forms.specs.Word.{IsTicket, ticket_of};
 ghost use Rattle.text_forms.specs.declared.faults.Fault.TheVariants.{FullCount};
 ghost use Rattle.counted_cell.specs.Cell.{Cell};
+ghost use Rattle.counted_cell.specs.Reply.{IsReply};
 ghost use Rattle.named_set.specs.Logged.{FoundAt, IsNew, IsSeen, LinksNoMore};
 ghost use Rattle.named_set.specs.Names.{IsEmpty};
 
 use crate::name::SetName;
 use counted_cell::{CellLog, CellShare, Label, LogSeen, NoShares, Owner, ShareReply};
-use std::alloc::Global;
+use std::alloc::{AllocError, Global};
 use std::marker::{Model, PhantomData};
 use std::mem::size_of;
 use std::sync::Wait;
@@ -205,7 +207,24 @@ impl<Static: StaticTables, N: SetName> Bucket<Static, N> {
         if let Some(share) = owner.try_add() {
             return Ok(Some((share, self.seen())));
         }
-        match owner.add(rt) {
+        let reply = owner.add(rt);
+        self.share_by(at, reply)
+    }
+
+    // The same, by a reply of the cell that is linked there.
+    fn share_by(
+        &mut self,
+        at: usize,
+        reply: ShareReply,
+    ) -> Result<Option<(CellShare, LogSeen)>, Fault>
+        requires { (c : Cell) × (slice_get self.old.linked at ≡ Some c) × IsReply c reply }
+        ensures cell { IfOk result (λ found. IfSome found (λ made. slice_get self.old.linked at ≡ Some made.0.cell)) }
+        ensures seen { IfOk result (λ found. IfSome found (λ made. IsSeen Static.tables N.logs made.1 made.0.cell)) }
+        ensures one { IfOk result (λ found. found ≡ None → length self.new.linked + 1 ≡ length self.old.linked) }
+        ensures same { self.new.number ≡ self.old.number }
+        ensures refused { IfErr result (λ fault. fault ≡ FullCount) }
+    {
+        match reply {
             ShareReply::Added(share, _) => Ok(Some((share, self.seen()))),
             ShareReply::Full(_) => Err(Fault::FullCount),
             ShareReply::Dying(no_shares) => {
@@ -265,16 +284,34 @@ impl<Static: StaticTables, N: SetName> Bucket<Static, N> {
         }
         self.owners.reserve(1)?;
         let serial = self.last + 1;
-        let label = Label {
-            hash,
-            ticket: ticket_word(serial, self.number),
-            limit: limits.holders(),
-        };
-        let (owner, share) = Owner::new(self.alloc, label, 0, text)?;
+        let (owner, share) = new_cell(self.alloc, serial, self.number, text, hash, limits)?;
         share.enter(&mut self.log);
         self.owners.push_reserved(owner);
         self.last = serial;
-        let seen = self.log.seen();
+        let seen = self.seen();
         Ok((share, seen))
     }
+}
+
+// A cell of this text and its hash, which has the ticket of this serial in the bucket of this number, and its first share.
+fn new_cell(
+    alloc: Global,
+    serial: u64,
+    number: u16,
+    text: &str,
+    hash: u64,
+    limits: &Limits,
+) -> Result<(Owner<Global>, CellShare), AllocError>
+    requires { IsTicket serial number }
+    ensures text { IfOk result (λ made. made.0.text ≡ text.now) }
+    ensures hash { IfOk result (λ made. made.0.label.hash ≡ hash) }
+    ensures ticket { IfOk result (λ made. made.0.label.ticket ≡ ticket_of serial number) }
+    ensures share { IfOk result (λ made. made.1.cell ≡ made.0) }
+{
+    let label = Label {
+        hash,
+        ticket: ticket_word(serial, number),
+        limit: limits.holders(),
+    };
+    Owner::new(alloc, label, 0, text)
 }

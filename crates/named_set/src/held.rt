@@ -97,7 +97,6 @@ impl<'s, Static: StaticTables, N: SetName> HeldCell<'s, Static, N> {
 
     /// A law: two that are held have one word exactly if they have one text. It does nothing when it runs.
     #[inline]
-    #[tactic(auto, using(crate::proofs::Agreeing::words_agree))]
     pub fn agree<'t>(&self, other: &HeldCell<'t, Static, N>)
         ensures { AreOneToOne self.now.word other.now.word self.now.text other.now.text }
     {

@@ -1,15 +1,19 @@
 //! The set: buckets behind locks.
 
-ghost use Rattle.std.specs.Prelude.{◌≡◌, length, IfErr, IfOk, IfSome};
+ghost use Rattle.std.specs.Prelude.{◌≡◌, ◌+◌, ◌^◌, ◌≤◌, length, map, vec_len, IfErr, IfOk, IfSome, None};
+ghost use Rattle.std.specs.List.{AllByRecursion};
 ghost use Rattle.text_forms.specs.Faults.{IsInternFault};
+ghost use Rattle.text_forms.specs.Layout.{most_buckets};
 ghost use Rattle.text_forms.specs.Tables.{entry_hash};
 ghost use Rattle.text_forms.specs.declared.faults.Fault.TheVariants.{FullCount, Memory};
+ghost use Rattle.named_set.specs.Logged.{IsSeen};
+ghost use Rattle.named_set.specs.Names.{AreFirst, IsEmpty};
 ghost use Rattle.named_set.specs.Words.{IsTicketOf};
 
 use crate::bucket::Bucket;
 use crate::held::Held;
 use crate::name::{FreshName, SetName};
-use counted_cell::{CellShare, Receipt};
+use counted_cell::{CellLog, CellShare, LogSeen, Receipt};
 use std::alloc::Global;
 use std::marker::Model;
 use std::mem::size_of;
@@ -41,25 +45,52 @@ impl<Static: StaticTables, N: SetName> Model for NamedSet<Static, N> {
 
 impl<Static: StaticTables, N: SetName> NamedSet<Static, N> {
     /// The set with this name, without texts. It spends the name, so that the name has no other set. It is refused for `Memory` alone.
-    #[tactic(auto, using(crate::proofs::Opening::popped, crate::proofs::Opening::all_names))]
     pub fn new(alloc: Global, name: FreshName, limits: Limits) -> Result<Self, Fault>
         requires { N.logs ≡ name.logs }
         ensures limits { IfOk result (λ set. set.limits ≡ limits) }
         ensures bits { IfOk result (λ set. set.bits ≡ name.bits) }
         ensures refused { IfErr result (λ fault. fault ≡ Memory) }
     {
-        let FreshName { mut logs, count } = name;
-        let mut buckets = Vec::with_capacity(alloc, count.number())?;
-        while let Some(log) = logs.pop() {
-            buckets.push(Mutex::new(Bucket::new(alloc, logs.len() as u16, log)))?;
-        }
-        buckets.reverse();
+        let FreshName { logs, count } = name;
+        let buckets = Self::buckets_of(alloc, logs, count)?;
         Ok(NamedSet {
             buckets,
             count,
             limits,
             alloc,
         })
+    }
+
+    // A bucket for each of the name's logs, in their order, behind a lock of its own. It is refused for `Memory` alone.
+    fn buckets_of(
+        alloc: Global,
+        mut logs: Vec<CellLog>,
+        count: Buckets,
+    ) -> Result<Vec<Mutex<Bucket<Static, N>>>, Fault>
+        requires names { N.logs ≡ map (λ l. l.name) logs.items }
+        requires empty { AllByRecursion IsEmpty logs.items }
+        requires number { vec_len logs ≡ 2 ^ count }
+        ensures number { IfOk result (λ buckets. (vec_len buckets ≡ vec_len logs) × (length N.logs ≡ vec_len logs)) }
+        ensures refused { IfErr result (λ fault. fault ≡ Memory) }
+    {
+        let mut buckets = Vec::with_capacity(alloc, count.number())?;
+        while let Some(bucket) = Self::last_bucket(alloc, &mut logs) {
+            buckets.push(Mutex::new(bucket))?;
+        }
+        buckets.reverse();
+        Ok(buckets)
+    }
+
+    // The bucket of the last log, which is taken off the logs.
+    fn last_bucket(alloc: Global, logs: &mut Vec<CellLog>) -> Option<Bucket<Static, N>>
+        requires first { AreFirst N.logs logs.old.items }
+        requires few { vec_len logs.old ≤ most_buckets }
+        ensures first { AreFirst N.logs logs.new.items }
+        ensures one { IfSome result (λ _. vec_len logs.new + 1 ≡ vec_len logs.old) }
+        ensures none { result ≡ None → vec_len logs.old ≡ 0 }
+    {
+        let log = logs.pop()?;
+        Some(Bucket::new(alloc, logs.len() as u16, log))
     }
 
     /// The limits of its words' holders and of its buckets' serials.
@@ -135,15 +166,30 @@ impl<Static: StaticTables, N: SetName> NamedSet<Static, N> {
         ensures ticket { IfOk result (λ found. IfSome found (λ held. IsTicketOf Static.tables (length N.logs) held.text held.word)) }
         ensures refused { IfErr result (λ fault. fault ≡ FullCount) }
     {
+        match self.find_share(rt, text, hash)? {
+            Some((share, seen)) => Ok(Some(Held::new(share, seen, self))),
+            None => Ok(None),
+        }
+    }
+
+    /// The same, without its set: a share of the text's cell, and what was seen of the log.
+    fn find_share<R: Wait>(
+        &self,
+        rt: &R,
+        text: &str,
+        hash: u64,
+    ) -> Result<Option<(CellShare, LogSeen)>, Fault>
+        requires { hash ≡ entry_hash Static.tables text.now }
+        ensures text { IfOk result (λ found. IfSome found (λ made. made.0.cell.text ≡ text.now)) }
+        ensures seen { IfOk result (λ found. IfSome found (λ made. IsSeen Static.tables N.logs made.1 made.0.cell)) }
+        ensures refused { IfErr result (λ fault. fault ≡ FullCount) }
+    {
         let number = self.count.bucket_of(hash);
         let mut bucket = self.buckets[usize::from(number)].lock(rt);
         if bucket.number() != number {
             return Ok(None);
         }
-        match bucket.find(rt, text, hash)? {
-            Some((share, seen)) => Ok(Some(Held::new(share, seen, self))),
-            None => Ok(None),
-        }
+        bucket.find(rt, text, hash)
     }
 
     /// Takes each bucket once, from the first to the last: cells without shares go.

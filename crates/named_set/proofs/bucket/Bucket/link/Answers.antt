@@ -1,11 +1,10 @@
-use Rattle.std.proofs.Common.{◌≡◌, ◌∙◌, ap, sym, subst, arith, ℕ, [], ◌∷◌, ◌+◌, length, slice_index_or, length-append}
+use Rattle.std.proofs.Common.{◌≡◌, ◌∙◌, ap, sym, subst, arith, ℕ, [], ◌∷◌, ◌+◌, length, length-append}
 use Rattle.text_forms.specs.Tables.{bucket_of, entry_hash}
 use Rattle.text_forms.specs.Word.{IsTicket, ticket_of}
-use Rattle.counted_cell.specs.Cell.{Cell}
 use Rattle.counted_cell.specs.CellEntry.{entry_of}
-use Rattle.named_set.specs.Logged.{IsLogged, IsNew, IsOf, Kept}
-use Rattle.named_set.proofs.Keeping.{kept_with, logged_last}
-use Rattle.named_set.proofs.Rows.{each_snoc}
+use Rattle.named_set.specs.Logged.{IsNew, IsOf, Kept}
+use Rattle.named_set.proofs.Keeping.{kept_with}
+use Rattle.named_set.proofs.Rows.{each_snoc, snoc_get}
 use Rattle.named_set.proofs.bucket.Bucket.link.Goals as goal
 
 pub invariant_of-self-2 : goal.invariant_of-self-2
@@ -20,46 +19,23 @@ invariant_of-self-2 g c =
     let cell = c.in_ok-owner.owner in
     let none : IsNew c.args.text.now linked = subst (λ (s : Kept). IsNew c.args.text.now s.linked) (sym c.self.view_is) c.requires.new in
     let here : bucket_of T (length logs) c.args.text.now ≡ inside.number = subst (λ (s : Kept). bucket_of T (length logs) c.args.text.now ≡ s.number) (sym c.self.view_is) c.requires.here in
-    let e = c.seen-seen.ensures in
     let n = c.enter.ensures in
     let o = c.in_ok-owner.ensures in
     let below = c.if-self-serials.false in
     let range = c.serials.ensures.range in
     let given : IsTicket (length entries + 1) inside.number = (omega arith, omega (arith, inv.1, below, range.1), inv.2) in
-    let ticket : cell.label.ticket ≡ ticket_of (length entries + 1) inside.number = ap (λ l. l.ticket) o.owner.0 ∙ (c.ticket_word.ensures ∙ ap (λ (k : ℕ). ticket_of (k + 1) inside.number) inv.1) in
-    let hash : cell.label.hash ≡ entry_hash T cell.text = ap (λ l. l.hash) o.owner.0 ∙ (c.requires.hash ∙ ap (entry_hash T) (sym o.owner.2)) in
-    let kept = kept_with inside.number linked entries gone cell c.args.text.now inv.3 none o.owner.2 given ticket in (
-      e.0 ∙ (n.0 ∙ inv.0),
-      omega (arith, inv.1, ap length (e.1 ∙ n.1), length-append entries (entry_of c.in_ok-owner.share.cell ∷ [])),
+    let ticket : cell.label.ticket ≡ ticket_of (length entries + 1) inside.number = o.ticket ∙ ap (λ (k : ℕ). ticket_of (k + 1) inside.number) inv.1 in
+    let hash : cell.label.hash ≡ entry_hash T cell.text = o.hash ∙ (c.requires.hash ∙ ap (entry_hash T) (sym o.text)) in
+    let kept = kept_with inside.number linked entries gone cell c.args.text.now inv.3 none o.text given ticket in (
+      n.0 ∙ inv.0,
+      omega (arith, inv.1, ap length n.1, length-append entries (entry_of c.in_ok-owner.share.cell ∷ [])),
       inv.2,
-      rw (c.push_reserved.ensures.items, c.reserve.ensures.items, e.1, e.2, n.1, n.2, o.share) kept,
-      rw (c.push_reserved.ensures.items, c.reserve.ensures.items) (each_snoc (IsOf T (length logs) inside.number) linked cell inv.4 (record { hash = hash; bucket = ap (bucket_of T (length logs)) o.owner.2 ∙ here })),
+      rw (c.push_reserved.ensures.items, c.reserve.ensures.items, n.1, n.2, o.share) kept,
+      rw (c.push_reserved.ensures.items, c.reserve.ensures.items) (each_snoc (IsOf T (length logs) inside.number) linked cell inv.4 (record { hash = hash; bucket = ap (bucket_of T (length logs)) o.text ∙ here })),
     )
 
 pub returns-clause-seen : goal.returns-clause-seen
 returns-clause-seen g c =
-    let T = g.Static.StaticTables.tables in
-    let logs = g.N.SetName.logs in
-    let inv = c.self.invariant in
-    let inside = c.self.inside in
-    let linked = inside.owners.items in
-    let entries = inside.log.entries in
-    let gone = inside.log.gone in
-    let cell = c.in_ok-owner.owner in
-    let none : IsNew c.args.text.now linked = subst (λ (s : Kept). IsNew c.args.text.now s.linked) (sym c.self.view_is) c.requires.new in
-    let here : bucket_of T (length logs) c.args.text.now ≡ inside.number = subst (λ (s : Kept). bucket_of T (length logs) c.args.text.now ≡ s.number) (sym c.self.view_is) c.requires.here in
-    let e = c.seen-seen.ensures in
-    let n = c.enter.ensures in
-    let o = c.in_ok-owner.ensures in
-    let below = c.if-self-serials.false in
-    let range = c.serials.ensures.range in
-    let given : IsTicket (length entries + 1) inside.number = (omega arith, omega (arith, inv.1, below, range.1), inv.2) in
-    let ticket : cell.label.ticket ≡ ticket_of (length entries + 1) inside.number = ap (λ l. l.ticket) o.owner.0 ∙ (c.ticket_word.ensures ∙ ap (λ (k : ℕ). ticket_of (k + 1) inside.number) inv.1) in
-    let text : c.in_ok-owner.share.cell.text ≡ c.args.text.now = ap (λ (x : Cell). x.text) o.share ∙ o.owner.2 in
-    let number : bucket_of T (length logs) c.in_ok-owner.share.cell.text ≡ inside.number = ap (bucket_of T (length logs)) text ∙ here in
-    record {
-      hash = ap (λ (x : Cell). x.label.hash) o.share ∙ (ap (λ l. l.hash) o.owner.0 ∙ (c.requires.hash ∙ ap (entry_hash T) (sym text)));
-      named = e.3 ∙ (n.0 ∙ (inv.0 ∙ ap (λ (k : ℕ). slice_index_or logs k 0) (sym number)));
-      logged = subst (λ (k : ℕ). IsLogged k c.seen-seen.result.entries c.seen-seen.result.gone c.in_ok-owner.share.cell) (sym number)
-          (rw (e.4, e.5, n.1, n.2, o.share) (logged_last inside.number linked entries gone cell c.args.text.now inv.3 none o.owner.2 given ticket));
-    }
+    let linked = c.self.inside.owners.items in
+    let made = c.in_ok-owner.ensures in
+    c.seen-seen.ensures.seen (length linked) c.in_ok-owner.share.cell (rw (c.push_reserved.ensures.items, c.reserve.ensures.items, made.share) (snoc_get linked c.in_ok-owner.owner))
