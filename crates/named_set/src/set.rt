@@ -6,14 +6,13 @@ ghost use Rattle.text_forms.specs.Faults.{IsInternFault};
 ghost use Rattle.text_forms.specs.Layout.{most_buckets};
 ghost use Rattle.text_forms.specs.Tables.{entry_hash};
 ghost use Rattle.text_forms.specs.declared.faults.Fault.TheVariants.{FullCount, Memory};
-ghost use Rattle.named_set.specs.Logged.{IsSeen};
 ghost use Rattle.named_set.specs.Names.{AreFirst, IsEmpty};
 ghost use Rattle.named_set.specs.Words.{IsTicketOf};
 
 use crate::bucket::Bucket;
 use crate::held::Held;
 use crate::name::{FreshName, SetName};
-use counted_cell::{CellLog, CellShare, LogSeen, Receipt};
+use counted_cell::{CellLog, CellShare, Receipt};
 use std::alloc::Global;
 use std::marker::Model;
 use std::mem::size_of;
@@ -166,30 +165,15 @@ impl<Static: StaticTables, N: SetName> NamedSet<Static, N> {
         ensures ticket { IfOk result (λ found. IfSome found (λ held. IsTicketOf Static.tables (length N.logs) held.text held.word)) }
         ensures refused { IfErr result (λ fault. fault ≡ FullCount) }
     {
-        match self.find_share(rt, text, hash)? {
-            Some((share, seen)) => Ok(Some(Held::new(share, seen, self))),
-            None => Ok(None),
-        }
-    }
-
-    /// The same, without its set: a share of the text's cell, and what was seen of the log.
-    fn find_share<R: Wait>(
-        &self,
-        rt: &R,
-        text: &str,
-        hash: u64,
-    ) -> Result<Option<(CellShare, LogSeen)>, Fault>
-        requires { hash ≡ entry_hash Static.tables text.now }
-        ensures text { IfOk result (λ found. IfSome found (λ made. made.0.cell.text ≡ text.now)) }
-        ensures seen { IfOk result (λ found. IfSome found (λ made. IsSeen Static.tables N.logs made.1 made.0.cell)) }
-        ensures refused { IfErr result (λ fault. fault ≡ FullCount) }
-    {
         let number = self.count.bucket_of(hash);
         let mut bucket = self.buckets[usize::from(number)].lock(rt);
         if bucket.number() != number {
             return Ok(None);
         }
-        bucket.find(rt, text, hash)
+        match bucket.find(rt, text, hash)? {
+            Some((share, seen)) => Ok(Some(Held::new(share, seen, self))),
+            None => Ok(None),
+        }
     }
 
     /// Takes each bucket once, from the first to the last: cells without shares go.
