@@ -1,5 +1,6 @@
 //! What no contract says: lists that are placed, and texts that come from outside.
 
+use crate::texts::is_printed_as;
 use std::alloc::{AllocError, Global};
 use string_cache_core::Fault;
 use string_cache_core::phf::{Hashes, hash};
@@ -58,11 +59,17 @@ fn are_of_sentence(tables: &Tables, number: u64) -> bool {
         && tables.hashes.as_slice() == [number].as_slice()
 }
 
+/// The table text of "sentence".
+fn text_of_sentence(alloc: Global, number: u64) -> Result<String, AllocError> {
+    format!(in alloc; "key 0\ndisp 0 0\natom {number:016x} sentence\n")
+}
+
 /// Whether the tables of "sentence" print so.
-fn print_as(alloc: Global, tables: &Tables, number: u64) -> Result<bool, AllocError> {
-    let printed = format!(in alloc; "{tables}")?;
-    let wanted = format!(in alloc; "key 0\ndisp 0 0\natom {number:016x} sentence\n")?;
-    Ok(printed.as_str() == wanted.as_str())
+fn print_as(alloc: Global, tables: &Tables, number: u64) -> bool {
+    match text_of_sentence(alloc, number) {
+        Ok(wanted) => is_printed_as(alloc, tables, wanted.as_str()),
+        Err(_) => false,
+    }
 }
 
 #[test]
@@ -71,7 +78,7 @@ fn one_text(rt: HostRuntime) {
     let number = u64::from(hashes.g) << 32 | u64::from(hashes.f1);
     let tables = tables_of(rt.alloc(), &["sentence"], 0, 1).expect(&rt, "tables");
     assert!(rt; are_of_sentence(&tables, number));
-    assert!(rt; print_as(rt.alloc(), &tables, number) == Ok(true));
+    assert!(rt; print_as(rt.alloc(), &tables, number));
     assert!(rt; are_checked(rt.alloc(), &tables) == Ok(true));
 }
 
@@ -102,33 +109,46 @@ fn is_refused(alloc: Global, list: &[&str], bound: u32, fault: GenFault) -> bool
     tables_of(alloc, list, 0, bound).err() == Some(fault)
 }
 
-/// Whether the fault is printed so.
-fn tells(alloc: Global, fault: GenFault, text: &str) -> Result<bool, AllocError> {
-    Ok(format!(in alloc; "{fault}")?.as_str() == text)
-}
-
 #[test]
 fn refused_lists(rt: HostRuntime) {
     for (list, bound, fault) in &REFUSED {
         assert!(rt; is_refused(rt.alloc(), list, *bound, *fault), "of {list:?}");
     }
     for (fault, text) in &FAULTS {
-        assert!(rt; tells(rt.alloc(), *fault, text) == Ok(true), "of {text:?}");
+        assert!(rt; is_printed_as(rt.alloc(), fault, text), "of {text:?}");
     }
 }
 
-/// Whether the texts are refused once the one at `to` is like that at `from`.
+/// The text at a place, where that at `to` is like that at `from`.
+fn doubled_at(texts: &[String], from: usize, to: usize, at: usize) -> Option<&str> {
+    let text = texts.get(if at == to { from } else { at })?;
+    Some(text.as_str())
+}
+
+/// The texts, the one at `to` being like that at `from`.
+fn doubled(
+    alloc: Global,
+    texts: &[String],
+    from: usize,
+    to: usize,
+) -> Result<Vec<&str>, AllocError> {
+    let mut list = Vec::new(alloc);
+    for at in 0..texts.len() {
+        if let Some(text) = doubled_at(texts, from, to, at) {
+            list.push(text)?;
+        }
+    }
+    Ok(list)
+}
+
+/// Whether these are refused.
 fn is_double_refused(
     alloc: Global,
     texts: &[String],
     from: usize,
     to: usize,
 ) -> Result<bool, AllocError> {
-    let mut list = Vec::new(alloc);
-    for (i, text) in texts.iter().enumerate() {
-        let twice = if i == to { texts.get(from) } else { None };
-        list.push(twice.unwrap_or(text).as_str())?;
-    }
+    let list = doubled(alloc, texts, from, to)?;
     Ok(is_refused(alloc, &list, 1024, GenFault::Doubled))
 }
 

@@ -20,4 +20,6 @@ mod steps;
 #[cfg(test)]
 mod table;
 #[cfg(test)]
+mod texts;
+#[cfg(test)]
 mod words;

@@ -1,5 +1,7 @@
 //! How many bytes a table takes. `gate/refused.py` holds the same numbers to those that an allocator is asked for.
 
+use crate::rows::{releases, reserves};
+use crate::texts::numbered_text;
 use std::alloc::Global;
 use std::process::Abort;
 use string_cache_core::static_sets::EmptyStaticAtomSet;
@@ -30,10 +32,14 @@ fn interns(table: &mut Plain, text: &str) -> bool {
     table.intern(text).is_ok()
 }
 
+fn word_of(table: &Plain, text: &str) -> Option<u64> {
+    table.get(text)
+}
+
 /// Whether the text has a word, of which a holder goes.
 fn loses(table: &mut Plain, text: &str) -> bool {
-    match table.get(text) {
-        Some(word) => table.release(word),
+    match word_of(table, text) {
+        Some(word) => releases(table, word),
         None => false,
     }
 }
@@ -48,15 +54,13 @@ fn are_interned(table: &mut Plain, texts: &str) -> bool {
     true
 }
 
-/// A text of 15 bytes.
-fn numbered_text(rt: &impl Abort, alloc: Global, number: usize) -> String {
-    format!(in alloc; "the text {number:06}").expect(rt, "a text")
-}
+/// Ten bytes, with which a numbered text has 15.
+const TEXT: &str = "the text 0";
 
 /// Whether as many texts are interned.
 fn interns_numbered(rt: &impl Abort, alloc: Global, table: &mut Plain, number: usize) -> bool {
     for n in 0..number {
-        if !interns(table, &numbered_text(rt, alloc, n)) {
+        if !interns(table, &numbered_text(rt, alloc, TEXT, n)) {
             return false;
         }
     }
@@ -66,7 +70,7 @@ fn interns_numbered(rt: &impl Abort, alloc: Global, table: &mut Plain, number: u
 /// Whether as many texts are held, and let go.
 fn loses_numbered(rt: &impl Abort, alloc: Global, table: &mut Plain, number: usize) -> bool {
     for n in 0..number {
-        if !loses(table, &numbered_text(rt, alloc, n)) {
+        if !loses(table, &numbered_text(rt, alloc, TEXT, n)) {
             return false;
         }
     }
@@ -186,7 +190,7 @@ fn memory_of_room(rt: HostRuntime) {
 /// Whether a table with a text takes so many bytes once it has room for as many more, and so many once the text is gone.
 fn takes_with_room(table: &mut Plain, number: usize, filled: u128, empty: u128) -> bool {
     interns(table, "interned")
-        && table.reserve(number) == Ok(())
+        && reserves(table, number, Ok(()))
         && takes(table, filled)
         && loses(table, "interned")
         && takes(table, empty)
@@ -219,23 +223,26 @@ fn loses_name(names: &mut Names<Files>, text: &str) -> bool {
 /// Whether as many texts have a name, and lose it.
 fn loses_names(rt: &impl Abort, alloc: Global, names: &mut Names<Files>, number: usize) -> bool {
     for n in 0..number {
-        if !loses_name(names, &numbered_text(rt, alloc, n)) {
+        if !loses_name(names, &numbered_text(rt, alloc, TEXT, n)) {
             return false;
         }
     }
     true
 }
 
-/// Whether names of as many texts take so many bytes once all are gone, and one that comes then its own beside.
+/// Whether names take so many bytes, and one that comes then its own beside.
+fn names_take(names: &mut Names<Files>, bytes: u128) -> bool {
+    takes(names.table(), bytes)
+        && names.intern("tokenised").is_ok()
+        && takes(names.table(), bytes.saturating_add(9))
+}
+
+/// Whether names of as many texts take so many bytes once all are gone, and with one that comes then.
 fn names_keep_room(rt: &impl Abort, alloc: Global, number: usize, empty: u128) -> bool {
     let mut table = one_bucket(rt, alloc);
     let is_right = interns_numbered(rt, alloc, &mut table, number);
     let mut names = Names::of_table(table);
-    is_right
-        && loses_names(rt, alloc, &mut names, number)
-        && takes(names.table(), empty)
-        && names.intern("tokenised").is_ok()
-        && takes(names.table(), empty.saturating_add(9))
+    is_right && loses_names(rt, alloc, &mut names, number) && names_take(&mut names, empty)
 }
 
 #[test]

@@ -124,7 +124,7 @@ pub fn releases<S: StaticAtomSet>(table: &mut Table<S>, word: u64) -> bool {
     table.release(word)
 }
 
-fn reserves<S: StaticAtomSet>(
+pub fn reserves<S: StaticAtomSet>(
     table: &mut Table<S>,
     number: usize,
     wanted: Result<(), Fault>,

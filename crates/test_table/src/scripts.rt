@@ -1,7 +1,8 @@
 //! Lines that are of the grammar, and lines that aren't; scripts of many steps, and what a fault prints.
 
+use crate::texts::is_printed_as;
 use replay_script::{ScriptFault, next_line, replay_text};
-use std::alloc::{AllocError, Global};
+use std::alloc::Global;
 
 /// As `replay_text`. Where memory was refused, the call is made once more.
 fn replayed(alloc: Global, script: &str) -> Result<String, ScriptFault> {
@@ -200,14 +201,9 @@ fn lines_one_by_one(rt: HostRuntime) {
     assert!(rt; next_line("").is_none());
 }
 
-/// Whether the fault is printed so.
-fn tells(alloc: Global, fault: ScriptFault, text: &str) -> Result<bool, AllocError> {
-    Ok(format!(in alloc; "{fault}")?.as_str() == text)
-}
-
 #[test]
 fn printed_faults(rt: HostRuntime) {
     let bad = ScriptFault::NotAStep(12);
-    assert!(rt; tells(rt.alloc(), bad, "line 12: not a step") == Ok(true));
-    assert!(rt; tells(rt.alloc(), ScriptFault::Memory, "no memory") == Ok(true));
+    assert!(rt; is_printed_as(rt.alloc(), &bad, "line 12: not a step"));
+    assert!(rt; is_printed_as(rt.alloc(), &ScriptFault::Memory, "no memory"));
 }

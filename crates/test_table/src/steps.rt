@@ -363,17 +363,26 @@ fn steps_that_are_not_enabled_answer_no(rt: HostRuntime) {
     check(&rt, rt.alloc(), Limits::greatest(), &rows, &[0]);
 }
 
+fn push(
+    alloc: Global,
+    steps: &mut Vec<(u32, Step)>,
+    party: u32,
+    step: Do,
+) -> Result<(), AllocError> {
+    steps.push((party, step_of(alloc, step)?))?;
+    Ok(())
+}
+
 // A linked entry of party 1, and then ten thousand times one holder more by party 2 and one less by party 1.
-fn many_steps(alloc: Global) -> Result<Vec<(u32, Step)>, AllocError> {
-    let mut steps = Vec::new(alloc);
-    steps.push((1, step_of(alloc, Do::Intern("interned"))?))?;
-    steps.push((1, Step::Link(true)))?;
-    steps.push((1, Step::Leave))?;
+fn push_many(alloc: Global, steps: &mut Vec<(u32, Step)>) -> Result<(), AllocError> {
+    push(alloc, steps, 1, Do::Intern("interned"))?;
+    push(alloc, steps, 1, Do::Link(true))?;
+    push(alloc, steps, 1, Do::Leave)?;
     for _ in 0..10_000u32 {
-        steps.push((2, Step::Clone(1)))?;
-        steps.push((1, Step::Give(1)))?;
+        push(alloc, steps, 2, Do::Clone(1))?;
+        push(alloc, steps, 1, Do::Give(1))?;
     }
-    Ok(steps)
+    Ok(())
 }
 
 fn count_of(replies: &[StepReply], reply: StepReply) -> usize {
@@ -389,7 +398,8 @@ fn are_many(replies: &[StepReply]) -> bool {
 
 // Whether they come of one run.
 fn come_of_one_run(alloc: Global, world: &mut Plain) -> Result<bool, Fault> {
-    let steps = many_steps(alloc)?;
+    let mut steps = Vec::new(alloc);
+    push_many(alloc, &mut steps)?;
     let mut given = Vec::new(alloc);
     run(world, &steps, &mut given)?;
     Ok(are_many(&given))

@@ -4,6 +4,7 @@ use crate::rows::{
     FIRST, Plain, Row, SECOND, Told, check, check_plain, check_with, gives, has_text, interns,
     is_first, keeps,
 };
+use crate::texts::numbered_text;
 use std::alloc::Global;
 use std::process::Abort;
 use string_cache_core::Fault;
@@ -173,20 +174,16 @@ fn bucket_of_text(buckets: Buckets, text: &str) -> usize {
     usize::from(buckets.bucket_of(hash(text, 0).entry_hash()))
 }
 
-fn numbered_text(rt: &impl Abort, alloc: Global, number: usize) -> String {
-    format!(in alloc; "word{number:05}").expect(rt, "a text")
-}
-
 /// Two texts with one bucket: there is one text more than buckets.
 fn bucket_mates(rt: &impl Abort, alloc: Global, buckets: Buckets) -> (String, String) {
     let mut first = vec![in alloc; None; buckets.number()].expect(rt, "room");
     for number in 0..=buckets.number() {
-        let text = numbered_text(rt, alloc, number);
+        let text = numbered_text(rt, alloc, "word", number);
         let place = first
             .get_mut(bucket_of_text(buckets, &text))
             .expect(rt, "a bucket");
         if let Some(other) = *place {
-            return (numbered_text(rt, alloc, other), text);
+            return (numbered_text(rt, alloc, "word", other), text);
         }
         *place = Some(number);
     }

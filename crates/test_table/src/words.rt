@@ -8,7 +8,7 @@ use std::alloc::{AllocError, Global};
 use std::collections::HashMap;
 use std::process::Abort;
 use string_cache_core::Fault;
-use string_cache_core::table::{Name, Names, Table};
+use string_cache_core::table::{Name, Names, Table, WordText};
 use string_cache_core::word::{Buckets, Limits};
 use test_samples::One;
 
@@ -304,13 +304,17 @@ fn a_large_text_is_looked_up(rt: HostRuntime) {
     assert!(rt; is_looked_up_in_a_new_table(&rt, rt.alloc(), &text));
 }
 
-/// Whether a word's text in a width of six, the same in quotes, and its name print so.
+/// What is printed of a word's text in a width of six, of the same in quotes, and of its name.
+fn printed(alloc: Global, text: &WordText<'_>, name: Name<File>) -> Result<String, AllocError> {
+    format!(in alloc; "{text:>6}|{text:?}|{name:?}")
+}
+
+/// Whether this is printed of a name and its text.
 fn prints(alloc: Global, names: &Names<File>, name: Name<File>, wanted: &str) -> bool {
     let Some(text) = names.text_of(name) else {
         return false;
     };
-    let printed: Result<_, AllocError> = format!(in alloc; "{text:>6}|{text:?}|{name:?}");
-    match printed {
+    match printed(alloc, &text, name) {
         Ok(printed) => printed.as_str() == wanted,
         Err(_) => false,
     }

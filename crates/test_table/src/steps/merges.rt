@@ -99,24 +99,21 @@ impl Parties {
     }
 }
 
-/// The digits of a merge's number in base 3, lowest first. They name the parties whose turn it is, again and again.
-fn digits(merge: u32) -> [u32; 5] {
-    [
-        merge % 3,
-        merge / 3 % 3,
-        merge / 9 % 3,
-        merge / 27 % 3,
-        merge / 81 % 3,
-    ]
+/// The digit at a place of a merge's number in base 3, the lowest being at 0.
+fn digit(merge: u32, place: usize) -> u32 {
+    let mut rest = merge;
+    for _ in 0..place {
+        rest /= 3;
+    }
+    rest % 3
 }
 
-/// The steps of a merge, in order.
+/// The steps of a merge, in order. The lowest five digits of its number name the parties whose turn it is, again and again.
 fn steps_of(alloc: Global, merge: u32) -> Result<Vec<(u32, Do)>, AllocError> {
-    let digits = digits(merge);
     let mut parties = Parties::new();
     let mut steps = Vec::new(alloc);
     for turn in 0..12usize {
-        let party = Party::of_digit(digits[turn % 5]);
+        let party = Party::of_digit(digit(merge, turn % 5));
         if let Some(step) = parties.next(party) {
             steps.push(step)?;
         }
@@ -187,7 +184,17 @@ fn held(world: &Plain) -> usize {
         .count()
 }
 
-/// Whether a new table with these buckets replies as the history says, and then holds so many texts.
+/// Whether the table replies as the history says, and then holds so many texts.
+fn replies_as(
+    table: &mut Table<EmptyStaticAtomSet>,
+    history: &History,
+    held: usize,
+) -> Result<bool, Fault> {
+    let replies = table.run(&history.calls)?;
+    Ok(replies == history.replies && table.entries() == held)
+}
+
+/// Whether a new table with these buckets does.
 fn is_history_of_table(
     alloc: Global,
     buckets: Buckets,
@@ -196,8 +203,7 @@ fn is_history_of_table(
 ) -> Result<bool, Fault> {
     let limits = Limits::greatest();
     let mut table = Table::<EmptyStaticAtomSet>::with_buckets(alloc, limits, buckets)?;
-    let replies = table.run(&history.calls)?;
-    Ok(replies == history.replies && table.entries() == held)
+    replies_as(&mut table, history, held)
 }
 
 /// Makes a merge's steps in a world, and the calls that they are in a table, both with these buckets.

@@ -1,9 +1,11 @@
 //! Three parties, of the least and of the greatest number among them: each holds a bucket at once, and then they link, give,
 //! unlink and free a hundred entries and more, one after another.
 
-use super::{Do, Row, linked, new_world, run_rows};
+use super::{Do, Plain, Row, linked, new_world, run_rows};
 use StepReply::{Cloned, Dying, Freed, Given, Kept, Left, Taken, Unlinked};
 use atomic_steps::steps::StepReply;
+use std::alloc::Global;
+use string_cache_core::Fault;
 use string_cache_core::word::SERIAL_BOUND;
 
 const TEXT: &str = "interned";
@@ -53,20 +55,37 @@ fn next_rows(party: u32, before: u32) -> [Row; 7] {
     ]
 }
 
-#[test]
-fn three_parties_link_more_than_a_hundred_entries(rt: HostRuntime) {
-    let alloc = rt.alloc();
-    let mut world = new_world(&rt, alloc);
-    let mut given = Vec::new(alloc);
-    let mut wanted = Vec::new(alloc);
-    run_rows(alloc, &mut world, &first_rows(), &mut given, &mut wanted).expect(&rt, "replies");
+/// Makes the rows of all entries, and appends what is replied and what has to be.
+fn link_entries(
+    alloc: Global,
+    world: &mut Plain,
+    given: &mut Vec<StepReply>,
+    wanted: &mut Vec<StepReply>,
+) -> Result<(), Fault> {
+    run_rows(alloc, world, &first_rows(), given, wanted)?;
     for before in 1..ENTRIES {
         let party = PARTIES[(before % 3) as usize];
-        let rows = next_rows(party, before);
-        run_rows(alloc, &mut world, &rows, &mut given, &mut wanted).expect(&rt, "replies");
+        run_rows(alloc, world, &next_rows(party, before), given, wanted)?;
     }
-    assert!(rt; given == wanted);
-    let last = u64::from(ENTRIES);
-    assert!(rt; world.count(last) == Some(0));
-    assert!(rt; world.count(last + 1).is_none());
+    Ok(())
+}
+
+/// Whether all replies are those that have to be.
+fn are_linked(alloc: Global, world: &mut Plain) -> Result<bool, Fault> {
+    let mut given = Vec::new(alloc);
+    let mut wanted = Vec::new(alloc);
+    link_entries(alloc, world, &mut given, &mut wanted)?;
+    Ok(given == wanted)
+}
+
+/// Whether this is the last entry, and nobody holds it.
+fn ends_with(world: &Plain, last: u64) -> bool {
+    world.count(last) == Some(0) && world.count(last.saturating_add(1)).is_none()
+}
+
+#[test]
+fn three_parties_link_more_than_a_hundred_entries(rt: HostRuntime) {
+    let mut world = new_world(&rt, rt.alloc());
+    assert!(rt; are_linked(rt.alloc(), &mut world) == Ok(true));
+    assert!(rt; ends_with(&world, u64::from(ENTRIES)));
 }

@@ -1,0 +1,19 @@
+//! Texts that tests of several modules make, and how values are printed. What calls these has nothing to read of that.
+
+use std::alloc::{AllocError, Global};
+use std::fmt::Display;
+use std::process::Abort;
+
+/// The text with a number of five digits behind it.
+pub fn numbered_text(rt: &impl Abort, alloc: Global, text: &str, number: usize) -> String {
+    format!(in alloc; "{text}{number:05}").expect(rt, "a text")
+}
+
+/// Whether the value is printed so.
+pub fn is_printed_as<D: Display>(alloc: Global, value: &D, text: &str) -> bool {
+    let printed: Result<_, AllocError> = format!(in alloc; "{value}");
+    match printed {
+        Ok(printed) => printed.as_str() == text,
+        Err(_) => false,
+    }
+}
