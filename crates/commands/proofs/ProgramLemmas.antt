@@ -1,15 +1,10 @@
--- What the status says of a command's output, from what its result says.
-use Rattle.std.proofs.Common.{◌≡◌, ℕ, Bool, List, Option, Result, Ok, Err, IfSome, IsUtf8, MatchResult, arith}
+-- What the status of the program says of a command's output, from what the command's result says.
+use Rattle.std.proofs.Common.{◌≡◌, ℕ, List, Option, Result, Ok, Err, IfSome, IsUtf8, MatchResult, arith}
 use Rattle.commands.specs.Program.{Makes, Yields}
-use Rattle.commands.specs.Told.{Tells}
 use Rattle.text_streams.specs.declared.faults.AppFault.{AppFault}
 
 module _ {S K T : Type 0} (remaining : S → Option (List ℕ)) (contents : K → Option (List ℕ)) where
-  -- a command tells of its output
-  pub told : {IsOutput : List ℕ → List ℕ → Type 0} {IsUnwritten MayCome : AppFault → Type 0} {has_ended read_failed : S → Bool} {write_failed : K → Bool} {reader reader' : S} {writer writer' : K} {result : Result T AppFault}
-      → Tells remaining has_ended read_failed contents write_failed IsOutput IsUnwritten MayCome reader reader' writer writer' result → Yields remaining contents IsOutput reader writer writer' result
-  told tells = record { utf8 = tells.utf8; all = tells.output; beginning = tells.beginning }
-
+  -- it says of the output what the result does
   pub made : (IsOutput : List ℕ → List ℕ → Type 0) (input : S) (output output' : K) (result : Result T AppFault) (status : ℕ) → MatchResult result (λ _. status ≡ 0) (λ _. status ≡ 1)
       → Yields remaining contents IsOutput input output output' result → Makes remaining contents IsOutput input output output' status
   made IsOutput input output output' (Ok done) status is yields = record { all = λ _. yields.all; beginning = λ one. absurd (omega (arith, is, one)); no_other = omega (arith, is) }

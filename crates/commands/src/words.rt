@@ -86,6 +86,20 @@ fn append_line(out: &mut String, word: &str, n: u64) -> Result<(), AllocError>
     }
 }
 
+/// Counts the word once more, and appends its line.
+fn tell_word<'t>(
+    counts: &mut TimesSeen<'t>,
+    out: &mut String,
+    word: &'t str,
+) -> Result<(), AllocError>
+    requires { count_of counts.old word.now + 1 < 2 ^ 64 }
+    ensures counted { OnOk result (CountsOneMore counts.old counts.new word.now) }
+    ensures line { OnOk result (string_bytes out.new ≡ string_bytes out.old ++ seen_line word.now (count_of counts.old word.now)) }
+{
+    let n = count_word(counts, word)?;
+    append_line(out, word, n)
+}
+
 /// Interns the words of the text in order, and writes a line for each, once it is interned.
 fn write_words<I: Interner, K: Sink>(
     alloc: Global,
@@ -103,8 +117,7 @@ fn write_words<I: Interner, K: Sink>(
     let mut pending = String::new(alloc);
     for word in text.split_whitespace() {
         interner.intern(word)?;
-        let n = count_word(&mut counts, word)?;
-        append_line(&mut pending, word, n)?;
+        tell_word(&mut counts, &mut pending, word)?;
         write_full(writer, &mut pending)?;
     }
     write_whole(writer, pending.as_bytes())

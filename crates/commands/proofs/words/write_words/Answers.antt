@@ -1,6 +1,5 @@
-use Rattle.std.proofs.Common.{ap, ◌∙◌, refl, ◌++◌, string_bytes}
+use Rattle.std.proofs.Common.{ap, ◌∙◌, refl}
 use Rattle.std.specs.Str.Iter.{split_whitespace_rest}
-use Rattle.commands.specs.WordLines.{seen_line}
 use Rattle.text_streams.proofs.StreamLemmas.{on_err, on_err_map, on_ok_map, beginning_nothing, keeps_same}
 use Rattle.word_counts.proofs.WordLemmas.{word_comes_off}
 use Rattle.commands.proofs.Progress.{progress_begins, next_word, flushed, begun, finished}
@@ -17,25 +16,20 @@ loop-word-init g c =
 pub returns-in_err-intern-clause-err : goal.returns-in_err-intern-clause-err
 returns-in_err-intern-clause-err g c = on_err _ (begun c.loop-word.invariant.1 _ (beginning_nothing _ _ _ (keeps_same _)))
 
-pub returns-in_err-n-clause-err : goal.returns-in_err-n-clause-err
-returns-in_err-n-clause-err g c = on_err _ (begun c.loop-word.invariant.1 _ (beginning_nothing _ _ _ (keeps_same _)))
-
-pub returns-in_err-append_line-clause-err : goal.returns-in_err-append_line-clause-err
-returns-in_err-append_line-clause-err g c = on_err _ (begun c.loop-word.invariant.1 _ (beginning_nothing _ _ _ (keeps_same _)))
+pub returns-in_err-tell_word-clause-err : goal.returns-in_err-tell_word-clause-err
+returns-in_err-tell_word-clause-err g c = on_err _ (begun c.loop-word.invariant.1 _ (beginning_nothing _ _ _ (keeps_same _)))
 
 pub returns-in_err-write_full-clause-err : goal.returns-in_err-write_full-clause-err
 returns-in_err-write_full-clause-err g c =
     let before = c.loop-word.invariant.1 in
     let comes = word_comes_off before.left _ c.in-Some.word.now _ before.spells c.in-Some.ensures.steps in
-    let line = c.in_ok-append_line.ensures ∙ ap (λ n. string_bytes c.loop-word.pending ++ seen_line c.in-Some.word.now n) c.in_ok-n.ensures.before in
-    on_err _ (begun (next_word before {counts' = c.count_word.new.counts} comes c.in_ok-n.ensures.counted line) _ c.in_err-write_full.ensures.err)
+    on_err _ (begun (next_word before {counts' = c.tell_word.new.counts} comes c.in_ok-tell_word.ensures.counted c.in_ok-tell_word.ensures.line) _ c.in_err-write_full.ensures.err)
 
 pub loop-word-preserved : goal.loop-word-preserved
 loop-word-preserved g c =
     let before = c.loop-word.invariant.1 in
     let comes = word_comes_off before.left _ c.in-Some.word.now _ before.spells c.in-Some.ensures.steps in
-    let line = c.in_ok-append_line.ensures ∙ ap (λ n. string_bytes c.loop-word.pending ++ seen_line c.in-Some.word.now n) c.in_ok-n.ensures.before in
-    (c.in_ok-write_full.ensures.sound, flushed (next_word before {counts' = c.count_word.new.counts} comes c.in_ok-n.ensures.counted line) c.in_ok-write_full.ensures.ok)
+    (c.in_ok-write_full.ensures.sound, flushed (next_word before {counts' = c.tell_word.new.counts} comes c.in_ok-tell_word.ensures.counted c.in_ok-tell_word.ensures.line) c.in_ok-write_full.ensures.ok)
 
 pub returns-clause-ok : goal.returns-clause-ok
 returns-clause-ok g c =
