@@ -372,7 +372,7 @@ fn go_on_after<C: Counts>(
 }
 
 // Passes entries of the next node by that haven't the hash, and takes out the first that is dying.
-#[inline]
+#[inline(always)] // as `keep_quiet` is
 fn pass_others<C: Counts>(hash: u64, entries: &mut Entries, counts: &mut C)
     ensures { PassesOthers C.dies (Some hash) counts.old entries.old counts.new entries.new }
 {
