@@ -21,10 +21,11 @@ from pathlib import Path
 
 import find_tools  # has Python find the modules of tools/
 from copies import crates, linked
-from edits import FUNCTION, BadEdit, replaced
+from edits import BadEdit, replaced
+from functions import function_at
 from programs import kit
 from repository import TOP, said_by
-from spared import spared
+from spared import emptied, spared
 
 TOLD = re.compile(r"^fn (\S+): (.*)$", re.MULTILINE)
 PROVED = ("proved", "assumed")
@@ -35,7 +36,6 @@ MEASURE = re.compile(r"expected a measure in ")
 GOAL = re.compile(r"`([^`]*)`")
 ERROR = re.compile(r"^(?:\./)?(proofs/\S+?):\d+:\d+: error: (.*(?:\n  .*)*)", re.MULTILINE)
 GONE = re.compile(r"has no field|is not in scope|has no `|was not admitted|is no name|projects from a record, but|rattle does not read")
-GENERICS = re.compile(r"<[^<>]*>")
 NO_FUNCTION = re.compile(r"has no function `([^`]*)`")  # the check stops at the first name of none
 
 
@@ -52,34 +52,6 @@ class Body:
 
     def __str__(self):
         return self.label
-
-
-def function_at(text, place):
-    """The name of the function in whose body this place lies, the type of its impl or None, and where the body begins and ends."""
-    lines, starts = text.split("\n"), [0]
-    for line in lines:
-        starts.append(starts[-1] + len(line) + 1)
-    number = next(it for it in range(len(lines)) if starts[it + 1] > place)
-    head = next((it for it in range(number, -1, -1) if FUNCTION.match(lines[it])), None)
-    if head is None:
-        raise BadEdit("it changes what is no function's body")
-    indent, name = FUNCTION.match(lines[head]).groups()
-    inner = f"{indent} "
-    opens = next((it for it in range(head, len(lines)) if lines[it].endswith("{") and (it == head or not lines[it].startswith(inner))), None)
-    if opens is None or any(it.endswith(";") and not it.startswith(inner) for it in lines[head:opens]):
-        raise BadEdit(f"{name} has no body")
-    closes = lines.index(f"{indent}}}", opens)
-    around = next((it for it in reversed(lines[:head]) if indent and it.startswith("impl")), "")
-    return name, type_of(around), starts[opens + 1], starts[closes]
-
-
-def type_of(head):
-    """The type of an impl that begins so, or None where it is a parameter."""
-    head = head.replace("->", "")
-    while GENERICS.search(head):
-        head = GENERICS.sub("", head)
-    words = re.findall(r"\w+", head.partition(" where ")[0].rpartition(" for ")[2])
-    return words[-1] if words and len(words[-1]) > 1 else None
 
 
 def is_of(function, name, around):
@@ -118,13 +90,13 @@ def batches(bodies):
         left = [body for body in left if body not in batch]
 
 
-def texts_with(bodies, folder):
-    """The texts that have all these bodies, by their files in the folder of their crate."""
-    texts = {}
-    for file in {file for body in bodies for file, *_ in body.places}:
+def texts_with(bodies, folder, more=()):
+    """The texts that have all these bodies, and what more places are given, by their files in the folder of their crate."""
+    texts, places = {}, [*(place for body in bodies for place in body.places), *more]
+    for file in {file for file, *_ in places}:
         path = folder / file
         text, end = path.read_text(encoding="utf-8"), None
-        for first, last, new in sorted((place[1:] for body in bodies for place in body.places if place[0] == file), reverse=True):
+        for first, last, new in sorted((place[1:] for place in places if place[0] == file), reverse=True):
             if end is not None and last > end:
                 raise BadEdit(f"two bodies change one place of {file}")
             text, end = text[:first] + new + text[last:], first
@@ -169,7 +141,8 @@ def check(bodies, folder, only=True, proved=()):
     whose texts are its own again afterwards. A name that is no function's is left out, so that it hides nothing of the others. The
     functions that are proved already are spared."""
     functions, stops = list(dict.fromkeys(body.function for body in bodies)) if only else [], []
-    with replaced(texts_with(bodies, folder)), spared(proved, bodies, folder):
+    texts = texts_with(bodies, folder, emptied(proved, bodies, folder))
+    with replaced(texts), spared(proved, bodies, folder):
         while True:
             said = said_by(*checker_of(folder), *(word for function in functions for word in ("--only", function)), folder=folder)[1]
             found = NO_FUNCTION.search(said)

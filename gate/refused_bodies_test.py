@@ -18,8 +18,9 @@ import batches
 import further
 import refused_bodies
 from edits import BadEdit
+from functions import function_at, plain_bodies
 from small_repository import InSmallRepository
-from spared import functions_told, spared
+from spared import emptied, functions_told, spared
 
 CRATE = """\
 //! What is edited.
@@ -149,7 +150,7 @@ class Places(unittest.TestCase):
     """Where a text stands, and in which function."""
 
     def place(self, text, function):
-        name, around, opens, closes = batches.function_at(METHODS, METHODS.index(text))
+        name, around, opens, closes = function_at(METHODS, METHODS.index(text))
         return batches.is_of(function, name, around), METHODS[opens:closes]
 
     def test_a_method_is_told_by_its_impl(self):
@@ -160,9 +161,9 @@ class Places(unittest.TestCase):
 
     def test_what_is_no_body_is_none(self):
         with self.assertRaises(BadEdit):
-            batches.function_at(METHODS, METHODS.index("List"))
+            function_at(METHODS, METHODS.index("List"))
         with self.assertRaises(BadEdit):
-            batches.function_at(METHODS, METHODS.index("called"))
+            function_at(METHODS, METHODS.index("called"))
 
 
 class Lines(unittest.TestCase):
@@ -354,6 +355,21 @@ fn few::tests::rows: proved
         with spared(functions_told("few", self.TOLD), bodies, self.folder):
             self.assertEqual(self.files(), {"proofs/next/Proof.antt": "", "proofs/Few/twice/Proof.antt": ""})
         self.assertEqual((self.files(), (self.folder / "proofs" / "next").exists()), (before, False))
+
+    def test_bodies_of_those_that_are_spared_are_emptied(self):
+        text, bodies = f"{METHODS}\n{CRATE[CRATE.index('pub fn next') :]}", [SimpleNamespace(function="twice")]
+        self.assertEqual([words for words, *_ in plain_bodies(text)], [["next"], ["twice"], ["same"], ["doubled"], ["fourfold"], ["zeros"]])
+        (self.folder / "src").mkdir()
+        (self.folder / "src" / "few.rt").write_text(text, encoding="utf-8")
+        places = emptied({"few::next", "few::twice", "other::same"}, bodies, self.folder)
+        self.assertEqual([(file, text[first:end], new) for file, first, end, new in places], [
+            ("src/few.rt", "    let wide = u32::from(number);\n    wide + 1\n", "    loop {}\n"),
+        ])
+
+    def test_one_that_calls_itself_is_not_spared(self):
+        (self.folder / "proofs" / "+next").mkdir()
+        with spared({"next", "zeros"}, [], self.folder):
+            self.assertEqual(sorted(set(self.files()) - {"proofs/Few/twice/Answers.antt"}), ["proofs/zeros/Proof.antt"])
 
 
 class Turn(unittest.TestCase):
