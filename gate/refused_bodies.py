@@ -42,7 +42,7 @@ from repository import TOP, crates_listed, said_by, stands_on
 from spared import functions_told
 
 KEPT = Path(os.environ.get("XDG_CACHE_HOME") or Path.home() / ".cache") / "jatzurbin" / "refused"
-TOOLS = ("refused_bodies.py", "batches.py", "further.py", "spared.py", "edits.py")
+TOOLS = ("refused_bodies.py", "batches.py", "further.py", "spared.py", "functions.py", "edits.py")
 SAID = 400  # how much is told of what was said
 PROVED = re.compile(r"^rt: (\w+) (?:proved$|is kept: )", re.MULTILINE)  # what `rt ci` says of a crate that it is done with
 MEASURED = {  # seconds of crates whose bodies were timed, four checks side by side
