@@ -1,7 +1,7 @@
 //! How much memory a table takes.
 
-ghost use Rattle.std.specs.Prelude.{◌≡◌, ◌*◌, ◌^◌, ◌≤◌, max};
-ghost use Rattle.string_cache_core.specs.Memory.{IsMemory, group_places};
+ghost use Rattle.std.specs.Prelude.{◌≡◌, ◌+◌, ◌*◌, ◌^◌, ◌<◌, ◌≤◌, max, min};
+ghost use Rattle.string_cache_core.specs.Memory.{IsMemory, group_places, text_group_size, ticket_group_size};
 
 use super::Table;
 use super::holding::Holding;
@@ -59,10 +59,21 @@ impl<S: StaticTables> Table<S> {
         let _ = self.entries.len(); // whose contract says that it is below 2^63
         let texts = groups(self.room.texts.max(self.entries.capacity()));
         let tickets = groups(self.room.tickets.max(self.tickets.capacity()));
-        let serials = self.lasts.len() as u128 * size_of::<u64>() as u128;
-        let units = tickets.min(1); // a block for values without bytes is asked for as one byte
-        serials + self.bytes + texts * TEXT_GROUP as u128 + tickets * TICKET_GROUP as u128 + units
+        bytes_of(self.lasts.len(), self.bytes, texts, tickets)
     }
+}
+
+/// The bytes of so many last serials, of the texts, and of so many groups of each map.
+fn bytes_of(serials: usize, text_bytes: u128, text_groups: u128, ticket_groups: u128) -> u128
+    requires texts { text_bytes < 2 ^ 127 }
+    requires text_groups { text_groups ≤ 2 ^ 64 }
+    requires ticket_groups { ticket_groups ≤ 2 ^ 64 }
+    ensures { result ≡ 8 * serials + text_bytes + text_groups * text_group_size + ticket_groups * ticket_group_size + min ticket_groups 1 }
+{
+    let lasts = serials as u128 * size_of::<u64>() as u128;
+    let units = ticket_groups.min(1); // a block for values without bytes is asked for as one byte
+    let groups = text_groups * TEXT_GROUP as u128 + ticket_groups * TICKET_GROUP as u128;
+    lasts + text_bytes + groups + units
 }
 
 /// The groups that have this number of places.
