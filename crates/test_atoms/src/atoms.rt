@@ -117,15 +117,15 @@ fn packed_inline(rt: HostRuntime) {
 }
 
 /// Whether it is the atom of the one static text.
-fn is_sentence(atom: &Atom<'_, One>) -> bool {
-    atom.is_static() && has_word(atom, 2) && has_text(atom, "sentence")
+fn is_sentence(atom: Atom<'_, One>) -> bool {
+    atom.is_static() && has_word(&atom, 2) && has_text(&atom, "sentence")
 }
 
 /// Whether each call that gives the atom of the static text does.
 fn are_sentences<R: Wait + Abort>(rt: &R, set: &Set<One>) -> bool {
-    is_sentence(&intern(rt, set, "sentence"))
-        && Atom::try_static("sentence").is_some_and(|atom| is_sentence(&atom))
-        && Atom::pack_static(0).is_some_and(|atom| is_sentence(&atom))
+    is_sentence(intern(rt, set, "sentence"))
+        && Atom::try_static("sentence").is_some_and(is_sentence)
+        && Atom::pack_static(0).is_some_and(is_sentence)
 }
 
 /// Whether the text is dynamic.

@@ -68,18 +68,24 @@ fn fixed_texts_are_found(rt: HostRuntime) {
     assert!(rt; links(&rt, &set, 0));
 }
 
-/// Of two texts of one bucket, and of one of another bucket.
-fn find_held<R: Wait + Abort>(rt: &R, set: &DefaultSet) {
-    let forgotten = intern(rt, set, "forgotten");
-    assert!(rt; is_absent(rt, set, "magnitude"));
-    assert!(rt; is_absent(rt, set, "interned"));
+/// What is found of "forgotten", which has an atom, where another text of its bucket and one of another bucket have none.
+fn find_alone<'s, R: Wait + Abort>(
+    rt: &R,
+    set: &'s DefaultSet,
+    forgotten: &DefaultAtom<'_>,
+) -> DefaultAtom<'s> {
+    assert!(rt; is_absent(rt, set, "magnitude") && is_absent(rt, set, "interned"));
     let found = find(rt, set, "forgotten");
-    assert!(rt; found == forgotten && are_one(&found, &forgotten));
-    drop(forgotten);
+    assert!(rt; found == *forgotten && are_one(&found, forgotten));
+    found
+}
+
+/// What is found holds its text after the atom that it was found by has gone, and not longer than itself.
+fn find_held<R: Wait + Abort>(rt: &R, set: &DefaultSet) {
+    let found = find_alone(rt, set, &intern(rt, set, "forgotten"));
     assert!(rt; links(rt, set, 1) && has_text(&found, "forgotten"));
     drop(found);
-    assert!(rt; links(rt, set, 0));
-    assert!(rt; is_absent(rt, set, "forgotten"));
+    assert!(rt; links(rt, set, 0) && is_absent(rt, set, "forgotten"));
 }
 
 #[test]

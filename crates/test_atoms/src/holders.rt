@@ -33,9 +33,9 @@ fn play<R: Wait + Abort>(rt: &R, set: DefaultSet, scene: Scene) {
 
 /// Whether the atom's text has as many holders as it may have, for each call that would make one more.
 fn is_full<R: Wait>(rt: &R, set: &DefaultSet, atom: &DefaultAtom<'_>) -> bool {
-    matches!(refusal(rt, set, "interned"), Some(Fault::FullCount))
-        && matches!(cloned(rt, atom), Err(Fault::FullCount))
-        && matches!(copied(rt, atom), Err(Fault::FullCount))
+    refusal(rt, set, "interned") == Some(Fault::FullCount)
+        && cloned(rt, atom).err() == Some(Fault::FullCount)
+        && copied(rt, atom).err() == Some(Fault::FullCount)
 }
 
 /// Whether an atom of the same word can be made by both calls, one after the other. The last one is given.
@@ -74,7 +74,7 @@ fn two_holders(rt: HostRuntime) {
 
 fn spend_one_serial<R: Wait + Abort>(rt: &R, set: &DefaultSet) {
     assert!(rt; word_of(rt, set, "interned") == ticket_word(1, 0x210));
-    assert!(rt; matches!(refusal(rt, set, "interned"), Some(Fault::TicketsSpent)));
+    assert!(rt; refusal(rt, set, "interned") == Some(Fault::TicketsSpent));
     assert!(rt; word_of(rt, set, "abc") == 0x6362_6131);
 }
 
@@ -140,7 +140,7 @@ fn two_thousand_holders(rt: HostRuntime) {
 
 /// Whether the atom is full, also for its text in lower case.
 fn is_full_in_lower_case<R: Wait>(rt: &R, set: &DefaultSet, atom: &DefaultAtom<'_>) -> bool {
-    matches!(lowered(rt, set, atom), Err(Fault::FullCount))
+    lowered(rt, set, atom).err() == Some(Fault::FullCount)
 }
 
 /// The atom in lower case, which is one with it.
@@ -178,7 +178,7 @@ fn upper_of_full<'s, R: Wait + Abort>(rt: &R, set: &'s DefaultSet) -> DefaultAto
 fn leave_no_share<R: Wait + Abort>(rt: &R, set: &DefaultSet) {
     let upper = upper_of_full(rt, set);
     for _ in 0..3 {
-        assert!(rt; matches!(refusal(rt, set, "interned"), Some(Fault::TicketsSpent)));
+        assert!(rt; refusal(rt, set, "interned") == Some(Fault::TicketsSpent));
     }
     assert!(rt; links(rt, set, 1));
     drop(upper);

@@ -17,6 +17,11 @@ fn lends_bytes<T: AsSlice<u8>>(value: &T, bytes: &[u8]) -> bool {
     value.as_slice() == bytes
 }
 
+/// Whether the atom is lent as its text, and as the text's bytes.
+fn lends(atom: &Atom<'_, One>, text: &str) -> bool {
+    is_lent(atom, text) && lends_bytes(atom, text.as_bytes())
+}
+
 /// Texts that are inline, static and dynamic.
 const TEXTS: [&str; 4] = ["", "été", "sentence", "tokenised"];
 
@@ -24,9 +29,7 @@ const TEXTS: [&str; 4] = ["", "été", "sentence", "tokenised"];
 fn texts_are_lent(rt: HostRuntime) {
     let set = new_set::<One>(&rt, rt.alloc());
     for text in &TEXTS {
-        let atom = intern(&rt, &set, text);
-        assert!(rt; is_lent(&atom, text), "of {text:?}");
-        assert!(rt; lends_bytes(&atom, text.as_bytes()), "of {text:?}");
+        assert!(rt; lends(&intern(&rt, &set, text), text), "of {text:?}");
     }
 }
 

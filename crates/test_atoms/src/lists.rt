@@ -8,7 +8,7 @@ use std::thread::{self, Threads};
 use string_cache::dynamic_set::Set;
 use string_cache::static_sets::{EmptyStaticAtomSet, StaticTables};
 use string_cache::word::ticket_word;
-use string_cache::{AtomList, Fault};
+use string_cache::{Atom, AtomList, Fault};
 use test_calls::{are_one, cloned_at, has_text, is_of, links, pop, push};
 use test_samples::One;
 
@@ -29,19 +29,24 @@ enum Scene {
     OtherThread,
 }
 
+/// Plays the scene in a set.
+fn act<R: Threads + Wait + Abort + Sync>(rt: &R, set: &DefaultSet, scene: Scene) {
+    match scene {
+        Scene::NarrowSet => fill_narrow_set(rt, set, &mut list_of(rt, set, &TWICE)),
+        Scene::PlacesGo => take_places(rt, set, &mut list_of(rt, set, &FOUR)),
+        Scene::FilledAgain => fill_again(rt, set, &mut list_of(rt, set, &THREE)),
+        Scene::LongList => find_in_long_list(rt, set, &long_list(rt, set)),
+        Scene::LongListCleared => clear_long_list(rt, set, &mut long_list(rt, set)),
+        Scene::LongText => hold_long_text(rt, set),
+        Scene::EndsUnderLock => end_under_lock(rt, set),
+        Scene::TwoThreads => fill_in_two(rt, set),
+        Scene::OtherThread => end_in_another(rt, set),
+    }
+}
+
 /// Plays the scene in a set, which has no entry afterwards.
 fn play<R: Threads + Wait + Abort + Sync>(rt: &R, set: DefaultSet, scene: Scene) {
-    match scene {
-        Scene::NarrowSet => fill_narrow_set(rt, &set),
-        Scene::PlacesGo => take_places(rt, &set),
-        Scene::FilledAgain => fill_again(rt, &set),
-        Scene::LongList => end_long_list(rt, &set),
-        Scene::LongListCleared => clear_long_list(rt, &set),
-        Scene::LongText => hold_long_text(rt, &set),
-        Scene::EndsUnderLock => end_under_lock(rt, &set),
-        Scene::TwoThreads => fill_in_two(rt, &set),
-        Scene::OtherThread => end_in_another(rt, &set),
-    }
+    act(rt, &set, scene);
     assert!(rt; links(rt, &set, 0));
 }
 
@@ -58,11 +63,16 @@ fn list_of<'s, R: Wait + Abort, Static: StaticTables>(
     list
 }
 
+/// Whether the list has this text at this place.
+fn has_at<Static: StaticTables>(list: &AtomList<'_, Static>, at: usize, text: &str) -> bool {
+    list.get(at) == Some(text)
+}
+
 /// Whether the list has these texts, at their places and in their order.
 fn has_each<Static: StaticTables>(list: &AtomList<'_, Static>, texts: &[&str]) -> bool {
     let mut left = list.iter();
     for (at, text) in texts.iter().enumerate() {
-        if list.get(at) != Some(*text) || left.next() != Some(*text) {
+        if !has_at(list, at, text) || left.next() != Some(*text) {
             return false;
         }
     }
@@ -77,38 +87,68 @@ fn has_texts<Static: StaticTables>(list: &AtomList<'_, Static>, texts: &[&str]) 
         && has_each(list, texts)
 }
 
-/// Whether the atom at a place is that of its text: of the same word, and equal.
-fn lends_own_atom<R: Wait + Abort, Static: StaticTables>(
+/// Whether the list has these texts, and the set so many entries.
+fn holds<R: Wait, Static: StaticTables>(
     rt: &R,
     set: &Set<Static>,
     list: &AtomList<'_, Static>,
+    texts: &[&str],
+    entries: u128,
+) -> bool {
+    has_texts(list, texts) && links(rt, set, entries)
+}
+
+/// The atom at a place.
+fn atom_at<'s, R: Wait + Abort, Static: StaticTables>(
+    rt: &R,
+    list: &AtomList<'s, Static>,
     at: usize,
+) -> Option<Atom<'s, Static>> {
+    cloned_at(rt, list, at).expect(rt, "an answer")
+}
+
+/// Whether the atom at a place is that of its text: of the same word, and equal.
+fn lends_own_atom<R: Wait + Abort, Static: StaticTables>(
+    rt: &R,
+    list: &AtomList<'_, Static>,
+    at: usize,
+    own: &Atom<'_, Static>,
     text: &str,
 ) -> bool {
-    let own = intern(rt, set, text);
-    match cloned_at(rt, list, at) {
-        Ok(Some(atom)) => are_one(&atom, &own) && has_text(&atom, text),
-        _ => false,
+    match atom_at(rt, list, at) {
+        Some(atom) => are_one(&atom, own) && has_text(&atom, text),
+        None => false,
     }
+}
+
+/// Whether there is no such place, and so no atom.
+fn lends_none<R: Wait + Abort, Static: StaticTables>(
+    rt: &R,
+    list: &AtomList<'_, Static>,
+    at: usize,
+) -> bool {
+    atom_at(rt, list, at).is_none()
 }
 
 /// An inline text, a static one, and two that are dynamic, one of them not ASCII.
 const FORMS: [&str; 5] = ["é", "sentence", "interned", "", "Überfluß"];
 
 /// A list of each form lends the atoms of its texts, and none behind them.
-fn lend_each_form<R: Wait + Abort>(rt: &R, set: &Set<One>) {
-    let list = list_of(rt, set, &FORMS);
-    assert!(rt; has_texts(&list, &FORMS) && links(rt, set, 2));
+fn lend_each_form<R: Wait + Abort>(rt: &R, set: &Set<One>, list: &AtomList<'_, One>) {
+    assert!(rt; holds(rt, set, list, &FORMS, 2));
     for (at, text) in FORMS.iter().enumerate() {
-        assert!(rt; lends_own_atom(rt, set, &list, at, text), "at {at}");
+        assert!(rt;
+            lends_own_atom(rt, list, at, &intern(rt, set, text), text),
+            "at {at}"
+        );
     }
-    assert!(rt; matches!(cloned_at(rt, &list, 5), Ok(None)));
+    assert!(rt; lends_none(rt, list, 5));
 }
 
 #[test]
 fn list_of_each_form(rt: HostRuntime) {
     let set = new_set::<One>(&rt, rt.alloc());
-    lend_each_form(&rt, &set);
+    lend_each_form(&rt, &set, &list_of(&rt, &set, &FORMS));
     assert!(rt; links(&rt, &set, 0));
 }
 
@@ -126,16 +166,23 @@ fn pops<R: Wait>(
     }
 }
 
-/// Takes and cuts off the places of a list of four, till it has none.
-fn take_places<R: Wait + Abort>(rt: &R, set: &DefaultSet) {
-    let mut list = list_of(rt, set, &["interned", "a", "interned", "geometric"]);
-    assert!(rt; pops(rt, set, &mut list, (ticket_word(1, 0xfff), "geometric"), 1));
+/// Whether the list has a last place to take.
+fn has_last<Static: StaticTables>(list: &mut AtomList<'_, Static>) -> bool {
+    pop(list).is_some()
+}
+
+/// Four texts, of which two are one.
+const FOUR: [&str; 4] = ["interned", "a", "interned", "geometric"];
+
+/// Takes and cuts off the places of a list of the four, till it has none.
+fn take_places<R: Wait + Abort>(rt: &R, set: &DefaultSet, list: &mut DefaultList<'_>) {
+    assert!(rt; pops(rt, set, list, (ticket_word(1, 0xfff), "geometric"), 1));
     list.truncate(9);
-    assert!(rt; has_texts(&list, &["interned", "a", "interned"]) && links(rt, set, 1));
+    assert!(rt; holds(rt, set, list, &["interned", "a", "interned"], 1));
     list.truncate(1);
-    assert!(rt; has_texts(&list, &["interned"]) && links(rt, set, 1));
-    assert!(rt; pops(rt, set, &mut list, (ticket_word(1, 0x210), "interned"), 0));
-    assert!(rt; pop(&mut list).is_none() && has_texts(&list, &[]) && links(rt, set, 0));
+    assert!(rt; holds(rt, set, list, &["interned"], 1));
+    assert!(rt; pops(rt, set, list, (ticket_word(1, 0x210), "interned"), 0));
+    assert!(rt; !has_last(list) && holds(rt, set, list, &[], 0));
 }
 
 /// By OpenSSL's SipHash "interned" is in bucket 0x210 and "geometric" in 0xfff.
@@ -144,12 +191,14 @@ fn places_go_from_the_last_on(rt: HostRuntime) {
     play(&rt, default_set(&rt, rt.alloc()), Scene::PlacesGo);
 }
 
-fn fill_again<R: Wait + Abort>(rt: &R, set: &DefaultSet) {
-    let mut list = list_of(rt, set, &["interned", "Überfluß", "ab"]);
+/// Two texts that are dynamic, and one that is inline.
+const THREE: [&str; 3] = ["interned", "Überfluß", "ab"];
+
+fn fill_again<R: Wait + Abort>(rt: &R, set: &DefaultSet, list: &mut DefaultList<'_>) {
     list.clear();
-    assert!(rt; has_texts(&list, &[]) && links(rt, set, 0));
-    push(rt, &mut list, "tokenised").expect(rt, "a place");
-    assert!(rt; has_texts(&list, &["tokenised"]) && links(rt, set, 1));
+    assert!(rt; holds(rt, set, list, &[], 0));
+    push(rt, list, "tokenised").expect(rt, "a place");
+    assert!(rt; holds(rt, set, list, &["tokenised"], 1));
 }
 
 #[test]
@@ -157,19 +206,21 @@ fn cleared_list_is_filled_again(rt: HostRuntime) {
     play(&rt, default_set(&rt, rt.alloc()), Scene::FilledAgain);
 }
 
+/// One text, two times.
+const TWICE: [&str; 2] = ["interned", "interned"];
+
 /// Whether the list's every way to one holder more of "interned" is refused, and leaves it as it was.
 fn is_full<R: Wait>(rt: &R, list: &mut DefaultList<'_>) -> bool {
-    matches!(push(rt, list, "interned"), Err(Fault::FullCount))
-        && matches!(cloned_at(rt, list, 0), Err(Fault::FullCount))
-        && has_texts(list, &["interned", "interned"])
+    push(rt, list, "interned") == Err(Fault::FullCount)
+        && cloned_at(rt, list, 0).err() == Some(Fault::FullCount)
+        && has_texts(list, &TWICE)
 }
 
-fn fill_narrow_set<R: Wait + Abort>(rt: &R, set: &DefaultSet) {
-    let mut list = list_of(rt, set, &["interned", "interned"]);
-    assert!(rt; is_full(rt, &mut list) && is_full(rt, &mut list));
+fn fill_narrow_set<R: Wait + Abort>(rt: &R, set: &DefaultSet, list: &mut DefaultList<'_>) {
+    assert!(rt; is_full(rt, list) && is_full(rt, list));
     list.clear();
     assert!(rt; links(rt, set, 0));
-    assert!(rt; matches!(push(rt, &mut list, "interned"), Err(Fault::TicketsSpent)));
+    assert!(rt; push(rt, list, "interned") == Err(Fault::TicketsSpent));
     assert!(rt; list.is_empty());
 }
 
@@ -179,21 +230,24 @@ fn full_text_gets_no_place(rt: HostRuntime) {
     play(&rt, limited_set(&rt, rt.alloc(), 2, 1), Scene::NarrowSet);
 }
 
-/// The text of a number: dynamic, each with a letter beyond ASCII.
-fn numbered(out: &mut String, number: u32) -> Result<(), Fault> {
+/// Pushes the text of a number, made in `out`: dynamic, each with a letter beyond ASCII.
+fn push_number<R: Wait>(
+    rt: &R,
+    list: &mut DefaultList<'_>,
+    out: &mut String,
+    number: u32,
+) -> Result<(), Fault> {
     out.clear();
     write!(out, "Nummer für {number}")?;
-    Ok(())
+    push(rt, list, out)
 }
 
 /// Pushes the texts of these numbers.
-fn push_numbers<R: Wait>(rt: &R, list: &mut DefaultList<'_>, alloc: Global) -> Result<(), Fault> {
+fn push_numbers<R: Wait + Abort>(rt: &R, list: &mut DefaultList<'_>, alloc: Global) {
     let mut text = String::new(alloc);
     for number in 0..MANY {
-        numbered(&mut text, number)?;
-        push(rt, list, &text)?;
+        push_number(rt, list, &mut text, number).expect(rt, "a place");
     }
-    Ok(())
 }
 
 /// More places than 16 bits count.
@@ -202,15 +256,14 @@ const MANY: u32 = 70_001;
 /// A list of the texts of numbers.
 fn long_list<'s, R: Wait + Abort>(rt: &R, set: &'s DefaultSet) -> DefaultList<'s> {
     let mut list = AtomList::new(set);
-    push_numbers(rt, &mut list, set.allocator()).expect(rt, "places");
+    push_numbers(rt, &mut list, set.allocator());
     list
 }
 
-/// A list of many texts has the last of them and one between, and goes.
-fn end_long_list<R: Wait + Abort>(rt: &R, set: &DefaultSet) {
-    let list = long_list(rt, set);
+/// A list of many texts has the last of them and one between.
+fn find_in_long_list<R: Wait + Abort>(rt: &R, set: &DefaultSet, list: &DefaultList<'_>) {
     assert!(rt; list.len() == 70_001 && links(rt, set, 70_001));
-    assert!(rt; list.get(65_536) == Some("Nummer für 65536"));
+    assert!(rt; has_at(list, 65_536, "Nummer für 65536"));
     assert!(rt; list.iter().last() == Some("Nummer für 70000"));
 }
 
@@ -219,8 +272,7 @@ fn long_list_gives_all_back(rt: HostRuntime) {
     play(&rt, default_set(&rt, rt.alloc()), Scene::LongList);
 }
 
-fn clear_long_list<R: Wait + Abort>(rt: &R, set: &DefaultSet) {
-    let mut list = long_list(rt, set);
+fn clear_long_list<R: Wait + Abort>(rt: &R, set: &DefaultSet, list: &mut DefaultList<'_>) {
     list.clear();
     assert!(rt; list.is_empty() && links(rt, set, 0));
 }
@@ -236,7 +288,7 @@ fn hold_long_text<R: Wait + Abort>(rt: &R, set: &DefaultSet) {
         .repeat(set.allocator(), 30_000)
         .expect(rt, "a text");
     let list = list_of(rt, set, &[text.as_str()]);
-    assert!(rt; list.get(0) == Some(text.as_str()) && links(rt, set, 1));
+    assert!(rt; has_at(&list, 0, &text) && links(rt, set, 1));
 }
 
 #[test]
@@ -262,7 +314,7 @@ fn list_ends_under_a_held_lock(rt: HostRuntime) {
 /// Gives inline and static texts places, and takes them out.
 fn fill_with_fixed<R: Wait + Abort>(rt: &R, set: &Set<One>) {
     let mut list = list_of(rt, set, &["é", "sentence"]);
-    assert!(rt; cloned_at(rt, &list, 1).is_ok() && pop(&mut list).is_some());
+    assert!(rt; !lends_none(rt, &list, 1) && has_last(&mut list));
     list.clear();
 }
 
@@ -287,13 +339,16 @@ fn push_in_turn<R: Wait>(
     Ok(())
 }
 
-/// Pushes four texts, some of which the other thread pushes as well, 500 times over, lets half of them go, and the rest with its end.
-fn fills_and_goes<R: Wait>(rt: &R, set: &DefaultSet, texts: [&str; 4]) -> bool {
-    let mut list = AtomList::new(set);
-    let is_filled = push_in_turn(rt, &mut list, texts).is_ok();
-    let is_last = list.get(1_999) == Some(texts[3]);
+/// Pushes four texts, some of which the other thread pushes as well, 500 times over, and lets half of them go.
+fn is_filled<R: Wait>(rt: &R, list: &mut DefaultList<'_>, texts: [&str; 4]) -> bool {
+    let is_pushed = push_in_turn(rt, list, texts).is_ok() && has_at(list, 1_999, texts[3]);
     list.truncate(1_000);
-    is_filled && is_last && list.get(999) == Some(texts[3]) && list.len() == 1_000
+    is_pushed && has_at(list, 999, texts[3]) && list.len() == 1_000
+}
+
+/// Does so with a list, which goes with the rest.
+fn fills_and_goes<R: Wait>(rt: &R, set: &DefaultSet, texts: [&str; 4]) -> bool {
+    is_filled(rt, &mut AtomList::new(set), texts)
 }
 
 /// Whether two threads fill lists of one set.

@@ -32,21 +32,25 @@ enum Question {
     LongText,
 }
 
+/// Asks it of a set.
+fn check<Static: StaticTables, R: Wait + Abort>(rt: &R, set: &Set<Static>, question: Question) {
+    match question {
+        Question::Hashes => check_hashes(rt, set),
+        Question::Orders => check_orders(rt, set),
+        Question::Equalities => check_equalities(rt, set),
+        Question::EqualTexts => check_equal_texts(rt, &intern(rt, set, "Foo")),
+        Question::Clones => check_clones(rt, set),
+        Question::Owners => check_owners(rt, set, &intern(rt, set, "interned")),
+        Question::Cases => check_cases(rt, set),
+        Question::StaticCases => check_static_cases(rt, set),
+        Question::Keys => keys::check_keys(rt, set),
+        Question::LongText => check_long_text(rt, set),
+    }
+}
+
 /// Asks it of a new set.
 fn ask<Static: StaticTables, R: Wait + Abort>(rt: &R, alloc: Global, question: Question) {
-    let set = new_set::<Static>(rt, alloc);
-    match question {
-        Question::Hashes => check_hashes(rt, &set),
-        Question::Orders => check_orders(rt, &set),
-        Question::Equalities => check_equalities(rt, &set),
-        Question::EqualTexts => check_equal_texts(rt, &set),
-        Question::Clones => check_clones(rt, &set),
-        Question::Owners => check_owners(rt, &set),
-        Question::Cases => check_cases(rt, &set),
-        Question::StaticCases => check_static_cases(rt, &set),
-        Question::Keys => keys::check_keys(rt, &set),
-        Question::LongText => check_long_text(rt, &set),
-    }
+    check(rt, &new_set::<Static>(rt, alloc), question);
 }
 
 fn ask_default<R: Wait + Abort>(rt: &R, alloc: Global, question: Question) {
@@ -103,16 +107,6 @@ fn order<R: Wait + Abort, Static: StaticTables>(
     left.cmp(&intern(rt, set, right))
 }
 
-fn check_order<R: Wait + Abort, Static: StaticTables>(
-    rt: &R,
-    set: &Set<Static>,
-    (left, right): (&str, &str),
-    wanted: Ordering,
-) {
-    let found = order(rt, set, left, right);
-    assert!(rt; found == wanted, "of {left:?} and {right:?}");
-}
-
 /// Two texts, and the order of their atoms. By their words "b" would stand before "aa", and "sentence" before "interned".
 const ORDERS: [(&str, &str, Ordering); 6] = [
     ("é", "z", Ordering::Greater),
@@ -125,7 +119,10 @@ const ORDERS: [(&str, &str, Ordering); 6] = [
 
 fn check_orders<R: Wait + Abort, Static: StaticTables>(rt: &R, set: &Set<Static>) {
     for (left, right, wanted) in &ORDERS {
-        check_order(rt, set, (left, right), *wanted);
+        assert!(rt;
+            order(rt, set, left, right) == *wanted,
+            "of {left:?} and {right:?}"
+        );
     }
 }
 
@@ -184,11 +181,10 @@ const EQUAL_TEXTS: [(&str, bool, bool); 4] = [
     ("fo", false, false),
 ];
 
-fn check_equal_texts<R: Wait + Abort, Static: StaticTables>(rt: &R, set: &Set<Static>) {
-    let atom = intern(rt, set, "Foo");
+fn check_equal_texts<Static: StaticTables>(rt: &impl Abort, atom: &Atom<'_, Static>) {
     for (text, equal, without_case) in &EQUAL_TEXTS {
         assert!(rt;
-            equals_text(&atom, text, *equal, *without_case),
+            equals_text(atom, text, *equal, *without_case),
             "of {text:?}"
         );
     }
@@ -199,21 +195,20 @@ fn without_case_of_a_text(rt: HostRuntime) {
     ask_default(&rt, rt.alloc(), Question::EqualTexts);
 }
 
-/// Whether the clone has the atom's word, and this text.
+/// Whether the clone, which goes, has the atom's word, and this text.
 fn is_clone<Static: StaticTables>(
-    clone: &Atom<'_, Static>,
+    clone: Atom<'_, Static>,
     atom: &Atom<'_, Static>,
     text: &str,
 ) -> bool {
-    are_one(clone, atom) && has_text(clone, text)
+    are_one(&clone, atom) && has_text(&clone, text)
 }
 
 /// Whether both calls clone the atom of the text.
 fn is_cloned<R: Wait + Abort, Static: StaticTables>(rt: &R, set: &Set<Static>, text: &str) -> bool {
     let atom = intern(rt, set, text);
-    let clone = clone_of(rt, &atom);
-    let other = copied(rt, &atom).expect(rt, "an atom");
-    is_clone(&clone, &atom, text) && is_clone(&other, &atom, text)
+    is_clone(clone_of(rt, &atom), &atom, text)
+        && is_clone(copied(rt, &atom).expect(rt, "an atom"), &atom, text)
 }
 
 /// Texts that are inline, static and dynamic.
@@ -230,9 +225,9 @@ fn clones(rt: HostRuntime) {
     ask_one(&rt, rt.alloc(), Question::Clones);
 }
 
-/// Whether the other is dynamic as the atom is, and one with it.
-fn is_same<Static: StaticTables>(atom: &Atom<'_, Static>, other: &Atom<'_, Static>) -> bool {
-    other.is_dynamic() && other == atom && are_one(other, atom)
+/// Whether the other, which goes, is dynamic as the atom is, and one with it.
+fn is_same<Static: StaticTables>(atom: &Atom<'_, Static>, other: Atom<'_, Static>) -> bool {
+    other.is_dynamic() && other == *atom && are_one(&other, atom)
 }
 
 fn owned(rt: &impl Abort, alloc: Global, text: &str) -> String {
@@ -247,7 +242,7 @@ fn is_owned<R: Wait + Abort, Static: StaticTables>(
 ) -> bool {
     let own = owned(rt, set.allocator(), text);
     match interned_owned(rt, set, own) {
-        Ok(other) => is_same(atom, &other),
+        Ok(other) => is_same(atom, other),
         Err(_) => false,
     }
 }
@@ -259,7 +254,7 @@ fn is_cow<R: Wait, Static: StaticTables>(
     text: CowStr<'_>,
 ) -> bool {
     match interned_cow(rt, set, text) {
-        Ok(other) => is_same(atom, &other),
+        Ok(other) => is_same(atom, other),
         Err(_) => false,
     }
 }
@@ -277,9 +272,12 @@ fn is_of_each_owner<R: Wait + Abort, Static: StaticTables>(
         && is_cow(rt, set, atom, CowStr::Owned(own))
 }
 
-fn check_owners<R: Wait + Abort, Static: StaticTables>(rt: &R, set: &Set<Static>) {
-    let atom = intern(rt, set, "interned");
-    assert!(rt; is_of_each_owner(rt, set, &atom, "interned"));
+fn check_owners<R: Wait + Abort, Static: StaticTables>(
+    rt: &R,
+    set: &Set<Static>,
+    atom: &Atom<'_, Static>,
+) {
+    assert!(rt; is_of_each_owner(rt, set, atom, "interned"));
 }
 
 #[test]
@@ -352,11 +350,23 @@ fn cases(rt: HostRuntime) {
     ask_default(&rt, rt.alloc(), Question::Cases);
 }
 
+/// Whether the atom, which goes, is that of the static text.
+fn is_sentence<Static: StaticTables>(atom: Atom<'_, Static>) -> bool {
+    atom.is_static() && has_word(&atom, 2)
+}
+
+/// Whether the atom in capitals is dynamic, and the static one again in small letters.
+fn has_static_lower<R: Wait + Abort, Static: StaticTables>(
+    rt: &R,
+    set: &Set<Static>,
+    upper: &Atom<'_, Static>,
+) -> bool {
+    has_text(upper, "SENTENCE") && upper.is_dynamic() && is_sentence(lower_of(rt, set, upper))
+}
+
 fn check_static_cases<R: Wait + Abort, Static: StaticTables>(rt: &R, set: &Set<Static>) {
     let upper = upper_of(rt, set, &intern(rt, set, "sentence"));
-    assert!(rt; has_text(&upper, "SENTENCE") && upper.is_dynamic());
-    let lower = lower_of(rt, set, &upper);
-    assert!(rt; lower.is_static() && has_word(&lower, 2));
+    assert!(rt; has_static_lower(rt, set, &upper));
 }
 
 #[test]
@@ -395,14 +405,23 @@ fn check_upper<R: Wait + Abort, Static: StaticTables>(
     assert!(rt; upper.eq_ignore_ascii_case(atom));
 }
 
+/// Checks the atom of a long text, its other case, and its copies.
+fn check_long_atom<R: Wait + Abort, Static: StaticTables>(
+    rt: &R,
+    set: &Set<Static>,
+    atom: &Atom<'_, Static>,
+    text: &str,
+) {
+    assert!(rt; has_length(atom, 300_000));
+    assert!(rt; is_same(atom, json_copy(rt, set, atom)));
+    assert!(rt; is_owned(rt, set, atom, text));
+    check_upper(rt, set, atom);
+}
+
 /// A text of 300,000 bytes, not all of them ASCII, interned, put into another case, and there and back as JSON.
 fn check_long_text<R: Wait + Abort, Static: StaticTables>(rt: &R, set: &Set<Static>) {
     let text = repeated(rt, set.allocator(), "aé", 100_000);
-    let atom = intern(rt, set, &text);
-    assert!(rt; has_length(&atom, 300_000));
-    assert!(rt; is_same(&atom, &json_copy(rt, set, &atom)));
-    assert!(rt; is_owned(rt, set, &atom, &text));
-    check_upper(rt, set, &atom);
+    check_long_atom(rt, set, &intern(rt, set, &text), &text);
 }
 
 #[test]

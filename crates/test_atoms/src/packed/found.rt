@@ -2,6 +2,7 @@
 //! written from the definitions in Python.
 
 use std::alloc::{AllocError, Global};
+use std::process::Abort;
 use string_cache::Atom;
 use string_cache::static_sets::{StaticTables, are_perfect, static_text};
 use string_cache::word::static_word;
@@ -35,6 +36,17 @@ fn has_text<S: StaticTables>(index: u32) -> bool {
     static_text::<S>(index).is_some()
 }
 
+/// Checks that a static type is perfect, has so many texts, and those of the rows at their indices, with their hashes.
+fn check_listed<S: StaticTables>(rt: &impl Abort, count: u32, rows: &[(u32, &str, u64)]) {
+    assert!(rt; are_perfect::<S>() && S::count() == count);
+    for (index, text, hash) in rows {
+        assert!(rt;
+            is_at::<S>(text, *index) && lists::<S>(*index, text, *hash),
+            "of {text:?}"
+        );
+    }
+}
+
 const DISHES: [(u32, &str, u64); 5] = [
     (0, "minestrone", 0x89ec_7cae_c7b8_7cfe),
     (1, "味噌汁", 0xa6f9_169d_0958_f636),
@@ -46,12 +58,7 @@ const DISHES: [(u32, &str, u64); 5] = [
 /// Names of several scripts.
 #[test]
 fn dishes_are_static(rt: HostRuntime) {
-    assert!(rt; are_perfect::<Dishes>());
-    assert_eq!(rt; Dishes::count(), 5);
-    for (index, text, hash) in &DISHES {
-        assert!(rt; is_at::<Dishes>(text, *index), "of {text:?}");
-        assert!(rt; lists::<Dishes>(*index, text, *hash), "of {text:?}");
-    }
+    check_listed::<Dishes>(&rt, 5, &DISHES);
     assert!(rt; !is_static::<Dishes>("minestrones") && !is_static::<Dishes>("味噌"));
     assert!(rt; !is_static::<Dishes>("") && !has_text::<Dishes>(5));
 }
@@ -71,12 +78,7 @@ const ELEMENTS: [(u32, &str, u64); 3] = [
 /// A thousand names.
 #[test]
 fn elements_are_static(rt: HostRuntime) {
-    assert!(rt; are_perfect::<Elements>());
-    assert_eq!(rt; Elements::count(), 1_000);
-    for (index, text, hash) in &ELEMENTS {
-        assert!(rt; is_at::<Elements>(text, *index), "of {text}");
-        assert!(rt; lists::<Elements>(*index, text, *hash), "of {text}");
-    }
+    check_listed::<Elements>(&rt, 1_000, &ELEMENTS);
     for number in 0..1_001 {
         assert!(rt;
             is_element(rt.alloc(), number) == Ok(number < 1_000),

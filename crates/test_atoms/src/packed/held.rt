@@ -52,37 +52,44 @@ fn sets_link_what_is_not_listed(rt: HostRuntime) {
     assert!(rt; is_linked::<Misplaced>(&rt, alloc, "sentence"));
 }
 
-/// Whether the table interns the text as this word, and has it as the word's text.
+fn new_table<Static: StaticTables>(rt: &impl Abort, alloc: Global) -> Table<Static> {
+    Table::new(alloc).expect(rt, "a table")
+}
+
+/// Whether the table interns the text as this word, has it as the word's text, and holds nothing.
 fn interns<S: StaticTables>(table: &mut Table<S>, text: &str, word: u64) -> bool {
     if table.intern(text) != Ok(word) {
         return false;
     }
     match table.text(word) {
-        Some(own) => own == text,
+        Some(own) => own == text && table.entries() == 0,
         None => false,
     }
 }
 
 /// Whether a table of its own gives the text this word, and holds nothing.
-fn gives<S: StaticTables>(alloc: Global, text: &str, word: u64) -> Result<bool, Fault> {
-    let mut table = Table::<S>::new(alloc)?;
-    Ok(interns(&mut table, text, word) && table.entries() == 0)
+fn gives<S: StaticTables>(rt: &impl Abort, alloc: Global, text: &str, word: u64) -> bool {
+    interns(&mut new_table::<S>(rt, alloc), text, word)
 }
 
-/// How many texts a table of its own holds once it has this one.
-fn held<S: StaticTables>(alloc: Global, text: &str) -> Result<usize, Fault> {
-    let mut table = Table::<S>::new(alloc)?;
+/// How many texts the table holds once it has this one.
+fn entries_with<S: StaticTables>(table: &mut Table<S>, text: &str) -> Result<usize, Fault> {
     let _ = table.intern(text)?;
     Ok(table.entries())
+}
+
+/// How many a table of its own holds then.
+fn held<S: StaticTables>(rt: &impl Abort, alloc: Global, text: &str) -> Result<usize, Fault> {
+    entries_with(&mut new_table::<S>(rt, alloc), text)
 }
 
 #[test]
 fn tables_hold_what_is_not_listed(rt: HostRuntime) {
     let alloc = rt.alloc();
-    assert!(rt; gives::<Dishes>(alloc, "味噌汁", static_word(1)) == Ok(true));
-    assert!(rt; held::<Dishes>(alloc, "味噌汁") == Ok(0));
-    assert!(rt; held::<Dishes>(alloc, "minestrones") == Ok(1));
-    assert!(rt; held::<Misplaced>(alloc, "sentence") == Ok(1));
+    assert!(rt; gives::<Dishes>(&rt, alloc, "味噌汁", static_word(1)));
+    assert!(rt; held::<Dishes>(&rt, alloc, "味噌汁") == Ok(0));
+    assert!(rt; held::<Dishes>(&rt, alloc, "minestrones") == Ok(1));
+    assert!(rt; held::<Misplaced>(&rt, alloc, "sentence") == Ok(1));
 }
 
 /// What a world replies to a party that would intern the text.

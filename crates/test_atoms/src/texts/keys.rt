@@ -2,31 +2,29 @@
 
 use crate::samples::{clone_of, intern};
 use std::collections::{BTreeMap, HashMap};
+use std::convert::AsStr;
+use std::hash::Hash;
 use std::process::Abort;
 use std::sync::Wait;
 use string_cache::Atom;
 use string_cache::dynamic_set::Set;
 use string_cache::static_sets::StaticTables;
-use test_calls::has_text;
 
-/// Adds one to the count of an atom.
-fn count_hashed<'s, Static: StaticTables>(
-    rt: &impl Abort,
-    counts: &mut HashMap<Atom<'s, Static>, u64>,
-    atom: Atom<'s, Static>,
-) {
-    let count = counts.entry(atom).expect(rt, "an answer").or_insert(0);
+/// Adds one to the count of a key.
+fn count_hashed<K: Hash + Eq + Drop>(rt: &impl Abort, counts: &mut HashMap<K, u64>, key: K) {
+    let count = counts.entry(key).expect(rt, "an answer").or_insert(0);
     *count = count.saturating_add(1);
 }
 
-/// Adds one to the count of an atom.
-fn count_sorted<'s, Static: StaticTables>(
-    rt: &impl Abort,
-    counts: &mut BTreeMap<Atom<'s, Static>, u64>,
-    atom: Atom<'s, Static>,
-) {
-    let count = counts.entry(atom).expect(rt, "an answer").or_insert(0);
+/// Adds one to the count of a key.
+fn count_sorted<K: Ord + Drop>(rt: &impl Abort, counts: &mut BTreeMap<K, u64>, key: K) {
+    let count = counts.entry(key).expect(rt, "an answer").or_insert(0);
     *count = count.saturating_add(1);
+}
+
+/// How often the map has this key.
+fn times_of<K: Hash + Eq>(counts: &HashMap<K, u64>, key: &K) -> Option<u64> {
+    counts.get(key).copied()
 }
 
 /// How often the map has the atom of this word.
@@ -36,22 +34,22 @@ fn count_of<R: Wait + Abort, Static: StaticTables>(
     counts: &HashMap<Atom<'_, Static>, u64>,
     word: &str,
 ) -> Option<u64> {
-    match counts.get(&intern(rt, set, word)) {
-        Some(count) => Some(*count),
-        None => None,
-    }
+    times_of(counts, &intern(rt, set, word))
 }
 
-/// Whether the map has these words, in this order, as often as this.
-fn has_counts<Static: StaticTables>(
-    sorted: &BTreeMap<Atom<'_, Static>, u64>,
-    wanted: &[(&str, u64)],
-) -> bool {
-    let mut is_right = sorted.len() == wanted.len();
-    for ((atom, count), (word, times)) in sorted.iter().zip(wanted.iter()) {
-        is_right = is_right && has_text(atom, word) && count == times;
+/// Whether a key of this text has this count.
+fn is_counted<K: AsStr>((key, count): (&K, &u64), (text, times): &(&str, u64)) -> bool {
+    key.as_str() == *text && count == times
+}
+
+/// Whether the map has keys of these texts, in this order, as often as this.
+fn has_counts<K: Ord + AsStr>(sorted: &BTreeMap<K, u64>, wanted: &[(&str, u64)]) -> bool {
+    for (found, row) in sorted.iter().zip(wanted.iter()) {
+        if !is_counted(found, row) {
+            return false;
+        }
     }
-    is_right
+    sorted.len() == wanted.len()
 }
 
 /// Counts the words of a text, by the hashes of their atoms and by their order.
