@@ -1,10 +1,11 @@
 //! Buckets' locks that are held meanwhile, and what stays linked. By OpenSSL's SipHash the bucket of "afterwards" is 0, of
 //! "geometric" 0xfff, and of "forgotten" and "magnitude" 0x72f.
 
+mod unlocked;
+
 use crate::samples::{
-    DefaultSet, check_atom, check_linked, clone_of, default_set, intern, lock_of, new_set,
+    DefaultSet, check_atom, check_linked, clone_of, default_set, intern, lock_of,
 };
-use serde_json::Value;
 use std::alloc::Global;
 use std::process::Abort;
 use std::sync::atomic::{AtomicBool, Ordering};
@@ -14,17 +15,21 @@ use std::time::{Clock, Duration};
 use string_cache::dynamic_set::{Bucket, Set};
 use string_cache::static_sets::{EmptyStaticAtomSet, StaticTables};
 use string_cache::word::ticket_word;
-use string_cache::{Atom, DefaultAtom, Fault};
-use test_calls::{has_text, has_word, look_up, lowered};
-use test_samples::One;
+use string_cache::{Atom, DefaultAtom};
+use test_calls::{has_word, look_up};
+
+fn is_free(bucket: &Mutex<Bucket<EmptyStaticAtomSet>>) -> bool {
+    bucket.try_lock().is_some()
+}
 
 /// Whether each lock is free but this one's, or each, where there is no such bucket.
 fn are_free(set: &DefaultSet, held: usize) -> bool {
-    let mut is_right = true;
     for (at, bucket) in set.buckets().iter().enumerate() {
-        is_right = is_right && bucket.try_lock().is_some() == (at != held);
+        if is_free(bucket) == (at == held) {
+            return false;
+        }
     }
-    is_right
+    true
 }
 
 /// What is done with a new set.
@@ -43,22 +48,36 @@ enum Scene {
     OneLock,
 }
 
-/// Plays the scene in a new set.
-fn play<R: Threads + Clock + Wait + Abort + Sync>(rt: &R, alloc: Global, scene: Scene) {
-    let set = default_set(rt, alloc);
+/// Plays the scene in a set.
+fn play_in<R: Threads + Clock + Wait + Abort + Sync>(rt: &R, set: &DefaultSet, scene: Scene) {
     match scene {
-        Scene::LastDrop => drop_last(rt, &set),
-        Scene::DyingIsNotFound => look_up_dying(rt, &set),
-        Scene::DyingGetsNew => intern_dying(rt, &set),
-        Scene::HeldStay => keep_held(rt, &set),
-        Scene::SweepReachesEach => sweep_each(rt, &set),
-        Scene::OneOfTwoShares => drop_one_of_two(rt, &set),
-        Scene::LastDropPrunesItsOwn => drop_beside_dying(rt, &set),
-        Scene::OneBucket => intern_beside(rt, &set),
-        Scene::Waits(call, wanted) => wait_for_last(rt, &set, call, wanted),
-        Scene::SweepGoesOn => sweep_on(rt, &set),
-        Scene::OneLock => hold_one(rt, &set),
+        Scene::LastDrop => drop_last(rt, set),
+        Scene::DyingIsNotFound => look_up_dying(rt, set),
+        Scene::DyingGetsNew => intern_dying(rt, set),
+        Scene::HeldStay => keep_held(rt, set),
+        Scene::SweepReachesEach => sweep_each(rt, set),
+        Scene::OneOfTwoShares => drop_one_of_two(rt, set),
+        Scene::LastDropPrunesItsOwn => drop_beside_dying(rt, set),
+        Scene::OneBucket => intern_beside(rt, set),
+        Scene::Waits(call, wanted) => wait_for_last(rt, set, call, wanted),
+        Scene::SweepGoesOn => sweep_on(rt, set),
+        Scene::OneLock => hold_one(rt, set),
     }
+}
+
+/// Plays it in a new set.
+fn play<R: Threads + Clock + Wait + Abort + Sync>(rt: &R, alloc: Global, scene: Scene) {
+    play_in(rt, &default_set(rt, alloc), scene);
+}
+
+/// The atoms of two texts.
+pub fn two_atoms<'s, R: Wait + Abort>(
+    rt: &R,
+    set: &'s DefaultSet,
+    first: &str,
+    second: &str,
+) -> (DefaultAtom<'s>, DefaultAtom<'s>) {
+    (intern(rt, set, first), intern(rt, set, second))
 }
 
 /// Interns a text and drops its atom while its bucket's lock is held, the other buckets' locks being free: the entry dies and stays.
@@ -85,7 +104,11 @@ fn last_drop_under_a_held_lock(rt: HostRuntime) {
 
 fn look_up_dying<R: Wait + Abort>(rt: &R, set: &DefaultSet) {
     let_die(rt, set);
-    assert!(rt; matches!(look_up(rt, set, "interned"), Ok(None)));
+    assert!(rt;
+        look_up(rt, set, "interned")
+            .expect(rt, "an answer")
+            .is_none()
+    );
     check_linked(rt, set, 0);
 }
 
@@ -107,25 +130,35 @@ fn text_of_a_dying_entry_gets_a_new_one(rt: HostRuntime) {
     play(&rt, rt.alloc(), Scene::DyingGetsNew);
 }
 
+/// The words of "forgotten" and "magnitude", where these are the first two texts.
+const FORGOTTEN: u64 = 0x1_1cbc;
+
+const MAGNITUDE: u64 = 0x2_1cbc;
+
+/// Interns a text that is held already.
+fn check_again<R: Wait + Abort>(rt: &R, set: &DefaultSet, text: &str, word: u64) {
+    check_atom(rt, &intern(rt, set, text), text, word);
+}
+
 /// Interns both held texts again, and sweeps: neither goes.
-fn check_held<R: Wait + Abort>(rt: &R, set: &DefaultSet, first: u64, second: u64) {
-    check_atom(rt, &intern(rt, set, "forgotten"), "forgotten", first);
-    check_atom(rt, &intern(rt, set, "magnitude"), "magnitude", second);
-    set.sweep(rt);
-    check_linked(rt, set, 2);
+fn check_held<R: Wait + Abort>(rt: &R, set: &DefaultSet) {
+    for _ in 0..2 {
+        check_again(rt, set, "forgotten", FORGOTTEN);
+        check_again(rt, set, "magnitude", MAGNITUDE);
+        set.sweep(rt);
+        check_linked(rt, set, 2);
+    }
 }
 
 fn keep_held<R: Wait + Abort>(rt: &R, set: &DefaultSet) {
     let forgotten = intern(rt, set, "forgotten");
     let magnitude = intern(rt, set, "magnitude");
-    check_atom(rt, &forgotten, "forgotten", ticket_word(1, 0x72f));
-    check_atom(rt, &magnitude, "magnitude", ticket_word(2, 0x72f));
-    for _ in 0..2 {
-        check_held(rt, set, ticket_word(1, 0x72f), ticket_word(2, 0x72f));
-    }
+    check_atom(rt, &forgotten, "forgotten", FORGOTTEN);
+    check_atom(rt, &magnitude, "magnitude", MAGNITUDE);
+    check_held(rt, set);
     drop(forgotten);
     check_linked(rt, set, 1);
-    check_atom(rt, &magnitude, "magnitude", ticket_word(2, 0x72f));
+    check_atom(rt, &magnitude, "magnitude", MAGNITUDE);
 }
 
 /// Passes for the other text, interning both again, sweeps and drops that aren't the last leave an entry that has a share.
@@ -135,33 +168,18 @@ fn held_texts_stay_linked(rt: HostRuntime) {
 }
 
 /// Drops atoms while the locks of the first bucket, the last one and one between are held.
-fn drop_under_three_locks<R: Wait + Abort, A: Drop>(rt: &R, set: &DefaultSet, atoms: A) {
+pub fn drop_under_three_locks<R: Wait + Abort, A: Drop>(rt: &R, set: &DefaultSet, atoms: A) {
     let _first = lock_of(rt, set, 0);
     let _second = lock_of(rt, set, 0x72f);
     let _last = lock_of(rt, set, 0xfff);
     drop(atoms);
 }
 
-/// An atom of each text.
-fn atoms_of<'s, R: Wait + Abort>(
-    rt: &R,
-    set: &'s DefaultSet,
-    texts: &[&str],
-) -> Vec<DefaultAtom<'s>> {
-    let mut atoms = Vec::new(set.allocator());
-    for text in texts {
-        atoms.push(intern(rt, set, text)).expect(rt, "room");
-    }
-    atoms
-}
-
-/// Texts of the first bucket, the last one and one between.
-const SPREAD: [&str; 4] = ["afterwards", "forgotten", "magnitude", "geometric"];
-
 fn sweep_each<R: Wait + Abort>(rt: &R, set: &DefaultSet) {
-    let atoms = atoms_of(rt, set, &SPREAD);
+    let ends = two_atoms(rt, set, "afterwards", "geometric");
+    let between = two_atoms(rt, set, "forgotten", "magnitude");
     check_linked(rt, set, 4);
-    drop_under_three_locks(rt, set, atoms);
+    drop_under_three_locks(rt, set, (ends, between));
     check_linked(rt, set, 4);
     set.sweep(rt);
     check_linked(rt, set, 0);
@@ -193,8 +211,7 @@ fn drop_of_one_of_two_shares_takes_out_nothing(rt: HostRuntime) {
 
 fn drop_beside_dying<R: Wait + Abort>(rt: &R, set: &DefaultSet) {
     let atom = intern(rt, set, "interned");
-    let others = (intern(rt, set, "afterwards"), intern(rt, set, "geometric"));
-    drop_under_three_locks(rt, set, others);
+    drop_under_three_locks(rt, set, two_atoms(rt, set, "afterwards", "geometric"));
     drop(atom);
     assert!(rt; are_free(set, usize::MAX));
     for _ in 0..2 {
@@ -255,13 +272,6 @@ fn beside<R: Threads + Clock, L: Drop, T: Send, F: FnOnce() -> T + Send>(
     )
 }
 
-/// Whether a clone's text in lower case is this one, and not dynamic.
-fn lowers_to<R: Wait + Abort>(rt: &R, set: &Set<One>, atom: &Atom<'_, One>, text: &str) -> bool {
-    let clone = clone_of(rt, atom);
-    let lower = lowered(rt, set, &clone).expect(rt, "an atom");
-    has_text(&lower, text) && !lower.is_dynamic()
-}
-
 /// Whether the set has the atom of the text.
 fn has_found<R: Wait, Static: StaticTables>(
     rt: &R,
@@ -275,59 +285,25 @@ fn has_found<R: Wait, Static: StaticTables>(
     }
 }
 
-/// Interns, clones, looks up and drops a text that isn't dynamic. Whether it was as it should be.
-fn keeps_fixed_text<R: Wait + Abort>(rt: &R, set: &Set<One>, text: &str) -> bool {
-    let atom = intern(rt, set, text);
-    lowers_to(rt, set, &atom, text) && has_found(rt, set, text, &atom)
-}
+/// The word of "interned", where it is the first text.
+const INTERNED: u64 = 0x1_0840;
 
-/// Whether a JSON value that is no text is refused as such.
-fn refuses_null<R: Wait>(rt: &R, set: &Set<One>) -> bool {
-    matches!(
-        Atom::from_json_in(rt, set, &Value::Null),
-        Err(Fault::NotText)
-    )
-}
-
-/// Works with an inline and a static text, and reads JSON values. Whether each was as it should be.
-fn work_without_locks<R: Wait + Abort>(rt: &R, set: &Set<One>, dynamic: &Atom<'_, One>) -> bool {
-    drop(clone_of(rt, dynamic));
-    refuses_null(rt, set)
-        && keeps_fixed_text(rt, set, "foo")
-        && keeps_fixed_text(rt, set, "sentence")
-        && has_text(dynamic, "interned")
-}
-
-#[test]
-fn calls_that_take_no_lock(rt: HostRuntime) {
-    let set = new_set::<One>(&rt, rt.alloc());
-    let dynamic = intern(&rt, &set, "interned");
-    let held = locks_but(&rt, &set, usize::MAX);
-    let (handle, shared, atom) = (&rt, &set, &dynamic);
-    let (is_right, ended) = beside(
-        &rt,
-        10_000,
-        held,
-        || work_without_locks(handle, shared, atom),
-    );
-    assert!(rt; ended);
-    assert!(rt; is_right);
+/// Interns a text that is held already, and looks it up.
+fn intern_again<R: Wait + Abort>(rt: &R, set: &DefaultSet) -> bool {
+    let second = intern(rt, set, "interned");
+    has_word(&second, INTERNED) && has_found(rt, set, "interned", &second)
 }
 
 /// Interns a text twice, looks it up, and drops the atoms. Whether their words were the first ticket's.
 fn intern_twice<R: Wait + Abort>(rt: &R, set: &DefaultSet) -> bool {
     let first = intern(rt, set, "interned");
-    let second = intern(rt, set, "interned");
-    has_word(&first, ticket_word(1, 0x210))
-        && has_word(&second, ticket_word(1, 0x210))
-        && has_found(rt, set, "interned", &second)
+    has_word(&first, INTERNED) && intern_again(rt, set)
 }
 
 fn intern_beside<R: Threads + Clock + Wait + Abort + Sync>(rt: &R, set: &DefaultSet) {
     let held = locks_but(rt, set, 0x210);
     let (is_first, ended) = beside(rt, 10_000, held, || intern_twice(rt, set));
-    assert!(rt; ended);
-    assert!(rt; is_first);
+    assert!(rt; ended && is_first);
     check_linked(rt, set, 0);
 }
 
@@ -365,20 +341,27 @@ fn told<R: Wait>(rt: &R, set: &DefaultSet, call: Call) -> u128 {
     }
 }
 
-/// The call waits for the last bucket's lock, which is held for a second, tells this of two entries that are held, and keeps no lock.
+/// Whether the call waits for the last bucket's lock, which is held for a second, tells this then, and keeps no lock.
+fn waits_for_last<R: Threads + Clock + Wait + Abort + Sync>(
+    rt: &R,
+    set: &DefaultSet,
+    call: Call,
+    wanted: u128,
+) -> bool {
+    let held = lock_of(rt, set, 0xfff);
+    let (found, ended) = beside(rt, 1_000, held, || told(rt, set, call));
+    !ended && found == wanted && are_free(set, usize::MAX)
+}
+
+/// It does so of two entries that are held.
 fn wait_for_last<R: Threads + Clock + Wait + Abort + Sync>(
     rt: &R,
     set: &DefaultSet,
     call: Call,
     wanted: u128,
 ) {
-    let _first = intern(rt, set, "afterwards");
-    let _last = intern(rt, set, "geometric");
-    let held = lock_of(rt, set, 0xfff);
-    let (found, ended) = beside(rt, 1_000, held, || told(rt, set, call));
-    assert!(rt; !ended);
-    assert!(rt; found == wanted);
-    assert!(rt; are_free(set, usize::MAX));
+    let _held = two_atoms(rt, set, "afterwards", "geometric");
+    assert!(rt; waits_for_last(rt, set, call, wanted));
 }
 
 #[test]
@@ -410,13 +393,22 @@ fn is_emptied<R: Wait + Clock>(rt: &R, bucket: &Mutex<Bucket<EmptyStaticAtomSet>
     false
 }
 
-fn sweep_on<R: Threads + Clock + Wait + Abort + Sync>(rt: &R, set: &DefaultSet) {
-    let atoms = (intern(rt, set, "afterwards"), intern(rt, set, "geometric"));
-    let first = set.buckets().get(0).expect(rt, "a bucket");
-    let of_first = first.lock(rt);
-    let of_last = lock_of(rt, set, 0xfff);
+/// Lets entries of the first bucket and the last one die under their locks, and keeps the last one's.
+fn let_ends_die<'s, R: Wait + Abort>(
+    rt: &R,
+    set: &'s DefaultSet,
+) -> MutexGuard<'s, Bucket<EmptyStaticAtomSet>> {
+    let atoms = two_atoms(rt, set, "afterwards", "geometric");
+    let first = lock_of(rt, set, 0);
+    let last = lock_of(rt, set, 0xfff);
     drop(atoms);
-    drop(of_first);
+    drop(first);
+    last
+}
+
+fn sweep_on<R: Threads + Clock + Wait + Abort + Sync>(rt: &R, set: &DefaultSet) {
+    let first = set.buckets().get(0).expect(rt, "a bucket");
+    let of_last = let_ends_die(rt, set);
     let ((), is_first_swept) = thread::join(
         rt,
         || set.sweep(rt),
