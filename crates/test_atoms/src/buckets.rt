@@ -98,16 +98,32 @@ fn found(answer: Pass<u64>) -> u64 {
     }
 }
 
-/// Links "tokenised", under this ticket.
-fn link_as(rt: &impl Abort, bucket: &mut Bucket<EmptyStaticAtomSet>, ticket: u64) -> Share {
-    let share = link(bucket, "tokenised", &Limits::greatest()).expect(rt, "an answer");
+/// Links "tokenised" within these limits, under this ticket.
+fn link_within(
+    rt: &impl Abort,
+    bucket: &mut Bucket<EmptyStaticAtomSet>,
+    limits: &Limits,
+    ticket: u64,
+) -> Share {
+    let share = link(bucket, "tokenised", limits).expect(rt, "an answer");
     check_share(rt, &share, "tokenised", ticket);
     share
 }
 
-/// Whether a share keeps its text and its ticket.
-fn stays(share: &Share, ticket: u64) -> bool {
-    share.text() == "tokenised" && share.ticket() == ticket
+fn link_as(rt: &impl Abort, bucket: &mut Bucket<EmptyStaticAtomSet>, ticket: u64) -> Share {
+    link_within(rt, bucket, &Limits::greatest(), ticket)
+}
+
+/// Whether the share is of the text, under the ticket.
+fn is_share(share: &Share, text: &str, ticket: u64) -> bool {
+    share.text() == text && share.ticket() == ticket
+}
+
+/// Whether shares of "tokenised" keep their text and their tickets.
+fn stay(one: &Share, two: &Share, three: &Share) -> bool {
+    is_share(one, "tokenised", FIRST)
+        && is_share(two, "tokenised", SECOND)
+        && is_share(three, "tokenised", THIRD)
 }
 
 /// What a pass finds of "tokenised".
@@ -124,7 +140,7 @@ fn pass_over_three<R: Wait + Abort>(rt: &R, alloc: Global, fake: Fake) -> (u64, 
     assert!(rt; tickets(&mut bucket) == [THIRD, SECOND, FIRST]);
     let finds = finds(rt, &mut bucket, fake);
     let left = tickets(&mut bucket);
-    assert!(rt; stays(&one, FIRST) && stays(&two, SECOND) && stays(&three, THIRD));
+    assert!(rt; stay(&one, &two, &three));
     (finds, left)
 }
 
@@ -162,52 +178,71 @@ fn intern<R: Wait>(
 
 /// Checks that the share is of the text, under the ticket.
 fn check_share(rt: &impl Abort, share: &Share, text: &str, ticket: u64) {
-    assert!(rt; share.text() == text);
-    assert_eq!(rt; share.ticket(), ticket);
+    assert!(rt; is_share(share, text, ticket));
+}
+
+/// A share of a text, whose entry is linked where there is none.
+fn share_of<R: Wait + Abort>(
+    rt: &R,
+    bucket: &mut Bucket<EmptyStaticAtomSet>,
+    text: &str,
+    limits: &Limits,
+) -> Share {
+    intern(rt, bucket, text, limits).expect(rt, "an answer")
+}
+
+/// Whether "tokenised" has as many holders as it may.
+fn is_full<R: Wait>(rt: &R, bucket: &mut Bucket<EmptyStaticAtomSet>, limits: &Limits) -> bool {
+    matches!(
+        intern(rt, bucket, "tokenised", limits),
+        Err(Fault::FullCount)
+    )
+}
+
+/// Two shares of "tokenised" have one ticket, and there is no third.
+fn hold_by_two<R: Wait + Abort>(rt: &R, bucket: &mut Bucket<EmptyStaticAtomSet>, limits: &Limits) {
+    let one = share_of(rt, bucket, "tokenised", limits);
+    let two = share_of(rt, bucket, "tokenised", limits);
+    assert!(rt; one.ticket() == two.ticket());
+    assert!(rt; is_full(rt, bucket, limits));
 }
 
 #[test]
 fn shares_of_a_bucket(rt: HostRuntime) {
     let limits = Limits::new(2, 2).expect(&rt, "limits");
     let mut bucket = new_bucket(rt.alloc());
-    let one = intern(&rt, &mut bucket, "tokenised", &limits).expect(&rt, "an answer");
-    let two = intern(&rt, &mut bucket, "tokenised", &limits).expect(&rt, "an answer");
-    assert!(rt; one.ticket() == two.ticket());
-    let three = intern(&rt, &mut bucket, "tokenised", &limits);
-    assert!(rt; matches!(three, Err(Fault::FullCount)));
-    drop(one);
-    drop(two);
+    hold_by_two(&rt, &mut bucket, &limits);
     // The entry is dying, and goes with the pass that links the next.
-    let next = intern(&rt, &mut bucket, "tokenised", &limits).expect(&rt, "an answer");
-    check_share(&rt, &next, "tokenised", ticket_word(2, 0xe77));
-    assert!(rt; tickets(&mut bucket) == [next.ticket(), 0, 0]);
+    let next = share_of(&rt, &mut bucket, "tokenised", &limits);
+    check_share(&rt, &next, "tokenised", SECOND);
+    assert!(rt; tickets(&mut bucket) == [SECOND, 0, 0]);
 }
 
 /// A share that outlives its bucket keeps its text, as does one whose entry made-up counts took out.
 #[test]
 fn share_outlives_its_bucket(rt: HostRuntime) {
-    let limits = Limits::greatest();
     let mut bucket = new_bucket(rt.alloc());
-    let taken_out = link(&mut bucket, "tokenised", &limits).expect(&rt, "an answer");
-    let mut fake = Fake::new(0, 0, 0);
-    assert!(rt; found(pass(&rt, &mut bucket, "tokenised", &mut fake)) == 0);
+    let taken_out = link_as(&rt, &mut bucket, FIRST);
+    assert!(rt; finds(&rt, &mut bucket, Fake::new(0, 0, 0)) == 0);
     assert!(rt; tickets(&mut bucket) == [0, 0, 0]);
-    let linked = link(&mut bucket, "tokenised", &limits).expect(&rt, "an answer");
+    let linked = link_as(&rt, &mut bucket, SECOND);
     drop(bucket);
-    check_share(&rt, &linked, "tokenised", ticket_word(2, 0xe77));
-    check_share(&rt, &taken_out, "tokenised", ticket_word(1, 0xe77));
+    check_share(&rt, &linked, "tokenised", SECOND);
+    check_share(&rt, &taken_out, "tokenised", FIRST);
+}
+
+/// Whether no ticket is left for "tokenised".
+fn is_spent(bucket: &mut Bucket<EmptyStaticAtomSet>, limits: &Limits) -> bool {
+    matches!(link(bucket, "tokenised", limits), Err(Fault::TicketsSpent))
 }
 
 #[test]
 fn spent_tickets(rt: HostRuntime) {
     let limits = Limits::new(1, 2).expect(&rt, "limits");
     let mut bucket = new_bucket(rt.alloc());
-    for ticket in [ticket_word(1, 0xe77), ticket_word(2, 0xe77)] {
-        let share = link(&mut bucket, "tokenised", &limits).expect(&rt, "an answer");
-        check_share(&rt, &share, "tokenised", ticket);
-    }
-    let refused = link(&mut bucket, "tokenised", &limits);
-    assert!(rt; matches!(refused, Err(Fault::TicketsSpent)));
+    drop(link_within(&rt, &mut bucket, &limits, FIRST));
+    drop(link_within(&rt, &mut bucket, &limits, SECOND));
+    assert!(rt; is_spent(&mut bucket, &limits));
 }
 
 /// A bucket asks for a text's hash alone: g and f1 of this one, which is inline, are 0x7f1a22d084b2f283 by OpenSSL's SipHash.
@@ -215,8 +250,8 @@ fn spent_tickets(rt: HostRuntime) {
 fn short_text_of_a_bucket(rt: HostRuntime) {
     let limits = Limits::greatest();
     let mut bucket = new_bucket(rt.alloc());
-    let share = intern(&rt, &mut bucket, "foo", &limits).expect(&rt, "an answer");
+    let share = share_of(&rt, &mut bucket, "foo", &limits);
     assert!(rt; share.ticket() == ticket_word(1, 0x283));
-    let again = intern(&rt, &mut bucket, "foo", &limits).expect(&rt, "an answer");
+    let again = share_of(&rt, &mut bucket, "foo", &limits);
     check_share(&rt, &again, "foo", share.ticket());
 }

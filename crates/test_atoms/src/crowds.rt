@@ -1,66 +1,74 @@
 //! Texts of one bucket, and many workers at them.
 
 use crate::samples::{BITS, DefaultSet, buckets_of, check_linked, clone_of, default_set, intern};
-use std::alloc::{AllocError, Global};
+use std::alloc::Global;
 use std::process::Abort;
 use std::sync::Wait;
-use std::test::Fail;
 use std::thread::{self, Threads};
-use string_cache::dynamic_set::Set;
+use string_cache::DefaultAtom;
 use string_cache::static_sets::EmptyStaticAtomSet;
 use string_cache::table::Table;
 use string_cache::word::{Buckets, Limits};
-use string_cache::{DefaultAtom, Fault};
-use test_calls::{has_text, hash_of, links};
+use test_calls::{has_text, hash_of, links, made_with};
 
-/// This many texts: `w0000000`, `w0000001` and so on.
-fn numbers(alloc: Global, count: usize) -> Result<Vec<String>, AllocError> {
+/// The text of a number: `w0000000`, `w0000001` and so on.
+pub fn numbered(rt: &impl Abort, alloc: Global, n: usize) -> String {
+    format!(in alloc; "w{n:07}").expect(rt, "a text")
+}
+
+/// The texts of this many numbers.
+fn numbers(rt: &impl Abort, alloc: Global, count: usize) -> Vec<String> {
     let mut texts = Vec::new(alloc);
     for n in 0..count {
-        texts.push(format!(in alloc; "w{n:07}")?)?;
+        texts.push(numbered(rt, alloc, n)).expect(rt, "room");
     }
-    Ok(texts)
+    texts
 }
 
 fn bucket_of_text(buckets: Buckets, text: &str) -> u16 {
     buckets.bucket_of(hash_of::<EmptyStaticAtomSet>(text))
 }
 
-/// The bucket that is the first to have this many of the texts.
+/// The bucket that is the first to have this many of the texts, if any has.
 fn crowded_bucket(
+    rt: &impl Abort,
     alloc: Global,
     buckets: Buckets,
     texts: &[String],
     wanted: u32,
-) -> Result<u16, Fail> {
-    let mut counts = vec![in alloc; 0u32; buckets.number()]?;
+) -> Option<u16> {
+    let mut counts = vec![in alloc; 0u32; buckets.number()].expect(rt, "room");
     for text in texts {
         let bucket = bucket_of_text(buckets, text);
         if let Some(count) = counts.get_mut(usize::from(bucket)) {
             *count = count.saturating_add(1);
             if *count == wanted {
-                return Ok(bucket);
+                return Some(bucket);
             }
         }
     }
-    Err("no bucket has as many")?
+    None
 }
 
 /// This many of the texts, all of one bucket.
 fn bucket_mates(
+    rt: &impl Abort,
     alloc: Global,
     buckets: Buckets,
     texts: &[String],
     wanted: u32,
-) -> Result<Vec<String>, Fail> {
-    let bucket = crowded_bucket(alloc, buckets, texts, wanted)?;
+) -> Vec<String> {
+    let crowded = crowded_bucket(rt, alloc, buckets, texts, wanted);
+    let bucket = crowded.expect(rt, "a bucket that has as many");
     let mut mates = Vec::new(alloc);
     for text in texts {
         if bucket_of_text(buckets, text) == bucket && mates.len() < wanted as usize {
-            mates.push(text.clone()?)?;
+            mates
+                .push(text.clone().expect(rt, "a text"))
+                .expect(rt, "room");
         }
     }
-    Ok(mates)
+    mates
 }
 
 /// Whether the atoms of two texts have words of their own, and differ.
@@ -95,16 +103,12 @@ fn check_apart_in_a_set<R: Wait + Abort>(rt: &R, set: &DefaultSet, first: &str, 
 // These say nothing of what they do, so that what calls them is proved in a moment.
 
 /// The word of a text, which is held twice.
-fn hold_twice(
-    rt: &impl Abort,
-    table: &mut Table<EmptyStaticAtomSet>,
-    text: &str,
-) -> Result<u64, Fault> {
-    let word = table.intern(text)?;
+fn hold_twice(rt: &impl Abort, table: &mut Table<EmptyStaticAtomSet>, text: &str) -> u64 {
+    let word = table.intern(text).expect(rt, "a word");
     assert!(rt; table.holds(word));
-    let clone = table.clone_word(word)?;
-    assert_eq!(rt; clone, word);
-    Ok(word)
+    let clone = table.clone_word(word).expect(rt, "a word");
+    assert!(rt; clone == word);
+    word
 }
 
 /// Gives a word that has to be held.
@@ -131,9 +135,9 @@ fn check_apart_in_a_table(
     table: &mut Table<EmptyStaticAtomSet>,
     first: &str,
     second: &str,
-) -> Result<(), Fault> {
-    let one = hold_twice(rt, table, first)?;
-    let two = hold_twice(rt, table, second)?;
+) {
+    let one = hold_twice(rt, table, first);
+    let two = hold_twice(rt, table, second);
     assert!(rt; one != two);
     give(rt, table, one);
     give(rt, table, two);
@@ -142,32 +146,22 @@ fn check_apart_in_a_table(
     assert!(rt; is_text_of(table, two, second) && has_entries(table, 1));
     give(rt, table, two);
     assert!(rt; has_entries(table, 0));
-    Ok(())
 }
 
 /// Checks two texts in a set of this many buckets.
-fn check_set<R: Wait + Abort>(
-    rt: &R,
-    alloc: Global,
-    buckets: Buckets,
-    first: &str,
-    second: &str,
-) -> Result<(), Fault> {
-    let set = Set::with_buckets(alloc, Limits::greatest(), buckets)?;
+fn check_set<R: Wait + Abort>(rt: &R, alloc: Global, buckets: Buckets, first: &str, second: &str) {
+    let set = made_with(alloc, buckets).expect(rt, "a set");
     check_apart_in_a_set(rt, &set, first, second);
-    Ok(())
+}
+
+fn table_of(rt: &impl Abort, alloc: Global, buckets: Buckets) -> Table<EmptyStaticAtomSet> {
+    Table::with_buckets(alloc, Limits::greatest(), buckets).expect(rt, "a table")
 }
 
 /// And in such a table.
-fn check_table(
-    rt: &impl Abort,
-    alloc: Global,
-    buckets: Buckets,
-    first: &str,
-    second: &str,
-) -> Result<(), Fault> {
-    let mut table = Table::with_buckets(alloc, Limits::greatest(), buckets)?;
-    check_apart_in_a_table(rt, &mut table, first, second)
+fn check_table(rt: &impl Abort, alloc: Global, buckets: Buckets, first: &str, second: &str) {
+    let mut table = table_of(rt, alloc, buckets);
+    check_apart_in_a_table(rt, &mut table, first, second);
 }
 
 /// Checks two texts of one bucket in both.
@@ -177,40 +171,44 @@ fn check_apart<R: Wait + Abort>(
     buckets: Buckets,
     first: &str,
     second: &str,
-) -> Result<(), Fault> {
+) {
     assert!(rt; first != second);
     assert!(rt; bucket_of_text(buckets, first) == bucket_of_text(buckets, second));
-    check_set(rt, alloc, buckets, first, second)?;
-    check_table(rt, alloc, buckets, first, second)
+    check_set(rt, alloc, buckets, first, second);
+    check_table(rt, alloc, buckets, first, second);
 }
 
 /// So many of the first texts that are of one bucket.
 fn first_mates(
+    rt: &impl Abort,
     alloc: Global,
     buckets: Buckets,
     count: usize,
     wanted: u32,
-) -> Result<Vec<String>, Fail> {
-    let texts = numbers(alloc, count)?;
-    bucket_mates(alloc, buckets, &texts, wanted)
+) -> Vec<String> {
+    let texts = numbers(rt, alloc, count);
+    bucket_mates(rt, alloc, buckets, &texts, wanted)
 }
 
-fn check_mates<R: Wait + Abort>(rt: &R, alloc: Global, buckets: Buckets) -> Result<(), Fail> {
-    let mates = first_mates(alloc, buckets, buckets.number() + 1, 2)?;
-    let [first, second] = mates.as_slice() else {
-        return Err("not two texts".into());
-    };
-    check_apart(rt, alloc, buckets, first, second)?;
-    Ok(())
+/// Checks two texts, which these are.
+fn check_both<R: Wait + Abort>(rt: &R, alloc: Global, buckets: Buckets, mates: &[String]) {
+    assert!(rt; mates.len() == 2);
+    if let [first, second] = mates {
+        check_apart(rt, alloc, buckets, first, second);
+    }
+}
+
+fn check_mates<R: Wait + Abort>(rt: &R, alloc: Global, buckets: Buckets) {
+    let mates = first_mates(rt, alloc, buckets, buckets.number() + 1, 2);
+    check_both(rt, alloc, buckets, &mates);
 }
 
 /// Of one text more than there are buckets two have one bucket.
 #[test]
-fn two_texts_of_one_bucket(rt: HostRuntime) -> Result<(), Fail> {
+fn two_texts_of_one_bucket(rt: HostRuntime) {
     for bits in &BITS {
-        check_mates(&rt, rt.alloc(), buckets_of(&rt, *bits))?;
+        check_mates(&rt, rt.alloc(), buckets_of(&rt, *bits));
     }
-    Ok(())
 }
 
 /// Interns and clones a text. Whether the clone has it once the atom has gone.
@@ -232,52 +230,60 @@ fn turn_over<R: Wait + Abort>(rt: &R, set: &DefaultSet, texts: &[String]) -> boo
     is_same
 }
 
+/// Whether all of 64 turns were as they should be.
+fn is_sixty_four_times(turns: &[bool]) -> bool {
+    turns.len() == 64 && turns.iter().all(|is_same| *is_same)
+}
+
 /// Workers at these texts. Whether each atom had its text, and whether none is left linked.
 fn work_together<R: Threads + Wait + Abort + Sync>(
     rt: &R,
     set: &DefaultSet,
     texts: &[String],
-) -> Result<bool, AllocError> {
-    let turns = thread::map_indices(rt, set.allocator(), 64, &|_| turn_over(rt, set, texts))?;
+) -> bool {
+    let turns = thread::map_indices(rt, set.allocator(), 64, &|_| turn_over(rt, set, texts)).expect(
+        rt, "room",
+    );
     set.sweep(rt);
-    Ok(turns.len() == 64 && turns.iter().all(|is_same| *is_same) && links(rt, set, 0))
+    links(rt, set, 0) && is_sixty_four_times(&turns)
+}
+
+fn check_eleven<R: Threads + Wait + Abort + Sync>(rt: &R, set: &DefaultSet, texts: &[String]) {
+    assert!(rt; texts.len() == 11);
+    assert!(rt; work_together(rt, set, texts));
 }
 
 /// Workers at eleven texts of one bucket, in a set of 2 to the power of `bits` buckets. As ten texts for each bucket would be fewer, some
 /// bucket has eleven.
-fn check_workers<R: Threads + Wait + Abort + Sync>(
-    rt: &R,
-    alloc: Global,
-    bits: u8,
-) -> Result<bool, Fail> {
-    let buckets = Buckets::new(bits).ok_or("bits")?;
-    let mates = first_mates(alloc, buckets, 10 * buckets.number() + 1, 11)?;
-    let set = Set::with_buckets(alloc, Limits::greatest(), buckets)?;
-    Ok(mates.len() == 11 && work_together(rt, &set, &mates)?)
+fn check_workers<R: Threads + Wait + Abort + Sync>(rt: &R, alloc: Global, bits: u8) {
+    let buckets = buckets_of(rt, bits);
+    let mates = first_mates(rt, alloc, buckets, 10 * buckets.number() + 1, 11);
+    let set = made_with(alloc, buckets).expect(rt, "a set");
+    check_eleven(rt, &set, &mates);
 }
 
 #[test]
-fn many_workers_at_one_bucket(rt: HostRuntime) -> Result<(), Fail> {
-    assert!(rt; check_workers(&rt, rt.alloc(), 12)?);
-    Ok(())
+fn many_workers_at_one_bucket(rt: HostRuntime) {
+    check_workers(&rt, rt.alloc(), 12);
 }
 
 #[test]
-fn many_workers_at_the_only_bucket(rt: HostRuntime) -> Result<(), Fail> {
-    assert!(rt; check_workers(&rt, rt.alloc(), 0)?);
-    Ok(())
+fn many_workers_at_the_only_bucket(rt: HostRuntime) {
+    check_workers(&rt, rt.alloc(), 0);
 }
 
 #[test]
-fn many_workers_at_one_of_the_most_buckets(rt: HostRuntime) -> Result<(), Fail> {
-    assert!(rt; check_workers(&rt, rt.alloc(), 14)?);
-    Ok(())
+fn many_workers_at_one_of_the_most_buckets(rt: HostRuntime) {
+    check_workers(&rt, rt.alloc(), 14);
+}
+
+fn comes_and_goes<R: Wait + Abort>(rt: &R, set: &DefaultSet, text: &str) -> bool {
+    has_text(&intern(rt, set, text), text)
 }
 
 fn come_and_go<R: Wait + Abort>(rt: &R, set: &DefaultSet) {
-    let texts = numbers(set.allocator(), 10_000).expect(rt, "an answer");
-    for (n, text) in texts.iter().enumerate() {
-        assert!(rt; has_text(&intern(rt, set, text), text));
+    for n in 0..10_000 {
+        assert!(rt; comes_and_goes(rt, set, &numbered(rt, set.allocator(), n)));
         if n % 1000 == 999 {
             assert!(rt; links(rt, set, 0), "after {n}");
         }

@@ -1,6 +1,7 @@
 //! Links for which there is no memory, and a great number of them in one bucket.
 
 use super::{Fake, check_share, link, new_bucket, tickets};
+use crate::crowds::numbered;
 use crate::samples::{DefaultSet, check_atom, check_linked, intern, lock_of, one_bucket};
 use std::alloc::Global;
 use std::process::Abort;
@@ -48,14 +49,19 @@ fn ticket(serial: u64) -> u64 {
     ticket_word(serial.clamp(1, 16), 0xe77)
 }
 
+/// Links nine entries, whose shares go at once.
+fn link_nine(rt: &impl Abort, bucket: &mut Bucket<EmptyStaticAtomSet>) {
+    for _ in 0..9u64 {
+        let before = tickets(bucket);
+        drop(link_again(rt, bucket, &before).expect(rt, "an answer"));
+    }
+    assert!(rt; bucket.len() == 9);
+}
+
 /// A bucket of nine entries, whose shares are gone.
 fn nine_entries(rt: &impl Abort, alloc: Global) -> Bucket<EmptyStaticAtomSet> {
     let mut bucket = new_bucket(alloc);
-    for _ in 0..9u64 {
-        let before = tickets(&mut bucket);
-        drop(link_again(rt, &mut bucket, &before).expect(rt, "an answer"));
-    }
-    assert_eq!(rt; bucket.len(), 9);
+    link_nine(rt, &mut bucket);
     bucket
 }
 
@@ -114,8 +120,8 @@ fn entries_go_one_by_one(rt: HostRuntime) {
 }
 
 /// Links the text of a number in the only bucket of a set.
-fn link_numbered<R: Wait + Abort>(rt: &R, set: &DefaultSet, n: u32) -> Share {
-    let text = format!(in set.allocator(); "w{n:07}").expect(rt, "a text");
+fn link_numbered<R: Wait + Abort>(rt: &R, set: &DefaultSet, n: usize) -> Share {
+    let text = numbered(rt, set.allocator(), n);
     let mut only = lock_of(rt, set, 0);
     link(&mut only, &text, &Limits::greatest()).expect(rt, "a share")
 }
@@ -123,7 +129,7 @@ fn link_numbered<R: Wait + Abort>(rt: &R, set: &DefaultSet, n: u32) -> Share {
 /// Links each of 5,000 texts there.
 fn link_five_thousand<R: Wait + Abort>(rt: &R, set: &DefaultSet) -> Vec<Share> {
     let mut shares = Vec::new(set.allocator());
-    for n in 0..5_000u32 {
+    for n in 0..5_000 {
         shares.push(link_numbered(rt, set, n)).expect(rt, "room");
     }
     shares
