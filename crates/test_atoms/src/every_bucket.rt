@@ -1,59 +1,90 @@
 //! One entry in each bucket of a set: held, then dying, then gone.
 
-use crate::samples::{DefaultSet, drop_under_locks};
+use crate::samples::{DefaultSet, buckets_of, drop_under_locks, intern};
 use std::alloc::Global;
 use std::process::Abort;
 use std::sync::Wait;
-use std::test::Fail;
-use string_cache::dynamic_set::Set;
+use string_cache::DefaultAtom;
 use string_cache::static_sets::EmptyStaticAtomSet;
-use string_cache::word::{Buckets, Limits};
-use string_cache::{DefaultAtom, Fault};
-use test_calls::{hash_of, interned, look_up};
+use string_cache::word::Buckets;
+use test_calls::{has_text, hash_of, look_up, made_with};
 
-/// A text of 15 bytes of each bucket.
-fn texts_of_buckets(alloc: Global, buckets: Buckets) -> Result<Vec<String>, Fail> {
-    let mut texts = Vec::new(alloc);
-    let mut taken = vec![in alloc; false; buckets.number()]?;
+/// The bucket's place of a text.
+fn place_of(buckets: Buckets, text: &str) -> usize {
+    usize::from(buckets.bucket_of(hash_of::<EmptyStaticAtomSet>(text)))
+}
+
+/// Takes a place. Whether it wasn't taken yet.
+fn takes(taken: &mut [bool], place: usize) -> bool {
+    match taken.get_mut(place) {
+        Some(is_taken) if !*is_taken => {
+            *is_taken = true;
+            true
+        }
+        _ => false,
+    }
+}
+
+/// The text of 15 bytes of a number.
+fn text_of(rt: &impl Abort, alloc: Global, n: u32) -> String {
+    format!(in alloc; "the text {n:06}").expect(rt, "a text")
+}
+
+/// Puts texts into a list till each place is taken.
+fn take_each(
+    rt: &impl Abort,
+    alloc: Global,
+    buckets: Buckets,
+    texts: &mut Vec<String>,
+    taken: &mut [bool],
+) {
     for n in 0..400_000u32 {
         if texts.len() == buckets.number() {
             break;
         }
-        let text = format!(in alloc; "the text {n:06}")?;
-        let place = usize::from(buckets.bucket_of(hash_of::<EmptyStaticAtomSet>(&text)));
-        match taken.get_mut(place) {
-            Some(is_taken) if !*is_taken => {
-                *is_taken = true;
-                texts.push(text)?;
-            }
-            _ => {}
+        let text = text_of(rt, alloc, n);
+        if takes(taken, place_of(buckets, &text)) {
+            texts.push(text).expect(rt, "room");
         }
     }
-    Ok(texts)
+}
+
+/// A text of 15 bytes of each bucket.
+fn texts_of_buckets(rt: &impl Abort, alloc: Global, buckets: Buckets) -> Vec<String> {
+    let mut texts = Vec::new(alloc);
+    let mut taken = vec![in alloc; false; buckets.number()].expect(rt, "room");
+    take_each(rt, alloc, buckets, &mut texts, &mut taken);
+    texts
 }
 
 /// An atom of each text.
-fn atoms_of<'s, R: Wait>(
+fn atoms_of<'s, R: Wait + Abort>(
     rt: &R,
     set: &'s DefaultSet,
     texts: &[String],
-) -> Result<Vec<DefaultAtom<'s>>, Fault> {
-    let mut atoms = Vec::with_capacity(set.allocator(), texts.len())?;
+) -> Vec<DefaultAtom<'s>> {
+    let mut atoms = Vec::with_capacity(set.allocator(), texts.len()).expect(rt, "room");
     for text in texts {
-        atoms.push(interned(rt, set, text)?)?;
+        atoms.push(intern(rt, set, text)).expect(rt, "room");
     }
-    Ok(atoms)
+    atoms
+}
+
+/// Whether the text is found as itself. One that isn't found has no other.
+fn is_found<R: Wait + Abort>(rt: &R, set: &DefaultSet, text: &str) -> bool {
+    match look_up(rt, set, text).expect(rt, "an answer") {
+        Some(atom) => has_text(&atom, text),
+        None => false,
+    }
 }
 
 /// How many of the texts are found, each as itself.
-fn found<R: Wait>(rt: &R, set: &DefaultSet, texts: &[String]) -> Result<usize, Fault> {
+fn found<R: Wait + Abort>(rt: &R, set: &DefaultSet, texts: &[String]) -> usize {
     let mut number = 0usize;
     for text in texts {
-        if let Some(atom) = look_up(rt, set, text)? {
-            number = number.saturating_add(usize::from(atom.as_str() == text.as_str()));
-        }
+        number = number.saturating_add(usize::from(is_found(rt, set, text)));
     }
-    Ok(number)
+    number
 }
 
 /// How many entries a visit shows with as many holders.
@@ -82,40 +113,54 @@ fn is_empty<R: Wait>(rt: &R, set: &DefaultSet, number: usize) -> bool {
     set.linked(rt) == 0 && set.memory(rt) == number as u128 * BUCKET
 }
 
+/// Whether the texts are linked and found, each with one holder.
+fn are_held<R: Wait + Abort>(rt: &R, set: &DefaultSet, texts: &[String]) -> bool {
+    has_entries(rt, set, texts.len(), 1) && found(rt, set, texts) == texts.len()
+}
+
+/// Holds the texts, and lets their entries die. Whether they were linked and found before.
+fn are_found_till_they_die<R: Wait + Abort>(rt: &R, set: &DefaultSet, texts: &[String]) -> bool {
+    let atoms = atoms_of(rt, set, texts);
+    let are_held = are_held(rt, set, texts);
+    drop_under_locks(rt, set.allocator(), set, atoms).expect(rt, "room");
+    are_held
+}
+
 /// Whether the texts are linked and found while they are held, and only linked while they die, till a sweep.
-fn are_swept<R: Wait>(rt: &R, set: &DefaultSet, texts: &[String]) -> Result<bool, Fault> {
-    let number = texts.len();
-    let atoms = atoms_of(rt, set, texts)?;
-    let are_held = has_entries(rt, set, number, 1) && found(rt, set, texts)? == number;
-    drop_under_locks(rt, set.allocator(), set, atoms)?;
-    let are_dying = has_entries(rt, set, number, 0);
+fn are_swept<R: Wait + Abort>(rt: &R, set: &DefaultSet, texts: &[String]) -> bool {
+    let were_held = are_found_till_they_die(rt, set, texts);
+    let are_dying = has_entries(rt, set, texts.len(), 0);
     set.sweep(rt);
-    Ok(are_held && are_dying && is_empty(rt, set, number))
+    were_held && are_dying && is_empty(rt, set, texts.len())
 }
 
 /// Whether each text goes with its atom, and isn't found then.
-fn go_alone<R: Wait>(rt: &R, set: &DefaultSet, texts: &[String]) -> Result<bool, Fault> {
-    drop(atoms_of(rt, set, texts)?);
-    Ok(is_empty(rt, set, texts.len()) && found(rt, set, texts)? == 0)
+fn go_alone<R: Wait + Abort>(rt: &R, set: &DefaultSet, texts: &[String]) -> bool {
+    drop(atoms_of(rt, set, texts));
+    is_empty(rt, set, texts.len()) && found(rt, set, texts) == 0
+}
+
+/// Checks a set of these buckets, of which each has one of the texts.
+fn check_set<R: Wait + Abort>(rt: &R, set: &DefaultSet, buckets: Buckets, texts: &[String]) {
+    assert!(rt; texts.len() == buckets.number());
+    assert!(rt; are_swept(rt, set, texts));
+    assert!(rt; go_alone(rt, set, texts));
 }
 
 /// Checks a set with as many bits of buckets.
-fn check_buckets<R: Wait + Abort>(rt: &R, alloc: Global, bits: u8) -> Result<(), Fail> {
-    let buckets = Buckets::new(bits).ok_or("bits")?;
-    let texts = texts_of_buckets(alloc, buckets)?;
-    assert_eq!(rt; texts.len(), buckets.number());
-    let set = Set::with_buckets(alloc, Limits::greatest(), buckets)?;
-    assert!(rt; are_swept(rt, &set, &texts)?);
-    assert!(rt; go_alone(rt, &set, &texts)?);
-    Ok(())
+fn check_buckets<R: Wait + Abort>(rt: &R, alloc: Global, bits: u8) {
+    let buckets = buckets_of(rt, bits);
+    let texts = texts_of_buckets(rt, alloc, buckets);
+    let set = made_with(alloc, buckets).expect(rt, "a set");
+    check_set(rt, &set, buckets, &texts);
 }
 
 #[test]
-fn each_of_the_usual_buckets(rt: HostRuntime) -> Result<(), Fail> {
-    check_buckets(&rt, rt.alloc(), 12)
+fn each_of_the_usual_buckets(rt: HostRuntime) {
+    check_buckets(&rt, rt.alloc(), 12);
 }
 
 #[test]
-fn each_of_the_most_buckets(rt: HostRuntime) -> Result<(), Fail> {
-    check_buckets(&rt, rt.alloc(), 14)
+fn each_of_the_most_buckets(rt: HostRuntime) {
+    check_buckets(&rt, rt.alloc(), 14);
 }
