@@ -3,6 +3,7 @@
 
 use crate::samples::{
     BITS, DefaultSet, buckets_of, check_atom, check_linked, drop_under_locks, intern, one_bucket,
+    word_of,
 };
 use std::alloc::Global;
 use std::process::Abort;
@@ -10,7 +11,7 @@ use std::sync::Wait;
 use string_cache::DefaultAtom;
 use string_cache::static_sets::EmptyStaticAtomSet;
 use string_cache::word::Buckets;
-use test_calls::{hash_of, look_up, made_with};
+use test_calls::{has_word, hash_of, look_up, made_with};
 
 fn set_of(rt: &impl Abort, alloc: Global, buckets: Buckets) -> DefaultSet {
     made_with(alloc, buckets).expect(rt, "a set")
@@ -28,20 +29,22 @@ fn has_one_entry<R: Wait>(rt: &R, set: &DefaultSet, number: usize, place: usize)
 /// Whether the text is found with this word.
 fn is_found<R: Wait>(rt: &R, set: &DefaultSet, word: u64) -> bool {
     match look_up(rt, set, "interned") {
-        Ok(Some(atom)) => atom.unsafe_data() == word,
+        Ok(Some(atom)) => has_word(&atom, word),
         _ => false,
     }
 }
 
-/// Checks that the text's first word is this one, and that the next one has the next serial.
-fn check_words<R: Wait + Abort>(rt: &R, set: &DefaultSet, number: usize, place: usize, first: u64) {
+/// Checks that the text's first word is this one, and that it is the only one.
+fn check_first<R: Wait + Abort>(rt: &R, set: &DefaultSet, number: usize, place: usize, first: u64) {
     let atom = intern(rt, set, "interned");
-    assert_eq!(rt; atom.unsafe_data(), first);
-    assert!(rt; has_one_entry(rt, set, number, place));
-    assert!(rt; is_found(rt, set, first));
-    drop(atom);
-    let next = intern(rt, set, "interned");
-    assert_eq!(rt; next.unsafe_data().wrapping_sub(first), 0x1_0000);
+    assert!(rt; has_word(&atom, first));
+    assert!(rt; has_one_entry(rt, set, number, place) && is_found(rt, set, first));
+}
+
+/// And that the next one has the next serial.
+fn check_words<R: Wait + Abort>(rt: &R, set: &DefaultSet, number: usize, place: usize, first: u64) {
+    check_first(rt, set, number, place, first);
+    assert!(rt; word_of(rt, set, "interned").wrapping_sub(first) == 0x1_0000);
 }
 
 /// Checks them in a set of so many bits.

@@ -10,14 +10,15 @@ use test_calls::{hash_of, links};
 /// A share of a text's entry, with its set.
 type Held<'s> = dynamic_set::Held<'s, EmptyStaticAtomSet>;
 
+/// Whether the third share is of the text and the first one's entry, and a single try gives none beside it.
+fn is_third(first: &Held<'_>, third: &Held<'_>, text: &str) -> bool {
+    first.try_clone_share().is_none() && third.text() == text && third.ticket() == first.ticket()
+}
+
 /// Whether a single try gives a third share beside the first and the second, and none then.
 fn has_third(first: &Held<'_>, second: &Held<'_>, text: &str) -> bool {
     match second.try_clone_share() {
-        Some(third) => {
-            first.try_clone_share().is_none()
-                && third.text() == text
-                && third.ticket() == first.ticket()
-        }
+        Some(third) => is_third(first, &third, text),
         None => false,
     }
 }

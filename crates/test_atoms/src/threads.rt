@@ -26,11 +26,15 @@ fn play<R: Threads + Wait + Abort + Sync>(rt: &R, set: DefaultSet, scene: Scene)
     check_linked(rt, &set, 0);
 }
 
+/// Whether a clone is equal to its atom, and has the text.
+fn is_clone(clone: &DefaultAtom<'_>, atom: &DefaultAtom<'_>, text: &str) -> bool {
+    clone == atom && has_text(clone, text)
+}
+
 /// Interns, clones and drops a text. Whether both atoms were equal, and had it.
 fn comes_and_goes<R: Wait + Abort>(rt: &R, set: &DefaultSet, text: &str) -> bool {
     let atom = intern(rt, set, text);
-    let clone = clone_of(rt, &atom);
-    clone == atom && has_text(&clone, text)
+    is_clone(&clone_of(rt, &atom), &atom, text)
 }
 
 /// Does so with each of the texts, again and again.
@@ -63,11 +67,15 @@ fn clone_and_drop<R: Wait>(rt: &R, atom: &DefaultAtom) -> Result<(), Fault> {
     Ok(())
 }
 
+fn takes_no_more<R: Wait>(rt: &R, atom: &DefaultAtom<'_>) -> bool {
+    matches!(cloned(rt, atom), Err(Fault::FullCount))
+}
+
 /// Whether the atom, which has a single holder, takes just two more.
 fn takes_two_more<R: Wait + Abort>(rt: &R, atom: &DefaultAtom<'_>) -> bool {
     let _second = clone_of(rt, atom);
     let _third = clone_of(rt, atom);
-    matches!(cloned(rt, atom), Err(Fault::FullCount))
+    takes_no_more(rt, atom)
 }
 
 fn clone_in_two<R: Threads + Wait + Abort + Sync>(rt: &R, atom: &DefaultAtom<'_>) {
@@ -76,12 +84,16 @@ fn clone_in_two<R: Threads + Wait + Abort + Sync>(rt: &R, atom: &DefaultAtom<'_>
     right.expect(rt, "an answer");
 }
 
-fn share_one_atom<R: Threads + Wait + Abort + Sync>(rt: &R, set: &DefaultSet) {
-    let atom = intern(rt, set, "interned");
-    clone_in_two(rt, &atom);
+/// Shares the only atom of a set between two threads.
+fn share<R: Threads + Wait + Abort + Sync>(rt: &R, set: &DefaultSet, atom: &DefaultAtom<'_>) {
+    clone_in_two(rt, atom);
     check_linked(rt, set, 1);
-    assert!(rt; has_text(&atom, "interned"));
-    assert!(rt; takes_two_more(rt, &atom));
+    assert!(rt; has_text(atom, "interned"));
+    assert!(rt; takes_two_more(rt, atom));
+}
+
+fn share_one_atom<R: Threads + Wait + Abort + Sync>(rt: &R, set: &DefaultSet) {
+    share(rt, set, &intern(rt, set, "interned"));
 }
 
 /// No share is lost or left over, and none is refused, though both threads change one count.
@@ -131,20 +143,28 @@ struct Meeting {
     two: AtomicU64,
 }
 
-fn meet_at_one_text<R: Threads + Wait + Abort + Sync>(rt: &R, set: &DefaultSet) {
-    let at = Meeting {
-        gate: AtomicU64::new(0),
-        one: AtomicU64::new(0),
-        two: AtomicU64::new(0),
-    };
+impl Meeting {
+    fn new() -> Self {
+        Meeting {
+            gate: AtomicU64::new(0),
+            one: AtomicU64::new(0),
+            two: AtomicU64::new(0),
+        }
+    }
+}
+
+fn intern_in_two<R: Threads + Wait + Abort + Sync>(rt: &R, set: &DefaultSet, at: &Meeting) {
     let (left, right) = thread::join(
         rt,
         || intern_beside(rt, set, &at.gate, &at.one, &at.two),
         || intern_beside(rt, set, &at.gate, &at.two, &at.one),
     );
-    assert!(rt; left == 2_000);
-    assert!(rt; right == 2_000);
+    assert!(rt; left == 2_000 && right == 2_000);
     set.sweep(rt);
+}
+
+fn meet_at_one_text<R: Threads + Wait + Abort + Sync>(rt: &R, set: &DefaultSet) {
+    intern_in_two(rt, set, &Meeting::new());
 }
 
 /// Of two threads that find a text absent one links it, and the other finds that entry.
