@@ -4,7 +4,8 @@ ghost use Rattle.std.specs.Prelude.{◌≤◌};
 
 use crate::gates::{BothLeave, InTurn, Together, Watch};
 use crate::words::set_with;
-use std::alloc::{AllocError, Global};
+use std::alloc::Global;
+use std::process::Abort;
 use std::sync::Wait;
 use std::thread::Threads;
 use std::{str, thread};
@@ -15,237 +16,326 @@ use test_samples::{EXAMPLE, EXAMPLE_COUNTS};
 use text_streams::faults::AppFault;
 use word_counts::count::{Gate, Open, count, sections};
 
+/// A set without static texts.
+type DefaultSet = Set<EmptyStaticAtomSet>;
+
+fn new_set(rt: &impl Abort, alloc: Global) -> DefaultSet {
+    Set::new(alloc).expect(rt, "a set")
+}
+
+/// The atom of a text.
+fn intern<'s, R: Wait + Abort>(
+    rt: &R,
+    set: &'s DefaultSet,
+    text: &str,
+) -> Atom<'s, EmptyStaticAtomSet> {
+    Atom::from_str_in(rt, set, text).expect(rt, "an atom")
+}
+
+/// Whether this many workers count these words through the gate.
+fn are_counted<R: Threads + Wait + Sync, G: Gate>(
+    rt: &R,
+    set: &DefaultSet,
+    text: &str,
+    n: u32,
+    gate: &G,
+    wanted: &[(&str, u64)],
+) -> bool
+    requires low { 1 ≤ n }
+    requires high { n ≤ 64 }
+{
+    match count(rt, set, text, n, gate) {
+        Ok(counts) => are(&counts, wanted),
+        Err(_) => false,
+    }
+}
+
+/// Why this many workers are refused.
+fn fault_of<R: Threads + Wait + Sync, G: Gate>(
+    rt: &R,
+    set: &DefaultSet,
+    text: &str,
+    n: u32,
+    gate: &G,
+) -> Option<AppFault>
+    requires low { 1 ≤ n }
+    requires high { n ≤ 64 }
+{
+    count(rt, set, text, n, gate).err()
+}
+
 #[test]
 fn counts_of_the_example(rt: HostRuntime) {
-    let set = Set::<EmptyStaticAtomSet>::new(rt.alloc()).expect(&rt, "a set");
+    let set = new_set(&rt, rt.alloc());
     let text = str::from_utf8(EXAMPLE).expect(&rt, "a text");
     for n in [1, 2, 3, 64] {
-        let counts = count(&rt, &set, text, n, &Open).expect(&rt, "counts");
-        assert!(rt; are(&counts, &EXAMPLE_COUNTS), "by {n}");
+        let are_right = are_counted(&rt, &set, text, n, &Open, &EXAMPLE_COUNTS);
+        assert!(rt; are_right, "by {n}");
     }
     assert!(rt; set.linked(&rt) == 0);
+}
+
+/// Whether four workers count both words of the long text, the longer of which is linked meanwhile.
+fn is_long_counted<R: Threads + Wait + Sync>(rt: &R, set: &DefaultSet, text: &str) -> bool {
+    match count(rt, set, text, 4, &Open) {
+        Ok(counts) => {
+            are(&counts, &[("a", 20_000), ("interned", 20_000)]) && set.linked(rt) == 1
+        }
+        Err(_) => false,
+    }
 }
 
 /// A text of several sections, so that workers begin at different ones.
 #[test]
 fn counts_of_a_long_text(rt: HostRuntime) {
-    let mut text = String::new(rt.alloc());
-    for _ in 0..20_000 {
-        text.push_str("interned a\n").expect(&rt, "room");
-    }
-    let set = Set::<EmptyStaticAtomSet>::new(rt.alloc()).expect(&rt, "a set");
-    let counts = count(&rt, &set, &text, 4, &Open).expect(&rt, "counts");
-    assert!(rt; are(&counts, &[("a", 20_000), ("interned", 20_000)]));
-    assert!(rt; set.linked(&rt) == 1);
+    let text = "interned a\n"
+        .repeat(rt.alloc(), 20_000)
+        .expect(&rt, "room");
+    let set = new_set(&rt, rt.alloc());
+    assert!(rt; is_long_counted(&rt, &set, &text));
 }
 
-/// Whether the counts by this many workers have so many words, each twice, and nothing stays linked once they are gone.
-fn come_twice<R: Threads + Wait + Sync>(
+/// Whether this many workers count so many words in the set, each twice.
+fn come_twice_in<R: Threads + Wait + Sync>(
+    rt: &R,
+    set: &DefaultSet,
+    text: &str,
+    words: usize,
+    n: u32,
+) -> bool
+    requires low { 1 ≤ n }
+    requires high { n ≤ 64 }
+{
+    match count(rt, set, text, n, &Open) {
+        Ok(counts) => counts.len() == words && counts.iter().all(|(_, places)| *places == 2),
+        Err(_) => false,
+    }
+}
+
+/// The same in a new set, and whether nothing stays linked once the counts are gone.
+fn come_twice<R: Threads + Wait + Sync + Abort>(
     rt: &R,
     alloc: Global,
     text: &str,
     words: usize,
     n: u32,
-) -> Result<bool, AppFault>
+) -> bool
     requires low { 1 ≤ n }
     requires high { n ≤ 64 }
 {
-    let set = Set::<EmptyStaticAtomSet>::new(alloc)?;
-    let counts = count(rt, &set, text, n, &Open)?;
-    let are_right = counts.len() == words && counts.iter().all(|(_, places)| *places == 2);
-    drop(counts);
-    Ok(are_right && set.linked(rt) == 0)
+    let set = new_set(rt, alloc);
+    come_twice_in(rt, &set, text, words, n) && set.linked(rt) == 0
 }
 
 /// Lists of many words, which halves of them share, and so many lists that some are left over.
 #[test]
 fn halves_of_lists_are_merged(rt: HostRuntime) {
-    let mut text = words_before(rt.alloc(), 8_192, 8, ' ').expect(&rt, "room");
-    let again = words_before(rt.alloc(), 8_192, 8, ' ').expect(&rt, "room");
-    text.push_str(&again).expect(&rt, "room");
+    let words = words_before(&rt, rt.alloc(), 8_192, 8, ' ');
+    let text = words.repeat(rt.alloc(), 2).expect(&rt, "room");
     for n in [4, 5, 6, 7, 8] {
-        let are_right = come_twice(&rt, rt.alloc(), &text, 8_192, n).expect(&rt, "counts");
-        assert!(rt; are_right, "by {n}");
+        assert!(rt; come_twice(&rt, rt.alloc(), &text, 8_192, n), "by {n}");
     }
 }
 
 /// Whether all of this many workers are in their pieces of the example at once, and each goes in once and out once.
-fn meet<R: Threads + Wait + Sync>(rt: &R, alloc: Global, n: u32) -> Result<bool, AppFault>
+fn meet<R: Threads + Wait + Sync + Abort>(rt: &R, alloc: Global, n: u32) -> bool
     requires low { 1 ≤ n }
     requires high { n ≤ 64 }
 {
-    let set = Set::<EmptyStaticAtomSet>::new(alloc)?;
+    let set = new_set(rt, alloc);
     let text = str::from_utf8(EXAMPLE).unwrap_or("");
     let gate = Together::of(n);
-    let counts = count(rt, &set, text, n, &gate)?;
-    Ok(are(&counts, &EXAMPLE_COUNTS) && gate.met())
+    are_counted(rt, &set, text, n, &gate, &EXAMPLE_COUNTS) && gate.met()
 }
 
 #[test]
 fn workers_run_at_once(rt: HostRuntime) {
-    assert!(rt; meet(&rt, rt.alloc(), 2).expect(&rt, "counts"));
+    assert!(rt; meet(&rt, rt.alloc(), 2));
 }
 
 #[test]
 fn eight_workers_run_at_once(rt: HostRuntime) {
-    assert!(rt; meet(&rt, rt.alloc(), 8).expect(&rt, "counts"));
+    assert!(rt; meet(&rt, rt.alloc(), 8));
 }
 
 /// The most that there may be, of which some have no word.
 #[test]
 fn sixty_four_workers_run_at_once(rt: HostRuntime) {
-    assert!(rt; meet(&rt, rt.alloc(), 64).expect(&rt, "counts"));
+    assert!(rt; meet(&rt, rt.alloc(), 64));
 }
 
 /// One worker holds a word that came twice, till the counts are dropped.
 #[test]
 fn repeated_word_goes_with_its_counts(rt: HostRuntime) {
-    let are_right = come_twice(&rt, rt.alloc(), "interned interned", 1, 1).expect(&rt, "counts");
-    assert!(rt; are_right);
+    assert!(rt; come_twice(&rt, rt.alloc(), "interned interned", 1, 1));
 }
 
 /// So many different words, each of `long` letters or more and before this white space.
-fn words_before(alloc: Global, count: u32, long: u32, white: char) -> Result<String, AllocError> {
-    let mut letters = String::new(alloc);
-    for _ in 0..long {
-        letters.push('a')?;
-    }
+fn words_before<R: Abort>(rt: &R, alloc: Global, count: u32, long: usize, white: char) -> String {
+    let letters = "a".repeat(alloc, long).expect(rt, "room");
     let mut text = String::new(alloc);
     for n in 0..count {
-        write!(text, "{letters}{n}{white}")?;
+        write!(text, "{letters}{n}{white}").expect(rt, "room");
     }
-    Ok(text)
+    text
+}
+
+/// How many different words this many workers count through the gate.
+fn words_counted<R: Threads + Wait + Sync, G: Gate>(
+    rt: &R,
+    set: &DefaultSet,
+    text: &str,
+    n: u32,
+    gate: &G,
+) -> Option<usize>
+    requires low { 1 ≤ n }
+    requires high { n ≤ 64 }
+{
+    match count(rt, set, text, n, gate) {
+        Ok(counts) => Some(counts.len()),
+        Err(_) => None,
+    }
+}
+
+/// Whether so many different words are counted by this many workers, and so many are linked as each piece ends.
+fn end_at<R: Threads + Wait + Sync + Abort>(
+    rt: &R,
+    alloc: Global,
+    text: &str,
+    words: usize,
+    n: u32,
+    wanted: &[u64],
+) -> bool
+    requires low { 1 ≤ n }
+    requires high { n ≤ 64 }
+{
+    let set = new_set(rt, alloc);
+    let gate = InTurn::new(&set, wanted);
+    words_counted(rt, &set, text, n, &gate) == Some(words) && gate.right() == Some(u64::from(n))
 }
 
 /// Of 20 different words, piece i of 8 ends at word 20 * i / 8.
 #[test]
 fn pieces_of_twenty_words(rt: HostRuntime) {
-    let text = words_before(rt.alloc(), 20, 8, ' ').expect(&rt, "room");
-    let set = Set::<EmptyStaticAtomSet>::new(rt.alloc()).expect(&rt, "a set");
-    let gate = InTurn::new(&set, &[2, 5, 7, 10, 12, 15, 17, 20]);
-    let counts = count(&rt, &set, &text, 8, &gate).expect(&rt, "counts");
-    assert!(rt; counts.len() == 20);
-    drop(counts);
-    assert!(rt; gate.right() == Some(8));
+    let text = words_before(&rt, rt.alloc(), 20, 8, ' ');
+    let wanted = [2, 5, 7, 10, 12, 15, 17, 20];
+    assert!(rt; end_at(&rt, rt.alloc(), &text, 20, 8, &wanted));
 }
 
 /// Of 402 different words, over several sections of the text, piece i of 4 ends at word 402 * i / 4.
 #[test]
 fn pieces_of_a_long_text(rt: HostRuntime) {
-    let text = words_before(rt.alloc(), 402, 1_000, ' ').expect(&rt, "room");
-    let set = Set::<EmptyStaticAtomSet>::new(rt.alloc()).expect(&rt, "a set");
-    let gate = InTurn::new(&set, &[100, 201, 301, 402]);
-    let counts = count(&rt, &set, &text, 4, &gate).expect(&rt, "counts");
-    assert!(rt; counts.len() == 402);
-    drop(counts);
-    assert!(rt; gate.right() == Some(4));
+    let text = words_before(&rt, rt.alloc(), 402, 1_000, ' ');
+    assert!(rt; end_at(&rt, rt.alloc(), &text, 402, 4, &[100, 201, 301, 402]));
 }
 
 /// Of 402 different words behind tabs, over several sections of the text, piece i of 4 ends at word 402 * i / 4.
 #[test]
 fn pieces_of_a_text_with_tabs(rt: HostRuntime) {
-    let text = words_before(rt.alloc(), 402, 1_000, '\t').expect(&rt, "room");
-    let set = Set::<EmptyStaticAtomSet>::new(rt.alloc()).expect(&rt, "a set");
-    let gate = InTurn::new(&set, &[100, 201, 301, 402]);
-    let counts = count(&rt, &set, &text, 4, &gate).expect(&rt, "counts");
-    assert!(rt; counts.len() == 402);
-    drop(counts);
-    assert!(rt; gate.right() == Some(4));
+    let text = words_before(&rt, rt.alloc(), 402, 1_000, '\t');
+    assert!(rt; end_at(&rt, rt.alloc(), &text, 402, 4, &[100, 201, 301, 402]));
+}
+
+/// How many sections a text has, unless memory is refused.
+fn sections_of(alloc: Global, text: &str) -> Option<usize> {
+    match sections(alloc, text) {
+        Ok(sections) => Some(sections.len()),
+        Err(_) => None,
+    }
 }
 
 /// A text of some 132,000 bytes has three sections, whatever white space stands between its words.
 #[test]
 fn sections_are_cut_at_all_white_space(rt: HostRuntime) {
     for white in [' ', '\t', '\n', '\x0c', '\r'] {
-        let text = words_before(rt.alloc(), 132, 1_000, white).expect(&rt, "room");
-        let sections = sections(rt.alloc(), &text).expect(&rt, "sections");
-        assert_eq!(rt; sections.len(), 3, "cut at {white:?}");
+        let text = words_before(&rt, rt.alloc(), 132, 1_000, white);
+        assert!(rt;
+            sections_of(rt.alloc(), &text) == Some(3),
+            "cut at {white:?}"
+        );
     }
 }
 
-/// Of one word and two pieces, the first piece has none.
+/// Whether two workers meet over one word, of which the first piece has none.
+fn meet_over_one_word<R: Threads + Wait + Sync>(rt: &R, set: &DefaultSet) -> bool {
+    let gate = Together::of(2);
+    are_counted(rt, set, "a", 2, &gate, &[("a", 1)]) && gate.met()
+}
+
+/// Whether each of 64 workers that have no word comes and goes.
+fn come_and_go<R: Threads + Wait + Sync>(rt: &R, set: &DefaultSet) -> bool {
+    let watch = Watch::new(set);
+    are_counted(rt, set, "", 64, &watch, &[]) && watch.passed() == (64, 64)
+}
+
 #[test]
 fn empty_pieces(rt: HostRuntime) {
-    let set = Set::<EmptyStaticAtomSet>::new(rt.alloc()).expect(&rt, "a set");
-    let gate = Together::of(2);
-    let counts = count(&rt, &set, "a", 2, &gate).expect(&rt, "counts");
-    assert!(rt; are(&counts, &[("a", 1)]));
-    assert!(rt; gate.met());
-    let watch = Watch::new(&set);
-    let counts = count(&rt, &set, "", 64, &watch).expect(&rt, "counts");
-    assert!(rt; counts.is_empty());
-    assert!(rt; watch.passed() == (64, 64));
+    let set = new_set(&rt, rt.alloc());
+    assert!(rt; meet_over_one_word(&rt, &set));
+    assert!(rt; come_and_go(&rt, &set));
 }
 
 /// Two workers that hold the same text hold one entry, past `leave`.
 #[test]
 fn workers_share_entries(rt: HostRuntime) {
-    let set = Set::<EmptyStaticAtomSet>::new(rt.alloc()).expect(&rt, "a set");
+    let set = new_set(&rt, rt.alloc());
     let gate = BothLeave::new(&set);
-    let counts = count(&rt, &set, "interned interned", 2, &gate).expect(&rt, "counts");
-    assert!(rt; are(&counts, &[("interned", 2)]));
-    assert!(rt; !gate.was_missed());
-    assert_eq!(rt; gate.linked(), 1);
+    assert!(rt; are_counted(&rt, &set, "interned interned", 2, &gate, &[("interned", 2)]));
+    assert!(rt; !gate.was_missed() && gate.linked() == 1);
 }
 
 /// A worker interns between `enter` and `leave`, and still holds its atoms in `leave`.
 #[test]
 fn workers_intern_between_the_calls(rt: HostRuntime) {
-    let set = Set::<EmptyStaticAtomSet>::new(rt.alloc()).expect(&rt, "a set");
+    let set = new_set(&rt, rt.alloc());
     let watch = Watch::new(&set);
-    let counts = count(&rt, &set, "interned", 1, &watch).expect(&rt, "counts");
-    assert!(rt; are(&counts, &[("interned", 1)]));
+    assert!(rt; are_counted(&rt, &set, "interned", 1, &watch, &[("interned", 1)]));
     assert!(rt; watch.linked() == (0, 1));
 }
+
+const FULL: Option<AppFault> = Some(AppFault::Intern(Fault::FullCount));
 
 /// A refused worker still holds what it interned in `leave`.
 #[test]
 fn refused_workers_hold_their_atoms(rt: HostRuntime) {
     let set = set_with(&rt, rt.alloc(), 2, 9);
     let watch = Watch::new(&set);
-    let answer = count(&rt, &set, "interned interned interned", 1, &watch);
-    assert!(rt; matches!(answer, Err(AppFault::Intern(Fault::FullCount))));
-    assert!(rt; watch.linked() == (0, 1));
-    assert!(rt; set.linked(&rt) == 0);
+    assert!(rt; fault_of(&rt, &set, "interned interned interned", 1, &watch) == FULL);
+    assert!(rt; watch.linked() == (0, 1) && set.linked(&rt) == 0);
 }
 
 /// Each place is a holder, also of a word that came before.
 #[test]
 fn every_place_is_interned(rt: HostRuntime) {
     let set = set_with(&rt, rt.alloc(), 2, 9);
-    let counts = count(&rt, &set, "interned interned", 1, &Open).expect(&rt, "counts");
-    assert!(rt; are(&counts, &[("interned", 2)]));
-    drop(counts);
-    let answer = count(&rt, &set, "interned interned interned", 1, &Open);
-    assert!(rt; matches!(answer, Err(AppFault::Intern(Fault::FullCount))));
+    assert!(rt; are_counted(&rt, &set, "interned interned", 1, &Open, &[("interned", 2)]));
+    assert!(rt; fault_of(&rt, &set, "interned interned interned", 1, &Open) == FULL);
 }
 
 /// Of two workers that are refused, the fault of the first piece is answered, and no atom stays.
 #[test]
 fn lowest_fault_is_answered(rt: HostRuntime) {
     let set = set_with(&rt, rt.alloc(), 1, 1);
-    let held = Atom::from_str_in(&rt, &set, "interned").expect(&rt, "an atom");
-    drop(Atom::from_str_in(&rt, &set, "tokenised").expect(&rt, "an atom"));
-    let answer = count(&rt, &set, "interned tokenised", 2, &Open);
-    assert!(rt; matches!(answer, Err(AppFault::Intern(Fault::FullCount))));
-    let answer = count(&rt, &set, "tokenised interned", 2, &Open);
-    assert!(rt; matches!(answer, Err(AppFault::Intern(Fault::TicketsSpent))));
-    assert!(rt; set.linked(&rt) == 1);
-    assert!(rt; held.eq_str("interned"));
+    let held = intern(&rt, &set, "interned");
+    drop(intern(&rt, &set, "tokenised"));
+    let spent = Some(AppFault::Intern(Fault::TicketsSpent));
+    assert!(rt; fault_of(&rt, &set, "interned tokenised", 2, &Open) == FULL);
+    assert!(rt; fault_of(&rt, &set, "tokenised interned", 2, &Open) == spent);
+    assert!(rt; set.linked(&rt) == 1 && held.eq_str("interned"));
+}
+
+/// Whether three workers are refused the text, and one entry is left.
+fn let_go<R: Threads + Wait + Sync>(rt: &R, set: &DefaultSet, text: &str) -> bool {
+    fault_of(rt, set, text, 3, &Open) == FULL && set.linked(rt) == 1
 }
 
 /// What other workers interned is gone after a refusal.
 #[test]
 fn refusals_let_go_of_all(rt: HostRuntime) {
     let set = set_with(&rt, rt.alloc(), 1, 9);
-    let held = Atom::from_str_in(&rt, &set, "interned").expect(&rt, "an atom");
+    let held = intern(&rt, &set, "interned");
     for text in ["interned tokenised repeated", "repeated tokenised interned"] {
-        let answer = count(&rt, &set, text, 3, &Open);
-        assert!(rt;
-            matches!(answer, Err(AppFault::Intern(Fault::FullCount))),
-            "of {text:?}"
-        );
-        assert!(rt; set.linked(&rt) == 1, "of {text:?}");
+        assert!(rt; let_go(&rt, &set, text), "of {text:?}");
     }
     assert!(rt; held.eq_str("interned"));
 }
@@ -285,7 +375,7 @@ fn interned_by_worker<'e, R: Threads + Wait + Sync>(
 
 #[test]
 fn atoms_cross_threads(rt: HostRuntime) {
-    let set = Set::<EmptyStaticAtomSet>::new(rt.alloc()).expect(&rt, "a set");
+    let set = new_set(&rt, rt.alloc());
     let atom = interned_by_worker(&rt, &set).expect(&rt, "an atom");
     assert!(rt; lent_to_two(&rt, &atom) == Some((true, true)));
     assert!(rt; atom.eq_str("interned"));

@@ -2,7 +2,8 @@
 
 use crate::program::{NOT_TEXT, Run, try_lines, try_runs};
 use commands::generate::{check_command, generate_command};
-use std::alloc::{AllocError, Global};
+use std::alloc::Global;
+use std::process::Abort;
 use std::sync::Wait;
 use std::thread::Threads;
 use string_cache::phf::hash;
@@ -10,26 +11,25 @@ use test_samples::NAMES;
 use text_streams::streams::Io;
 
 /// Tables of one text under a key: its hash is the library's own.
-fn tables_of(alloc: Global, key: u64, text: &str) -> Result<String, AllocError> {
+fn tables_of<R: Abort>(rt: &R, alloc: Global, key: u64, text: &str) -> String {
     let hashes = hash(text, key);
     format!(in alloc;
         "key {key}\ndisp 0 0\natom {:08x}{:08x} {text}\n",
         hashes.g, hashes.f1
     )
+    .expect(rt, "room")
 }
 
 /// Whether the program makes the tables of this text, under this key.
-fn are_made<R: Threads + Wait + Sync>(
+fn are_made<R: Threads + Wait + Sync + Abort>(
     rt: &R,
     alloc: Global,
     line: &str,
     input: &[u8],
     (key, text): (u64, &str),
 ) -> bool {
-    match tables_of(alloc, key, text) {
-        Ok(tables) => Run::Given(line, input, tables.as_bytes()).is_right(rt, alloc),
-        Err(_) => false,
-    }
+    let tables = tables_of(rt, alloc, key, text);
+    Run::Given(line, input, tables.as_bytes()).is_right(rt, alloc)
 }
 
 /// An empty line is the empty text, and the last line feed may lack.

@@ -3,6 +3,7 @@
 use commands::words::words;
 use example_page_names::names::PageNames;
 use std::alloc::Global;
+use std::process::Abort;
 use std::sync::Wait;
 use std::thread::Threads;
 use string_cache::StaticTables;
@@ -28,24 +29,20 @@ const COUNTS: [(&str, u64); 3] = [("crème-brûlée", 2), ("fieldset", 3), ("p",
 // cover a function in which a set of a packed type stands by name.
 
 /// Whether the lines of the words are written.
-fn are_told<S: StaticTables, R: Wait>(rt: &R, alloc: Global) -> bool {
-    let Ok(set) = Set::<S>::new(alloc) else {
-        return false;
-    };
+fn are_told<S: StaticTables, R: Wait + Abort>(rt: &R, alloc: Global) -> bool {
+    let set = Set::<S>::new(alloc).expect(rt, "a set");
     let mut writer = Io::new(Vec::new(alloc));
     let answer = words(rt, &set, &mut Io::new(TEXT.as_bytes()), &mut writer);
     answer == Ok(()) && writer.into_inner().as_slice() == LINES.as_bytes()
 }
 
 /// Whether a worker, or two, count the words.
-fn are_counted<S: StaticTables + Send + Sync, R: Threads + Wait + Sync>(
+fn are_counted<S: StaticTables + Send + Sync, R: Threads + Wait + Sync + Abort>(
     rt: &R,
     alloc: Global,
     both: bool,
 ) -> bool {
-    let Ok(set) = Set::<S>::new(alloc) else {
-        return false;
-    };
+    let set = Set::<S>::new(alloc).expect(rt, "a set");
     let workers = if both { 2 } else { 1 };
     match count(rt, &set, TEXT, workers, &Open) {
         Ok(counts) => are(&counts, &COUNTS),

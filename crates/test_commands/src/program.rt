@@ -5,7 +5,7 @@ mod texts;
 use crate::memory::{Page, Streams};
 use crate::words::EXAMPLE_LINES;
 use commands::program::{arguments, program, refuse, run};
-use std::alloc::{AllocError, Global};
+use std::alloc::Global;
 use std::env::FillError;
 use std::process::Abort;
 use std::rt::Env;
@@ -75,13 +75,19 @@ pub fn answer_of<R: Threads + Wait + Sync>(
     ran(rt, alloc, Ok(Some(args)), streams)
 }
 
+/// Adds a word to the arguments.
+fn add_word<R: Abort>(rt: &R, alloc: Global, args: &mut Vec<String>, word: &str) {
+    let word = String::from_str(alloc, word).expect(rt, "room");
+    args.push(word).expect(rt, "room");
+}
+
 /// The arguments of a line, parted by single spaces.
-pub fn words_of_line(alloc: Global, line: &str) -> Result<Vec<String>, AllocError> {
+pub fn words_of_line<R: Abort>(rt: &R, alloc: Global, line: &str) -> Vec<String> {
     let mut args = Vec::new(alloc);
     for word in line.split(' ') {
-        args.push(String::from_str(alloc, word)?)?;
+        add_word(rt, alloc, &mut args, word);
     }
-    Ok(args)
+    args
 }
 
 /// A run of the program: its line of arguments and its input, and what has to come of it.
@@ -100,7 +106,7 @@ pub enum Run<'r> {
 }
 
 /// Whether this status, output and line of a fault come of a line of arguments over these streams.
-fn comes<R: Threads + Wait + Sync>(
+fn comes<R: Threads + Wait + Sync + Abort>(
     rt: &R,
     alloc: Global,
     line: &str,
@@ -109,15 +115,13 @@ fn comes<R: Threads + Wait + Sync>(
     output: &[u8],
     faults: &[u8],
 ) -> bool {
-    let Ok(args) = words_of_line(alloc, line) else {
-        return false;
-    };
+    let args = words_of_line(rt, alloc, line);
     answer_of(rt, alloc, args, streams).is(status, output, faults)
 }
 
 impl Run<'_> {
     /// Whether that comes of it.
-    pub fn is_right<R: Threads + Wait + Sync>(&self, rt: &R, alloc: Global) -> bool {
+    pub fn is_right<R: Threads + Wait + Sync + Abort>(&self, rt: &R, alloc: Global) -> bool {
         match self {
             Run::Given(line, input, output) => {
                 comes(rt, alloc, line, &Streams::ample(input), 0, output, b"")
@@ -206,17 +210,11 @@ fn other_arguments(rt: HostRuntime) {
     );
 }
 
-/// The words "count" and " 1".
-fn args_with_a_space(alloc: Global) -> Result<Vec<String>, AllocError> {
-    let mut args = words_of_line(alloc, "count")?;
-    args.push(String::from_str(alloc, " 1")?)?;
-    Ok(args)
-}
-
 /// An argument that begins with a space is no number.
 #[test]
 fn other_number_of_workers(rt: HostRuntime) {
-    let args = args_with_a_space(rt.alloc()).expect(&rt, "arguments");
+    let mut args = words_of_line(&rt, rt.alloc(), "count");
+    add_word(&rt, rt.alloc(), &mut args, " 1");
     assert!(rt; are_of_no_command(&rt, rt.alloc(), args));
 }
 
@@ -279,28 +277,24 @@ fn program_fails_at_its_streams(rt: HostRuntime) {
 }
 
 /// The status of the program over what is no text, where nothing can be said on standard error.
-fn unsaid_status<R: Threads + Wait + Sync>(
-    rt: &R,
-    alloc: Global,
-    line: &str,
-) -> Result<u8, AllocError> {
-    let args = words_of_line(alloc, line)?;
+fn unsaid_status<R: Threads + Wait + Sync + Abort>(rt: &R, alloc: Global, line: &str) -> u8 {
+    let args = words_of_line(rt, alloc, line);
     let streams = Streams::ample(b"\xff");
-    Ok(program(
+    program(
         rt,
         alloc,
         &args,
         &mut streams.reader(),
         &mut streams.writer(),
         &mut Page::new(0, 0),
-    ))
+    )
 }
 
 /// What can't be said on standard error changes no status.
 #[test]
 fn faults_fail(rt: HostRuntime) {
-    assert!(rt; unsaid_status(&rt, rt.alloc(), "words") == Ok(1));
-    assert!(rt; unsaid_status(&rt, rt.alloc(), "jump") == Ok(2));
+    assert!(rt; unsaid_status(&rt, rt.alloc(), "words") == 1);
+    assert!(rt; unsaid_status(&rt, rt.alloc(), "jump") == 2);
 }
 
 /// Faults, and the lines that they are told in.

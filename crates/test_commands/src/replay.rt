@@ -3,7 +3,8 @@
 use crate::memory::{Outcome, Streams};
 use crate::program::{NOT_TEXT, Run, try_runs};
 use commands::replay::replay;
-use std::alloc::{AllocError, Global};
+use std::alloc::Global;
+use std::process::Abort;
 use text_streams::faults::AppFault;
 use text_streams::streams::Io;
 
@@ -271,60 +272,61 @@ fn prints(alloc: Global, script: &str, lines: &str) -> bool {
 }
 
 /// A sweep of each bucket below 6000.
-fn script_of_sweeps(alloc: Global) -> Result<String, AllocError> {
+fn script_of_sweeps<R: Abort>(rt: &R, alloc: Global) -> String {
     let mut script = String::new(alloc);
     for bucket in 0..6000u32 {
-        write!(script, "1 sweep {bucket}\n1 leave\n")?;
+        write!(script, "1 sweep {bucket}\n1 leave\n").expect(rt, "room");
     }
-    Ok(script)
+    script
 }
 
-/// What that prints: there are 4096 buckets.
-fn lines_of_sweeps(alloc: Global) -> Result<String, AllocError> {
-    let mut lines = "taken\nleft\n".repeat(alloc, 4096)?;
-    lines.push_str("no\nno\n".repeat(alloc, 1904)?.as_str())?;
-    Ok(lines)
+/// A text so many times, and another one so many times behind it.
+fn lines_of<R: Abort>(
+    rt: &R,
+    alloc: Global,
+    (first, times): (&str, usize),
+    (then, more): (&str, usize),
+) -> String {
+    let mut lines = first.repeat(alloc, times).expect(rt, "room");
+    for _ in 0..more {
+        lines.push_str(then).expect(rt, "room");
+    }
+    lines
 }
 
-/// Whether the lines come in several writes, of which a later one fails.
-fn come_in_pieces(alloc: Global) -> Result<bool, AllocError> {
-    let script = script_of_sweeps(alloc)?;
-    let lines = lines_of_sweeps(alloc)?;
-    let written = replayed(alloc, &Streams::ample(script.as_bytes()));
-    Ok(prints(alloc, &script, &lines) && written.answer == Err(AppFault::Write))
+/// Whether what the script prints is too much for a page.
+fn overflows(alloc: Global, script: &str) -> bool {
+    replayed(alloc, &Streams::ample(script.as_bytes())).answer == Err(AppFault::Write)
 }
 
-/// A script that takes several reads, and an output of more than one piece.
+/// A script that takes several reads, and an output of more than one piece, which comes in several writes, of which a later one may fail.
+/// There are 4096 buckets.
 #[test]
 fn more_than_one_piece(rt: HostRuntime) {
-    assert!(rt; come_in_pieces(rt.alloc()) == Ok(true));
+    let script = script_of_sweeps(&rt, rt.alloc());
+    let lines = lines_of(&rt, rt.alloc(), ("taken\nleft\n", 4096), ("no\nno\n", 1904));
+    assert!(rt; prints(rt.alloc(), &script, &lines));
+    assert!(rt; overflows(rt.alloc(), &script));
 }
 
-/// A pass over a bucket, and behind it 550 steps that aren't enabled, each of a text of 2,000 bytes.
-fn large_script_of(alloc: Global) -> Result<String, AllocError> {
-    let text = "abcdefghijklmnopqrst".repeat(alloc, 100)?;
-    let mut script = String::from_str(alloc, "1 sweep 0\n")?;
+/// A pass over a bucket, and behind it 550 steps that aren't enabled, each of this text.
+fn large_script_of<R: Abort>(rt: &R, alloc: Global, text: &str) -> String {
+    let mut script = String::from_str(alloc, "1 sweep 0\n").expect(rt, "room");
     for _ in 0..550 {
-        writeln!(script, "1 intern {text}")?;
+        writeln!(script, "1 intern {text}").expect(rt, "room");
     }
-    Ok(script)
+    script
 }
 
-/// What that prints.
-fn lines_of_the_large_script(alloc: Global) -> Result<String, AllocError> {
-    let mut lines = String::from_str(alloc, "taken\n")?;
-    for _ in 0..550 {
-        lines.push_str("no\n")?;
-    }
-    Ok(lines)
-}
-
-/// More than a megabyte of long lines.
+/// More than a megabyte of long lines: each text has 2,000 bytes.
 #[test]
 fn large_script(rt: HostRuntime) {
-    let script = large_script_of(rt.alloc()).expect(&rt, "room");
+    let text = "abcdefghijklmnopqrst"
+        .repeat(rt.alloc(), 100)
+        .expect(&rt, "room");
+    let script = large_script_of(&rt, rt.alloc(), &text);
+    let lines = lines_of(&rt, rt.alloc(), ("taken\n", 1), ("no\n", 550));
     assert!(rt; script.len() > 1_100_000);
-    let lines = lines_of_the_large_script(rt.alloc()).expect(&rt, "room");
     assert!(rt; prints(rt.alloc(), &script, &lines));
 }
 

@@ -4,7 +4,7 @@ ghost use Rattle.std.specs.Prelude.{None, false};
 
 use crate::memory::{Bytes, Outcome, Streams};
 use commands::words::{words, words_alone};
-use std::alloc::{AllocError, Global};
+use std::alloc::Global;
 use std::process::Abort;
 use std::sync::Wait;
 use std::{io, str};
@@ -102,22 +102,24 @@ fn not_a_text(rt: HostRuntime) {
     assert!(rt; are_told(&rt, rt.alloc(), b"\xff", Err(AppFault::Text), b""));
 }
 
-/// So many different words, each a number of six digits behind the same beginning.
-fn numbered_words(alloc: Global, front: &str, count: u32) -> Result<String, AllocError> {
+/// What stands before a word and behind it: in a text, and in the line that tells of it.
+const IN_TEXT: (&str, &str) = ("", " ");
+
+const IN_LINE: (&str, &str) = ("Not seen the word \"", "\" before\n");
+
+/// So many different words, each a number of six digits behind the same beginning, between these.
+fn numbered<R: Abort>(
+    rt: &R,
+    alloc: Global,
+    front: &str,
+    count: u32,
+    (before, behind): (&str, &str),
+) -> String {
     let mut text = String::new(alloc);
     for n in 0..count {
-        write!(text, "{front}{n:06} ")?;
+        write!(text, "{before}{front}{n:06}{behind}").expect(rt, "room");
     }
-    Ok(text)
-}
-
-/// Their lines.
-fn numbered_lines(alloc: Global, front: &str, count: u32) -> Result<String, AllocError> {
-    let mut lines = String::new(alloc);
-    for n in 0..count {
-        writeln!(lines, "Not seen the word \"{front}{n:06}\" before")?;
-    }
-    Ok(lines)
+    text
 }
 
 /// Whether the lines of a text are written, of any size.
@@ -134,18 +136,18 @@ fn are_lines_in<R: Wait>(rt: &R, set: &Set<EmptyStaticAtomSet>, text: &str, line
     answer == Ok(()) && writer.into_inner().as_slice() == lines.as_bytes()
 }
 
-/// Whether the lines of so many words come in several writes, of which a later one fails.
-fn come_in_pieces(alloc: Global, front: &str, count: u32) -> Result<bool, AllocError> {
-    let text = numbered_words(alloc, front, count)?;
-    let lines = numbered_lines(alloc, front, count)?;
-    let written = told_alone(alloc, &Streams::ample(text.as_bytes()));
-    Ok(are_lines(alloc, &text, &lines) && written.answer == Err(AppFault::Write))
+/// Whether the lines of the text are too many for a page.
+fn overflow(alloc: Global, text: &str) -> bool {
+    told_alone(alloc, &Streams::ample(text.as_bytes())).answer == Err(AppFault::Write)
 }
 
 /// Many lines come in several writes, of which a later one fails.
 #[test]
 fn more_than_one_piece(rt: HostRuntime) {
-    assert!(rt; come_in_pieces(rt.alloc(), "word", 3000) == Ok(true));
+    let text = numbered(&rt, rt.alloc(), "word", 3000, IN_TEXT);
+    let lines = numbered(&rt, rt.alloc(), "word", 3000, IN_LINE);
+    assert!(rt; are_lines(rt.alloc(), &text, &lines));
+    assert!(rt; overflow(rt.alloc(), &text));
 }
 
 /// Takes all bytes, and notes how many come in each of the first two writes, and how many writes there are.
@@ -190,19 +192,15 @@ fn sizes_of(alloc: Global, text: &str) -> Result<(u64, usize, usize), AppFault> 
 /// A piece is written once the lines have 65,536 bytes, as those of 1,024 words have here: each line has 64, in 60 characters.
 #[test]
 fn lines_come_in_pieces(rt: HostRuntime) {
-    let text = numbered_words(rt.alloc(), "smörgåsbordsmörgåsbordbord", 3000).expect(&rt, "room");
+    let text = numbered(&rt, rt.alloc(), "smörgåsbordsmörgåsbordbord", 3000, IN_TEXT);
     assert!(rt; sizes_of(rt.alloc(), &text) == Ok((3, 65_536, 65_536)));
 }
 
 /// Whether the lines of 550 words with this beginning, which have more than a megabyte, are written over the set.
-fn are_large<R: Wait>(
-    rt: &R,
-    set: &Set<EmptyStaticAtomSet>,
-    front: &str,
-) -> Result<bool, AllocError> {
-    let text = numbered_words(set.allocator(), front, 550)?;
-    let lines = numbered_lines(set.allocator(), front, 550)?;
-    Ok(text.len() > 1_100_000 && are_lines_in(rt, set, &text, &lines))
+fn are_large<R: Wait + Abort>(rt: &R, set: &Set<EmptyStaticAtomSet>, front: &str) -> bool {
+    let text = numbered(rt, set.allocator(), front, 550, IN_TEXT);
+    let lines = numbered(rt, set.allocator(), front, 550, IN_LINE);
+    text.len() > 1_100_000 && are_lines_in(rt, set, &text, &lines)
 }
 
 /// More than a megabyte of long words.
@@ -212,24 +210,27 @@ fn large_text(rt: HostRuntime) {
         .repeat(rt.alloc(), 100)
         .expect(&rt, "room");
     let set = Set::<EmptyStaticAtomSet>::new(rt.alloc()).expect(&rt, "a set");
-    assert!(rt; are_large(&rt, &set, &front) == Ok(true));
+    assert!(rt; are_large(&rt, &set, &front));
 }
 
 /// Whether the atom of a text is dynamic.
-fn is_dynamic<R: Wait>(rt: &R, set: &Set<EmptyStaticAtomSet>, text: &str) -> Result<bool, Fault> {
-    Ok(Atom::from_str_in(rt, set, text)?.is_dynamic())
+fn is_dynamic<R: Wait + Abort>(rt: &R, set: &Set<EmptyStaticAtomSet>, text: &str) -> bool {
+    Atom::from_str_in(rt, set, text)
+        .expect(rt, "an atom")
+        .is_dynamic()
 }
 
-/// Those of the example that are.
-const DYNAMIC_WORDS: [&str; 4] = ["sentence", "tokenised", "interned", "repeated"];
+/// Whether a word of the example is too long for an inline atom.
+fn is_long(word: &str) -> bool {
+    ["sentence", "tokenised", "interned", "repeated"].contains(&word)
+}
 
 #[test]
 fn dynamic_words_of_the_example(rt: HostRuntime) {
     let set = Set::<EmptyStaticAtomSet>::new(rt.alloc()).expect(&rt, "a set");
     let text = str::from_utf8(EXAMPLE).expect(&rt, "a text");
     for word in text.split_whitespace() {
-        let is_longer = DYNAMIC_WORDS.contains(&word);
-        assert!(rt; is_dynamic(&rt, &set, word) == Ok(is_longer), "of {word:?}");
+        assert!(rt; is_dynamic(&rt, &set, word) == is_long(word), "of {word:?}");
     }
 }
 
@@ -286,7 +287,7 @@ fn are_held<R: Wait>(rt: &R, set: &Set<EmptyStaticAtomSet>, text: &str, linked: 
 fn words_are_held_to_the_end(rt: HostRuntime) {
     let set = Set::<EmptyStaticAtomSet>::new(rt.alloc()).expect(&rt, "a set");
     assert!(rt; are_held(&rt, &set, "interned tokenised interned short", 2));
-    let many = numbered_words(rt.alloc(), "word", 3000).expect(&rt, "room");
+    let many = numbered(&rt, rt.alloc(), "word", 3000, IN_TEXT);
     assert!(rt; are_held(&rt, &set, &many, 3000));
 }
 

@@ -3,21 +3,20 @@
 use super::words_of_line;
 use crate::memory::Page;
 use commands::program::program;
-use std::alloc::{AllocError, Global};
+use std::alloc::Global;
+use std::process::Abort;
 use std::sync::Wait;
 use std::thread::Threads;
 use text_streams::streams::Io;
 
 /// What the program writes of an input of any size, without a fault.
-fn output_of<R: Threads + Wait + Sync>(
+fn output_of<R: Threads + Wait + Sync + Abort>(
     rt: &R,
     alloc: Global,
     line: &str,
     input: &[u8],
 ) -> Option<Vec<u8>> {
-    let Ok(args) = words_of_line(alloc, line) else {
-        return None;
-    };
+    let args = words_of_line(rt, alloc, line);
     let mut output = Io::new(Vec::new(alloc));
     let mut faults = Page::wide();
     let input = &mut Io::new(input);
@@ -30,7 +29,7 @@ fn output_of<R: Threads + Wait + Sync>(
 }
 
 /// Whether the program writes this output, and no fault.
-fn writes<R: Threads + Wait + Sync>(
+fn writes<R: Threads + Wait + Sync + Abort>(
     rt: &R,
     alloc: Global,
     line: &str,
@@ -115,6 +114,10 @@ fn beyond_ascii(rt: HostRuntime) {
     }
 }
 
+fn owned<R: Abort>(rt: &R, alloc: Global, text: &str) -> String {
+    String::from_str(alloc, text).expect(rt, "room")
+}
+
 /// A text with the lines that `words` and `count` write of it.
 #[derive(Drop)]
 struct Told {
@@ -125,36 +128,38 @@ struct Told {
 
 impl Told {
     /// The one word "interned", which will come 351 times.
-    fn of_interned(alloc: Global) -> Result<Told, AllocError> {
-        Ok(Told {
-            text: String::from_str(alloc, "interned")?,
-            words: String::from_str(alloc, "Not seen the word \"interned\" before\n")?,
-            counts: String::from_str(alloc, "351 interned\n")?,
-        })
+    fn of_interned<R: Abort>(rt: &R, alloc: Global) -> Told {
+        Told {
+            text: owned(rt, alloc, "interned"),
+            words: owned(rt, alloc, "Not seen the word \"interned\" before\n"),
+            counts: owned(rt, alloc, "351 interned\n"),
+        }
     }
 
     /// Goes on with a new word, once more that word, and "interned", which came `n` times before.
-    fn go_on(&mut self, word: &str, n: u32) -> Result<(), AllocError> {
-        write!(self.text, " {word}{n:03}\n{word}{n:03} interned")?;
-        writeln!(self.words, "Not seen the word \"{word}{n:03}\" before")?;
-        writeln!(self.words, "Seen the word \"{word}{n:03}\" 1 times")?;
-        writeln!(self.words, "Seen the word \"interned\" {n} times")?;
-        writeln!(self.counts, "2 {word}{n:03}")
+    fn go_on<R: Abort>(&mut self, rt: &R, word: &str, n: u32) {
+        write!(self.text, " {word}{n:03}\n{word}{n:03} interned").expect(rt, "room");
+        write!(
+            self.words,
+            "Not seen the word \"{word}{n:03}\" before\nSeen the word \"{word}{n:03}\" 1 times\nSeen the word \"interned\" {n} times\n"
+        )
+        .expect(rt, "room");
+        writeln!(self.counts, "2 {word}{n:03}").expect(rt, "room");
     }
 }
 
 /// More than two megabytes: each of 350 long words comes twice, and between them the same word 351 times.
-fn two_megabytes(alloc: Global) -> Result<Told, AllocError> {
-    let word = "字".repeat(alloc, 1_000)?;
-    let mut told = Told::of_interned(alloc)?;
+fn two_megabytes<R: Abort>(rt: &R, alloc: Global) -> Told {
+    let word = "字".repeat(alloc, 1_000).expect(rt, "room");
+    let mut told = Told::of_interned(rt, alloc);
     for n in 1..=350 {
-        told.go_on(&word, n)?;
+        told.go_on(rt, &word, n);
     }
-    Ok(told)
+    told
 }
 
 /// Whether the program writes this output of the text.
-fn is_told<R: Threads + Wait + Sync>(
+fn is_told<R: Threads + Wait + Sync + Abort>(
     rt: &R,
     alloc: Global,
     line: &str,
@@ -165,7 +170,7 @@ fn is_told<R: Threads + Wait + Sync>(
 }
 
 /// Whether the words are told, and counted by one worker and by three.
-fn are_told<R: Threads + Wait + Sync>(rt: &R, alloc: Global, told: &Told) -> bool {
+fn are_told<R: Threads + Wait + Sync + Abort>(rt: &R, alloc: Global, told: &Told) -> bool {
     is_told(rt, alloc, "words", &told.text, &told.words)
         && is_told(rt, alloc, "count 1", &told.text, &told.counts)
         && is_told(rt, alloc, "count 3", &told.text, &told.counts)
@@ -173,34 +178,27 @@ fn are_told<R: Threads + Wait + Sync>(rt: &R, alloc: Global, told: &Told) -> boo
 
 #[test]
 fn two_megabytes_of_words(rt: HostRuntime) {
-    let told = two_megabytes(rt.alloc()).expect(&rt, "room");
+    let told = two_megabytes(&rt, rt.alloc());
     assert!(rt; told.text.len() > 2_000_000);
     assert!(rt; are_told(&rt, rt.alloc(), &told));
 }
 
 /// Whether the text is interned by a script.
-fn is_interned<R: Threads + Wait + Sync>(
-    rt: &R,
-    alloc: Global,
-    text: &str,
-) -> Result<bool, AllocError> {
-    let script = format!(in alloc; "1 intern {text}\n1 link\n1 leave\n")?;
+fn is_interned<R: Threads + Wait + Sync + Abort>(rt: &R, alloc: Global, text: &str) -> bool {
+    let script = format!(in alloc; "1 intern {text}\n1 link\n1 leave\n").expect(rt, "room");
     let replies = "taken\nlinked e1 serial 1\nleft\nheld e1 1\n";
-    Ok(is_told(rt, alloc, "replay", &script, replies))
+    is_told(rt, alloc, "replay", &script, replies)
 }
 
 /// Whether the text's table has this hash under the key 5, and is checked.
-fn is_placed<R: Threads + Wait + Sync>(
+fn is_placed<R: Threads + Wait + Sync + Abort>(
     rt: &R,
     alloc: Global,
     text: &str,
     hash: &str,
-) -> Result<bool, AllocError> {
-    let table = format!(in alloc; "key 5\ndisp 0 0\natom {hash} {text}\n")?;
-    Ok(
-        is_told(rt, alloc, "generate 5 1", text, &table)
-            && is_told(rt, alloc, "check", &table, "yes\n"),
-    )
+) -> bool {
+    let table = format!(in alloc; "key 5\ndisp 0 0\natom {hash} {text}\n").expect(rt, "room");
+    is_told(rt, alloc, "generate 5 1", text, &table) && is_told(rt, alloc, "check", &table, "yes\n")
 }
 
 /// One text of more than two megabytes. Its hash was worked out by another program.
@@ -208,21 +206,21 @@ fn is_placed<R: Threads + Wait + Sync>(
 fn two_megabytes_in_a_line(rt: HostRuntime) {
     let text = "字".repeat(rt.alloc(), 700_000).expect(&rt, "room");
     assert!(rt; text.len() > 2_000_000);
-    assert!(rt; is_interned(&rt, rt.alloc(), &text) == Ok(true));
-    assert!(rt; is_placed(&rt, rt.alloc(), &text, "cbd6f7cf3f1ece22") == Ok(true));
+    assert!(rt; is_interned(&rt, rt.alloc(), &text));
+    assert!(rt; is_placed(&rt, rt.alloc(), &text, "cbd6f7cf3f1ece22"));
 }
 
 /// A list of 1,000 names.
-fn thousand(alloc: Global) -> Result<String, AllocError> {
+fn thousand<R: Abort>(rt: &R, alloc: Global) -> String {
     let mut names = String::new(alloc);
     for n in 1000..2000 {
-        writeln!(names, "{n} 字字字字字字字字字字字字字字字字字字字字字字字字字")?;
+        writeln!(names, "{n} 字字字字字字字字字字字字字字字字字字字字字字字字字").expect(rt, "room");
     }
-    Ok(names)
+    names
 }
 
 /// Whether the names have a table text of more than 100,000 bytes, which is checked.
-fn have_table<R: Threads + Wait + Sync>(rt: &R, alloc: Global, names: &str) -> bool {
+fn have_table<R: Threads + Wait + Sync + Abort>(rt: &R, alloc: Global, names: &str) -> bool {
     match output_of(rt, alloc, "generate 0 2048", names.as_bytes()) {
         Some(table) => table.len() > 100_000 && writes(rt, alloc, "check", &table, b"yes\n"),
         None => false,
@@ -232,6 +230,6 @@ fn have_table<R: Threads + Wait + Sync>(rt: &R, alloc: Global, names: &str) -> b
 /// A list of 1,000 names, and its table text of more than 100,000 bytes.
 #[test]
 fn thousand_names(rt: HostRuntime) {
-    let names = thousand(rt.alloc()).expect(&rt, "room");
+    let names = thousand(&rt, rt.alloc());
     assert!(rt; have_table(&rt, rt.alloc(), &names));
 }

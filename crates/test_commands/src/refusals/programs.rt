@@ -9,7 +9,7 @@ use crate::program::{
 use crate::replay::{WORKED, replayed};
 use crate::words::{EXAMPLE_LINES, told_alone, told_in};
 use commands::words::words_alone;
-use std::alloc::{AllocError, Global};
+use std::alloc::Global;
 use std::io::Print;
 use std::process::Abort;
 use std::str;
@@ -63,19 +63,19 @@ fn words_in_a_table(rt: HostRuntime) {
 }
 
 /// 100 different words of eight bytes.
-fn hundred_words(alloc: Global) -> Result<String, AllocError> {
+fn hundred_words<R: Abort>(rt: &R, alloc: Global) -> String {
     let mut text = String::new(alloc);
     for n in 0..100 {
-        write!(text, "word{n:04} ")?;
+        write!(text, "word{n:04} ").expect(rt, "room");
     }
-    Ok(text)
+    text
 }
 
 /// 100 different words of eight bytes, each of which the table holds with bytes of its own.
 #[test]
 fn many_words_in_a_table(rt: HostRuntime) {
     let alloc = rt.alloc();
-    let text = hundred_words(alloc).expect(&rt, "room");
+    let text = hundred_words(&rt, alloc);
     let answer = at_last(&rt, || {
         words_alone(alloc, &mut Bytes::whole(text.as_bytes()), &mut Lost)
     });
@@ -180,17 +180,22 @@ fn counts_by_sixty_four(rt: HostRuntime) {
     let _ = example_is_counted(&rt, rt.alloc(), 64);
 }
 
-/// The numbers below 1,024, each once, and then the word "a" 3,072 times.
-fn text_of_many(alloc: Global) -> Result<String, AllocError> {
+/// Adds the word at this place of a text: the numbers below 1,024, each once, and then the word "a".
+fn add_word_at<R: Abort>(rt: &R, text: &mut String, n: u32) {
+    if n < 1_024 {
+        write!(text, "{n} ").expect(rt, "room");
+    } else {
+        text.push_str("a ").expect(rt, "room");
+    }
+}
+
+/// A text of 1,024 numbers, and then the word "a" 3,072 times.
+fn text_of_many<R: Abort>(rt: &R, alloc: Global) -> String {
     let mut text = String::new(alloc);
     for n in 0..4_096 {
-        if n < 1_024 {
-            write!(text, "{n} ")?;
-        } else {
-            text.push_str("a ")?;
-        }
+        add_word_at(rt, &mut text, n);
     }
-    Ok(text)
+    text
 }
 
 /// Whether these are the counts of that text.
@@ -225,7 +230,7 @@ pub fn many_are_counted<R: Threads + Wait + Sync + Print + Abort>(
     requires high { n ≤ 64 }
 {
     let set = Set::<EmptyStaticAtomSet>::new(alloc).expect(rt, "a set");
-    let text = text_of_many(alloc).expect(rt, "room");
+    let text = text_of_many(rt, alloc);
     begin(rt);
     let answer = many_are_right(rt, &set, &text, n);
     finish(rt, End::of(&answer));
@@ -255,7 +260,7 @@ pub fn line_is_run<R: Threads + Wait + Sync + Print + Abort>(
     (input, output): (&[u8], &[u8]),
     refusal: &[u8],
 ) {
-    let args = words_of_line(alloc, line).expect(rt, "an answer");
+    let args = words_of_line(rt, alloc, line);
     let streams = Streams::ample(input);
     begin(rt);
     let answer = answer_of(rt, alloc, args, &streams);
