@@ -6,7 +6,7 @@ use std::sync::Wait;
 use string_cache::dynamic_set::Set;
 use string_cache::static_sets::StaticTables;
 use string_cache::table::Table;
-use string_cache::{Atom, Fault};
+use string_cache::{Atom, DefaultAtom, EmptyStaticAtomSet, Fault};
 use test_calls::interned;
 
 /// A set of the usual limits.
@@ -21,6 +21,29 @@ pub fn intern<'s, R: Wait + Abort, Static: StaticTables>(
     text: &str,
 ) -> Atom<'s, Static> {
     interned(rt, set, text).expect(rt, "an atom")
+}
+
+/// Interns a text, and adds its atom.
+fn add_atom<'s, R: Wait + Abort>(
+    rt: &R,
+    set: &'s Set<EmptyStaticAtomSet>,
+    atoms: &mut Vec<DefaultAtom<'s>>,
+    text: &str,
+) {
+    atoms.push(intern(rt, set, text)).expect(rt, "room");
+}
+
+/// The atoms of these texts.
+pub fn intern_all<'s, R: Wait + Abort>(
+    rt: &R,
+    set: &'s Set<EmptyStaticAtomSet>,
+    texts: &[&str],
+) -> Vec<DefaultAtom<'s>> {
+    let mut atoms = Vec::new(set.allocator());
+    for text in texts {
+        add_atom(rt, set, &mut atoms, text);
+    }
+    atoms
 }
 
 pub fn new_table<R: Abort, Static: StaticTables>(rt: &R, alloc: Global) -> Table<Static> {

@@ -5,12 +5,12 @@ mod long;
 mod odd;
 
 use crate::begun::new_set;
-use std::alloc::{AllocError, Global};
+use std::alloc::Global;
 use std::sync::Wait;
 use string_cache::dynamic_set::Set;
 use string_cache::static_sets::StaticAtomSet;
 use string_cache::trivial_impls::PrecomputedHash;
-use string_cache::{Atom, EmptyStaticAtomSet, Fault};
+use string_cache::{Atom, EmptyStaticAtomSet};
 use test_calls::interned;
 use test_samples::One;
 
@@ -19,16 +19,6 @@ use test_samples::One;
 enum Tables {
     Empty,
     One,
-}
-
-/// What an atom tells of itself.
-#[derive(Drop)]
-struct Told {
-    word: u64,
-    form: &'static str,
-    hash: u64,
-    precomputed: u32,
-    debug: String,
 }
 
 /// The one form that the atom says it has.
@@ -41,27 +31,12 @@ fn form_told<Static: StaticAtomSet>(atom: &Atom<'_, Static>) -> &'static str {
     }
 }
 
-fn printed<Static: StaticAtomSet>(
-    alloc: Global,
-    atom: &Atom<'_, Static>,
-) -> Result<String, AllocError> {
-    format!(in alloc; "{atom:?}")
-}
-
-/// What the atom of a text tells.
-fn tell<R: Wait, Static: StaticAtomSet>(
-    rt: &R,
-    set: &Set<Static>,
-    text: &str,
-) -> Result<Told, Fault> {
-    let atom = interned(rt, set, text)?;
-    Ok(Told {
-        word: atom.unsafe_data(),
-        form: form_told(&atom),
-        hash: atom.get_hash(),
-        precomputed: atom.precomputed_hash(),
-        debug: printed(set.allocator(), &atom)?,
-    })
+/// Whether the atom is printed so.
+fn is_printed<Static: StaticAtomSet>(alloc: Global, atom: &Atom<'_, Static>, text: &str) -> bool {
+    match format!(in alloc; "{atom:?}") {
+        Ok(printed) => printed.as_str() == text,
+        Err(_) => false,
+    }
 }
 
 /// What the atom of a text under these tables tells.
@@ -77,16 +52,21 @@ struct Vector {
 }
 
 impl Vector {
+    /// Whether that is what the atom tells.
+    fn is_told_of<Static: StaticAtomSet>(&self, alloc: Global, atom: &Atom<'_, Static>) -> bool {
+        atom.unsafe_data() == self.word
+            && form_told(atom) == self.form
+            && atom.get_hash() == self.hash
+            && atom.precomputed_hash() == self.precomputed
+            && is_printed(alloc, atom, self.debug)
+    }
+
     /// Whether that is what the atom of the text in this set tells.
     fn is_told<R: Wait, Static: StaticAtomSet>(&self, rt: &R, set: &Set<Static>) -> bool {
-        let Ok(told) = tell(rt, set, self.text) else {
-            return false;
-        };
-        told.word == self.word
-            && told.form == self.form
-            && told.hash == self.hash
-            && told.precomputed == self.precomputed
-            && told.debug.as_str() == self.debug
+        match interned(rt, set, self.text) {
+            Ok(atom) => self.is_told_of(set.allocator(), &atom),
+            Err(_) => false,
+        }
     }
 }
 

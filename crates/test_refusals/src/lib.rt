@@ -5,4 +5,4 @@ mod counts;
 mod watched;
 
 pub use counts::are;
-pub use watched::{End, Refusal, at_last, begin, finish};
+pub use watched::{End, Refusal, at_last, begin, finish, finishes_refused};

@@ -70,6 +70,13 @@ pub fn finish<R: Print>(rt: &R, how: End) {
     };
 }
 
+/// Prints the line behind the call, which keeps nothing where a request is refused, and tells whether one was.
+pub fn finishes_refused<T, E: Refusal, R: Print>(rt: &R, answer: &Result<T, E>) -> bool {
+    let end = End::of(answer);
+    finish(rt, end);
+    matches!(end, End::Refused)
+}
+
 /// What a call gives or, where a request is refused, what it gives once it is made again.
 pub fn at_last<T, E: Refusal, R: Print, F: Fn() -> Result<T, E>>(rt: &R, call: F) -> Result<T, E>
     requires { F.IsAlwaysCallable call }

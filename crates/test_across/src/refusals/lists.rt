@@ -2,79 +2,84 @@
 
 use crate::begun::new_set;
 use std::io::Print;
+use std::process::Abort;
 use std::sync::Wait;
 use string_cache::dynamic_set::Set;
 use string_cache::{AtomList, EmptyStaticAtomSet, Fault};
-use test_calls::links;
-use test_refusals::{End, Refusal, begin, finish};
+use test_calls::{links, push};
+use test_refusals::{begin, finishes_refused};
 
 /// A list of atoms without static texts.
 type DefaultList<'s> = AtomList<'s, EmptyStaticAtomSet>;
 
-fn push<R: Wait>(rt: &R, list: &mut DefaultList<'_>, text: &str) -> Result<(), Fault> {
-    list.push_str(rt, text)
-}
-
-/// Pushes a text and, where a request is refused, pushes it again. Whether the list then has just these two texts.
-fn is_pushed_at_last<R: Wait + Print>(
+/// Pushes a text to a list of so many places. Where a request is refused the list stays as it was, and the text is pushed again.
+fn push_at_last<R: Wait + Print>(
     rt: &R,
     list: &mut DefaultList<'_>,
     text: &str,
-    texts: [&str; 2],
-) -> Result<bool, Fault> {
+    places: usize,
+) -> Result<(), Fault> {
     begin(rt);
     let answer = push(rt, list, text);
-    finish(rt, End::of(&answer));
-    let len = list.len();
-    match answer {
-        Err(fault) if fault.is_of_refusal() && len == 1 => push(rt, list, text)?,
-        made => made?,
+    if finishes_refused(rt, &answer) && list.len() == places {
+        return push(rt, list, text);
     }
-    Ok(list.len() == 2 && list.get(0) == Some(texts[0]) && list.get(1) == Some(texts[1]))
+    answer
+}
+
+/// Whether the list's last place is this one, and it has these texts there and before it.
+fn ends_at(list: &DefaultList<'_>, last: usize, texts: [&str; 2]) -> bool {
+    list.get(last.saturating_sub(1)) == Some(texts[0])
+        && list.get(last) == Some(texts[1])
+        && list.len() == last.saturating_add(1)
+}
+
+/// Whether a text that is pushed at last to a list of so many places stands behind the other one.
+fn is_pushed_at_last<R: Wait + Print>(
+    rt: &R,
+    list: &mut DefaultList<'_>,
+    places: usize,
+    texts: [&str; 2],
+) -> bool {
+    push_at_last(rt, list, texts[1], places) == Ok(()) && ends_at(list, places, texts)
 }
 
 /// A list of one text, which has room for a second place.
-fn list_of_one<'s, R: Wait>(
+fn list_of_one<'s, R: Wait + Abort>(
     rt: &R,
     set: &'s Set<EmptyStaticAtomSet>,
     text: &str,
-) -> Result<DefaultList<'s>, Fault> {
+) -> DefaultList<'s> {
     let mut list = AtomList::new(set);
-    push(rt, &mut list, text)?;
-    Ok(list)
+    push(rt, &mut list, text).expect(rt, "a place");
+    list
 }
 
 /// There is room for the place, and none for the text.
 #[test]
 fn text_is_pushed(rt: HostRuntime) {
     let set = new_set(&rt, rt.alloc());
-    let mut list = list_of_one(&rt, &set, "ab").expect(&rt, "a place");
-    let pushed = is_pushed_at_last(&rt, &mut list, "interned", ["ab", "interned"]);
-    assert!(rt; pushed == Ok(true));
+    let mut list = list_of_one(&rt, &set, "ab");
+    assert!(rt; is_pushed_at_last(&rt, &mut list, 1, ["ab", "interned"]));
     drop(list);
     assert!(rt; links(&rt, &set, 0));
 }
 
-/// Pushes texts till the first place past the room that the list has, and then a text that is there: there is no room for the place.
-fn fills_and_pushes<R: Wait + Print>(rt: &R, set: &Set<EmptyStaticAtomSet>) -> Result<bool, Fault> {
-    let mut list = list_of_one(rt, set, "interned")?;
+/// A list of four texts, whose fifth place is the first past the room that it has.
+fn list_of_four<'s, R: Wait + Abort>(rt: &R, set: &'s Set<EmptyStaticAtomSet>) -> DefaultList<'s> {
+    let mut list = list_of_one(rt, set, "interned");
     for _ in 1..4 {
-        push(rt, &mut list, "ab")?;
+        push(rt, &mut list, "ab").expect(rt, "a place");
     }
-    begin(rt);
-    let answer = push(rt, &mut list, "interned");
-    finish(rt, End::of(&answer));
-    let len = list.len();
-    match answer {
-        Err(fault) if fault.is_of_refusal() && len == 4 => push(rt, &mut list, "interned")?,
-        made => made?,
-    }
-    Ok(list.len() == 5 && list.get(4) == Some("interned") && list.get(3) == Some("ab"))
+    list
 }
 
+/// The text is there, and there is no room for the place.
 #[test]
 fn place_is_pushed(rt: HostRuntime) {
     let set = new_set(&rt, rt.alloc());
-    assert!(rt; fills_and_pushes(&rt, &set) == Ok(true));
+    let mut list = list_of_four(&rt, &set);
+    assert!(rt; is_pushed_at_last(&rt, &mut list, 4, ["ab", "interned"]));
+    drop(list);
     assert!(rt; links(&rt, &set, 0));
 }

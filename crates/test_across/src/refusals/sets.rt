@@ -1,6 +1,6 @@
 //! Sets and their atoms: a call that is made again gives the ticket that it would have given the first time.
 
-use crate::begun::{intern, new_set};
+use crate::begun::{intern, intern_all, new_set};
 use serde_json::Value;
 use std::alloc::Global;
 use std::borrow::CowStr;
@@ -10,8 +10,10 @@ use std::sync::Wait;
 use string_cache::dynamic_set::Set;
 use string_cache::word::{Buckets, Limits};
 use string_cache::{DefaultAtom, EmptyStaticAtomSet, Fault};
-use test_calls::{interned, is_of, links};
-use test_refusals::{End, at_last, begin, finish};
+use test_calls::{
+    interned, interned_cow, interned_owned, is_of, json_of, links, raised, read_json,
+};
+use test_refusals::{at_last, begin, finishes_refused};
 
 /// The first ticket of "interned": its bucket is 0x210, the low bits of its SipHash by OpenSSL.
 const FIRST: u64 = 0x1_0840;
@@ -29,13 +31,18 @@ fn set_is_made(rt: HostRuntime) {
     assert!(rt; is_of(&intern(&rt, &set, "interned"), FIRST, "interned"));
 }
 
-/// The atom of a text, interned at last.
+/// The atom of a text. A call that is refused memory is made again.
 fn interned_at_last<'s, R: Wait + Print>(
     rt: &R,
     set: &'s Set<EmptyStaticAtomSet>,
     text: &str,
 ) -> Result<DefaultAtom<'s>, Fault> {
-    at_last(rt, || interned(rt, set, text))
+    begin(rt);
+    let answer = interned(rt, set, text);
+    if finishes_refused(rt, &answer) {
+        return interned(rt, set, text);
+    }
+    answer
 }
 
 #[test]
@@ -48,60 +55,47 @@ fn text_is_interned(rt: HostRuntime) {
 /// Texts that lie in the bucket of one that goes.
 const OTHERS: [&str; 4] = ["tokenised", "sentence", "repeated", "forgotten"];
 
-/// Interns the text, and adds its atom.
-fn add_atom<'s, R: Wait>(
-    rt: &R,
-    set: &'s Set<EmptyStaticAtomSet>,
-    atoms: &mut Vec<DefaultAtom<'s>>,
-    text: &str,
-) -> Result<(), Fault> {
-    atoms.push(interned(rt, set, text)?)?;
-    Ok(())
-}
-
-/// The atoms of these.
-fn four_others<'s, R: Wait>(
-    rt: &R,
-    set: &'s Set<EmptyStaticAtomSet>,
-) -> Result<Vec<DefaultAtom<'s>>, Fault> {
-    let mut others = Vec::new(set.allocator());
-    for text in &OTHERS {
-        add_atom(rt, set, &mut others, text)?;
-    }
-    Ok(others)
-}
-
 fn set_of_one_bucket<R: Abort>(rt: &R, alloc: Global) -> Set<EmptyStaticAtomSet> {
     let buckets = Buckets::new(0).expect(rt, "bits");
     Set::with_buckets(alloc, Limits::greatest(), buckets).expect(rt, "a set")
+}
+
+/// The atoms of the others, whose bucket's oldest text came before them and is gone.
+fn behind_the_oldest<'s, R: Wait + Abort>(
+    rt: &R,
+    set: &'s Set<EmptyStaticAtomSet>,
+) -> Vec<DefaultAtom<'s>> {
+    let _oldest = intern(rt, set, "interned");
+    intern_all(rt, set, &OTHERS)
 }
 
 /// In a set of one bucket: five texts lie in two nodes, and once the oldest is gone the newer node has room for a sixth.
 #[test]
 fn text_finds_room_in_a_node(rt: HostRuntime) {
     let set = set_of_one_bucket(&rt, rt.alloc());
-    let oldest = intern(&rt, &set, "interned");
-    let others = four_others(&rt, &set).expect(&rt, "atoms");
-    drop(oldest);
+    let others = behind_the_oldest(&rt, &set);
     let atom = interned_at_last(&rt, &set, "magnitude").expect(&rt, "an answer");
     assert!(rt; is_of(&atom, 0x6_0000, "magnitude"));
     assert!(rt; links(&rt, &set, 5) && others.len() == 4);
 }
 
+fn owned<R: Abort>(rt: &R, alloc: Global, text: &str) -> String {
+    String::from_str(alloc, text).expect(rt, "a text")
+}
+
 /// The atom of an owned text, made of a second one where the call of the first is refused memory.
-fn owned_at_last<'s, R: Wait + Print>(
+fn owned_at_last<'s, R: Wait + Print + Abort>(
     rt: &R,
     set: &'s Set<EmptyStaticAtomSet>,
     first: String,
-    second: String,
+    second: &str,
 ) -> Result<DefaultAtom<'s>, Fault> {
     begin(rt);
-    let answer = DefaultAtom::from_string_in(rt, set, first);
-    finish(rt, End::of(&answer));
-    match answer {
-        Err(Fault::Memory) => DefaultAtom::from_string_in(rt, set, second),
-        made => made,
+    let answer = interned_owned(rt, set, first);
+    if finishes_refused(rt, &answer) {
+        return interned_owned(rt, set, owned(rt, set.allocator(), second));
     }
+    answer
 }
 
 /// Whether this is the first atom of a new set, of "interned".
@@ -112,9 +106,8 @@ fn is_first<R: Wait>(rt: &R, set: &Set<EmptyStaticAtomSet>, atom: &DefaultAtom<'
 #[test]
 fn owned_text_is_interned(rt: HostRuntime) {
     let set = new_set(&rt, rt.alloc());
-    let first = String::from_str(rt.alloc(), "interned").expect(&rt, "a text");
-    let second = String::from_str(rt.alloc(), "interned").expect(&rt, "a text");
-    let atom = owned_at_last(&rt, &set, first, second).expect(&rt, "an atom");
+    let first = owned(&rt, rt.alloc(), "interned");
+    let atom = owned_at_last(&rt, &set, first, "interned").expect(&rt, "an atom");
     assert!(rt; is_first(&rt, &set, &atom));
 }
 
@@ -126,61 +119,65 @@ fn cow_at_last<'s, R: Wait + Print>(
     second: &str,
 ) -> Result<DefaultAtom<'s>, Fault> {
     begin(rt);
-    let answer = DefaultAtom::from_cow_in(rt, set, first);
-    finish(rt, End::of(&answer));
-    match answer {
-        Err(Fault::Memory) => DefaultAtom::from_cow_in(rt, set, CowStr::Borrowed(second)),
-        made => made,
+    let answer = interned_cow(rt, set, first);
+    if finishes_refused(rt, &answer) {
+        return interned_cow(rt, set, CowStr::Borrowed(second));
     }
+    answer
 }
 
 #[test]
 fn text_that_may_be_owned_is_interned(rt: HostRuntime) {
     let set = new_set(&rt, rt.alloc());
-    let first = CowStr::Owned(String::from_str(rt.alloc(), "interned").expect(&rt, "a text"));
+    let first = CowStr::Owned(owned(&rt, rt.alloc(), "interned"));
     let atom = cow_at_last(&rt, &set, first, "interned").expect(&rt, "an atom");
     assert!(rt; is_first(&rt, &set, &atom));
 }
 
-/// The atom of the text in capital letters, unless it is refused.
-fn upper<'s, R: Wait>(
-    rt: &R,
-    set: &'s Set<EmptyStaticAtomSet>,
-    atom: &DefaultAtom<'s>,
-) -> Result<DefaultAtom<'s>, Fault> {
-    atom.to_ascii_uppercase_in(rt, set)
-}
-
-/// As `upper`. A call that is refused memory is made again.
+/// The atom of the text in capital letters. A call that is refused memory is made again.
 fn upper_at_last<'s, R: Wait + Print>(
     rt: &R,
     set: &'s Set<EmptyStaticAtomSet>,
     atom: &DefaultAtom<'s>,
 ) -> Result<DefaultAtom<'s>, Fault> {
     begin(rt);
-    let answer = upper(rt, set, atom);
-    finish(rt, End::of(&answer));
-    match answer {
-        Err(Fault::Memory) => upper(rt, set, atom),
-        made => made,
+    let answer = raised(rt, set, atom);
+    if finishes_refused(rt, &answer) {
+        return raised(rt, set, atom);
     }
+    answer
+}
+
+/// Whether the atom of a text in capital letters has this word and this text, and both are linked.
+fn is_put_into_upper_case<R: Wait + Print + Abort>(
+    rt: &R,
+    set: &Set<EmptyStaticAtomSet>,
+    text: &str,
+    word: u64,
+    wanted: &str,
+) -> bool {
+    let atom = intern(rt, set, text);
+    let upper = upper_at_last(rt, set, &atom).expect(rt, "an atom");
+    is_of(&upper, word, wanted) && links(rt, set, 2)
 }
 
 /// By OpenSSL the bucket of 65 letters `A` is 0x9a0.
 #[test]
 fn long_text_is_put_into_upper_case(rt: HostRuntime) {
     let set = new_set(&rt, rt.alloc());
-    let lower = "a".repeat(rt.alloc(), 65).expect(&rt, "a text");
+    let text = "a".repeat(rt.alloc(), 65).expect(&rt, "a text");
     let wanted = "A".repeat(rt.alloc(), 65).expect(&rt, "a text");
-    let atom = intern(&rt, &set, &lower);
-    let upper = upper_at_last(&rt, &set, &atom).expect(&rt, "an atom");
-    assert!(rt; is_of(&upper, 0x1_2680, &wanted));
-    assert!(rt; links(&rt, &set, 2));
+    assert!(rt; is_put_into_upper_case(&rt, &set, &text, 0x1_2680, &wanted));
 }
 
-/// The JSON value of an atom, made at last.
+/// The JSON value of an atom. A call that is refused memory is made again.
 fn json_at_last<R: Print>(rt: &R, alloc: Global, atom: &DefaultAtom<'_>) -> Result<Value, Fault> {
-    at_last(rt, || atom.to_json(alloc))
+    begin(rt);
+    let answer = json_of(atom, alloc);
+    if finishes_refused(rt, &answer) {
+        return json_of(atom, alloc);
+    }
+    answer
 }
 
 fn is_json_of(value: &Value, text: &str) -> bool {
@@ -196,25 +193,30 @@ fn json_is_made(rt: HostRuntime) {
 }
 
 /// The JSON value of a text, from a set of its own.
-fn json_of<R: Wait + Abort>(rt: &R, alloc: Global, text: &str) -> Value {
+fn value_of<R: Wait + Abort>(rt: &R, alloc: Global, text: &str) -> Value {
     let set: Set<EmptyStaticAtomSet> = new_set(rt, alloc);
     let atom = intern(rt, &set, text);
-    atom.to_json(alloc).expect(rt, "an answer")
+    json_of(&atom, alloc).expect(rt, "an answer")
 }
 
-/// The atom of a JSON value, made at last.
-fn atom_at_last<'s, R: Wait + Print>(
+/// The atom of a JSON value. A call that is refused memory is made again.
+fn read_at_last<'s, R: Wait + Print>(
     rt: &R,
     set: &'s Set<EmptyStaticAtomSet>,
     value: &Value,
 ) -> Result<DefaultAtom<'s>, Fault> {
-    at_last(rt, || DefaultAtom::from_json_in(rt, set, value))
+    begin(rt);
+    let answer = read_json(rt, set, value);
+    if finishes_refused(rt, &answer) {
+        return read_json(rt, set, value);
+    }
+    answer
 }
 
 #[test]
 fn json_text_is_interned(rt: HostRuntime) {
-    let value = json_of(&rt, rt.alloc(), "interned");
+    let value = value_of(&rt, rt.alloc(), "interned");
     let set = new_set(&rt, rt.alloc());
-    let atom = atom_at_last(&rt, &set, &value).expect(&rt, "an answer");
+    let atom = read_at_last(&rt, &set, &value).expect(&rt, "an answer");
     assert!(rt; is_first(&rt, &set, &atom));
 }

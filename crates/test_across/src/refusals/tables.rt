@@ -24,19 +24,20 @@ fn midway(is_refused: bool) -> End {
     }
 }
 
+fn is_empty(table: &Table<EmptyStaticAtomSet>) -> bool {
+    table.entries() == 0 && table.text_bytes() == 0
+}
+
+/// Whether the table is empty, and gives "interned" its first ticket.
+fn is_new(table: &mut Table<EmptyStaticAtomSet>) -> bool {
+    is_empty(table) && word_in(table, "interned") == Ok(FIRST)
+}
+
 #[test]
 fn table_is_made(rt: HostRuntime) {
     let alloc = rt.alloc();
-    let mut table: Table<EmptyStaticAtomSet> = at_last(&rt, || Table::new(alloc)).expect(
-        &rt,
-        "an answer",
-    );
-    assert!(rt; table.entries() == 0 && table.text_bytes() == 0);
-    assert!(rt; word_in(&mut table, "interned") == Ok(FIRST));
-}
-
-fn is_empty(table: &Table<EmptyStaticAtomSet>) -> bool {
-    table.entries() == 0 && table.text_bytes() == 0
+    let made: Result<Table<EmptyStaticAtomSet>, Fault> = at_last(&rt, || Table::new(alloc));
+    assert!(rt; is_new(&mut made.expect(&rt, "an answer")));
 }
 
 /// The word of "interned". A refusal may leave room for further texts in the table, and nothing else, and the call is made again.
@@ -58,9 +59,8 @@ fn word_at_last<R: Print + Abort>(
 #[test]
 fn text_is_interned_in_a_table(rt: HostRuntime) {
     let mut table: Table<EmptyStaticAtomSet> = new_table(&rt, rt.alloc());
-    let word = word_at_last(&rt, &mut table).expect(&rt, "a word");
-    assert!(rt; word == FIRST);
-    assert!(rt; table.text(word) == Some("interned"));
+    assert!(rt; word_at_last(&rt, &mut table) == Ok(FIRST));
+    assert!(rt; has_alone(&table, FIRST));
 }
 
 #[test]
@@ -108,18 +108,18 @@ fn room_is_made_in_a_table(rt: HostRuntime) {
     assert!(rt; stays_alone(&rt, &mut table, word) == Ok(true));
 }
 
-/// Interns this number of texts.
-fn fill<R: Abort>(
-    rt: &R,
-    alloc: Global,
-    table: &mut Table<EmptyStaticAtomSet>,
-    number: u32,
-) -> Result<(), Fault> {
+/// Interns a text that this number makes.
+fn intern_number<R: Abort>(rt: &R, alloc: Global, table: &mut Table<EmptyStaticAtomSet>, n: u32) {
+    let text = format!(in alloc; "the text {n}").expect(rt, "a text");
+    word_in(table, &text).expect(rt, "a word");
+}
+
+/// Interns so many texts.
+fn fill<R: Abort>(rt: &R, alloc: Global, table: &mut Table<EmptyStaticAtomSet>, number: u32) {
     for n in 0..number {
-        word_in(table, format!(in alloc; "the text {n}")?.as_str())?;
+        intern_number(rt, alloc, table, n);
     }
     assert!(rt; table.entries() == number as usize);
-    Ok(())
 }
 
 /// The word of "interned", which asks for no more than the text's own bytes.
@@ -131,12 +131,16 @@ fn has_room<R: Print + Abort>(rt: &R, table: &mut Table<EmptyStaticAtomSet>) -> 
     is_refused || answer == Ok(FIRST)
 }
 
+fn table_with_room<R: Abort>(rt: &R, alloc: Global, texts: usize) -> Table<EmptyStaticAtomSet> {
+    Table::with_capacity(alloc, texts).expect(rt, "a table")
+}
+
 /// The last one of as many texts as room was made for. 576 texts fill what a table grows to by itself, so that one more would ask for room.
 #[test]
 fn text_finds_room_in_a_table(rt: HostRuntime) {
     let alloc = rt.alloc();
-    let mut table = Table::<EmptyStaticAtomSet>::with_capacity(alloc, 577).expect(&rt, "a table");
-    fill(&rt, alloc, &mut table, 576).expect(&rt, "words");
+    let mut table = table_with_room(&rt, alloc, 577);
+    fill(&rt, alloc, &mut table, 576);
     assert!(rt; has_room(&rt, &mut table));
 }
 
@@ -145,21 +149,32 @@ fn text_finds_room_in_a_table(rt: HostRuntime) {
 fn text_finds_room_in_a_cleared_table(rt: HostRuntime) {
     let alloc = rt.alloc();
     let mut table: Table<EmptyStaticAtomSet> = new_table(&rt, alloc);
-    fill(&rt, alloc, &mut table, 1).expect(&rt, "words");
+    fill(&rt, alloc, &mut table, 1);
     table.clear();
     assert!(rt; has_room(&rt, &mut table));
 }
 
+/// Adds a call that interns a text.
+fn add_interning<R: Abort>(rt: &R, alloc: Global, calls: &mut Vec<Call>, text: &str) {
+    let text = String::from_str(alloc, text).expect(rt, "a text");
+    calls.push(Call::Intern(text)).expect(rt, "room");
+}
+
+/// Adds a call that gives back a holder of "interned".
+fn add_giving<R: Abort>(rt: &R, calls: &mut Vec<Call>) {
+    calls.push(Call::Give(FIRST)).expect(rt, "room");
+}
+
 /// Interning a text twice, giving it twice, interning it again, and another one.
-fn calls(alloc: Global) -> Result<Vec<Call>, Fault> {
+fn calls<R: Abort>(rt: &R, alloc: Global) -> Vec<Call> {
     let mut calls = Vec::new(alloc);
-    calls.push(Call::Intern(String::from_str(alloc, "interned")?))?;
-    calls.push(Call::Intern(String::from_str(alloc, "interned")?))?;
-    calls.push(Call::Give(FIRST))?;
-    calls.push(Call::Give(FIRST))?;
-    calls.push(Call::Intern(String::from_str(alloc, "interned")?))?;
-    calls.push(Call::Intern(String::from_str(alloc, "tokenised")?))?;
-    Ok(calls)
+    add_interning(rt, alloc, &mut calls, "interned");
+    add_interning(rt, alloc, &mut calls, "interned");
+    add_giving(rt, &mut calls);
+    add_giving(rt, &mut calls);
+    add_interning(rt, alloc, &mut calls, "interned");
+    add_interning(rt, alloc, &mut calls, "tokenised");
+    calls
 }
 
 /// By OpenSSL's SipHash the bucket of "tokenised" is 0xe77.
@@ -191,8 +206,12 @@ fn run(table: &mut Table<EmptyStaticAtomSet>, calls: &[Call]) -> Result<Vec<Tabl
 }
 
 /// The replies of a new table.
-fn run_in_new_table(alloc: Global, calls: &[Call]) -> Result<Vec<TableReply>, Fault> {
-    let mut table = Table::<EmptyStaticAtomSet>::new(alloc)?;
+fn run_in_new_table<R: Abort>(
+    rt: &R,
+    alloc: Global,
+    calls: &[Call],
+) -> Result<Vec<TableReply>, Fault> {
+    let mut table: Table<EmptyStaticAtomSet> = new_table(rt, alloc);
     run(&mut table, calls)
 }
 
@@ -226,7 +245,7 @@ fn replies_in<R: Print + Abort>(
         }
         End::RefusedMidway => {
             assert!(rt; answer?.len() == calls.len());
-            run_in_new_table(alloc, calls)
+            run_in_new_table(rt, alloc, calls)
         }
     }
 }
@@ -237,15 +256,21 @@ fn replies_at_last<R: Print + Abort>(
     alloc: Global,
     calls: &[Call],
 ) -> Result<Vec<TableReply>, Fault> {
-    let mut table = Table::<EmptyStaticAtomSet>::new(alloc)?;
+    let mut table: Table<EmptyStaticAtomSet> = new_table(rt, alloc);
     replies_in(rt, alloc, &mut table, calls)
 }
 
 #[test]
 fn calls_are_run(rt: HostRuntime) {
-    let calls = calls(rt.alloc()).expect(&rt, "an answer");
+    let calls = calls(&rt, rt.alloc());
     let replies = replies_at_last(&rt, rt.alloc(), &calls).expect(&rt, "replies");
     assert!(rt; replies.as_slice() == REPLIES.as_slice());
+}
+
+/// Whether a world has no entry, and a party takes a bucket for "interned" in it.
+fn is_new_world<R: Abort>(rt: &R, alloc: Global, world: &mut World<EmptyStaticAtomSet>) -> bool {
+    let step = interning(rt, alloc);
+    world.count(1).is_none() && world.step(1, step) == Ok(StepReply::Taken)
 }
 
 #[test]
@@ -256,28 +281,31 @@ fn world_is_made(rt: HostRuntime) {
         &rt,
         "an answer",
     );
-    assert!(rt; world.count(1).is_none());
-    let text = String::from_str(alloc, "interned").expect(&rt, "a text");
-    assert!(rt; world.step(1, Step::TakeIntern(text)).expect(&rt, "a reply") == StepReply::Taken);
+    assert!(rt; is_new_world(&rt, alloc, &mut world));
 }
 
 /// A step that takes a bucket for "interned".
-fn interning(alloc: Global) -> Result<Step, Fault> {
-    Ok(Step::TakeIntern(String::from_str(alloc, "interned")?))
+fn interning<R: Abort>(rt: &R, alloc: Global) -> Step {
+    Step::TakeIntern(String::from_str(alloc, "interned").expect(rt, "a text"))
+}
+
+/// Adds a step of a party.
+fn add_step<R: Abort>(rt: &R, steps: &mut Vec<(u32, Step)>, party: u32, step: Step) {
+    steps.push((party, step)).expect(rt, "room");
 }
 
 /// Two parties that share an entry.
-fn steps(alloc: Global) -> Result<Vec<(u32, Step)>, Fault> {
+fn steps<R: Abort>(rt: &R, alloc: Global) -> Vec<(u32, Step)> {
     let mut steps = Vec::new(alloc);
-    steps.push((1, interning(alloc)?))?;
-    steps.push((2, interning(alloc)?))?;
-    steps.push((1, Step::Link(true)))?;
-    steps.push((1, Step::Leave))?;
-    steps.push((2, interning(alloc)?))?;
-    steps.push((2, Step::Link(true)))?;
-    steps.push((2, Step::Add(1)))?;
-    steps.push((2, Step::Leave))?;
-    Ok(steps)
+    add_step(rt, &mut steps, 1, interning(rt, alloc));
+    add_step(rt, &mut steps, 2, interning(rt, alloc));
+    add_step(rt, &mut steps, 1, Step::Link(true));
+    add_step(rt, &mut steps, 1, Step::Leave);
+    add_step(rt, &mut steps, 2, interning(rt, alloc));
+    add_step(rt, &mut steps, 2, Step::Link(true));
+    add_step(rt, &mut steps, 2, Step::Add(1));
+    add_step(rt, &mut steps, 2, Step::Leave);
+    steps
 }
 
 const STEP_REPLIES: [StepReply; 8] = [
@@ -306,27 +334,46 @@ fn go_on(
     world.run(steps, replies)
 }
 
-/// A run that is refused goes on from the replies that were appended.
+/// Makes steps in a new world. A run that is refused goes on from the replies that were appended.
+fn go_on_at_last<R: Print + Abort>(
+    rt: &R,
+    world: &mut World<EmptyStaticAtomSet>,
+    steps: &[(u32, Step)],
+    replies: &mut Vec<StepReply>,
+) -> Result<(), Fault> {
+    begin(rt);
+    let answer = go_on(world, steps, replies);
+    let is_refused = answer == Err(Fault::Memory);
+    finish(rt, midway(is_refused));
+    if is_refused {
+        assert!(rt; STEP_REPLIES.starts_with(replies.as_slice()));
+        let rest = steps
+            .get(replies.len()..)
+            .expect(rt, "the steps that are left");
+        return go_on(world, rest, replies);
+    }
+    answer
+}
+
+/// Whether the steps have their replies at last, and leave two holders.
+fn are_made<R: Print + Abort>(
+    rt: &R,
+    alloc: Global,
+    world: &mut World<EmptyStaticAtomSet>,
+    steps: &[(u32, Step)],
+) -> bool {
+    let mut replies = Vec::new(alloc);
+    go_on_at_last(rt, world, steps, &mut replies) == Ok(())
+        && replies.as_slice() == STEP_REPLIES.as_slice()
+        && world.count(1) == Some(2)
+}
+
 #[test]
 fn steps_are_run(rt: HostRuntime) {
     let alloc = rt.alloc();
-    let steps = steps(alloc).expect(&rt, "an answer");
+    let steps = steps(&rt, alloc);
     let mut world = World::<EmptyStaticAtomSet>::new(alloc, Limits::greatest()).expect(
         &rt, "a world",
     );
-    let mut replies = Vec::new(alloc);
-    begin(&rt);
-    let answer = go_on(&mut world, &steps, &mut replies);
-    let is_refused = answer == Err(Fault::Memory);
-    finish(&rt, midway(is_refused));
-    if is_refused {
-        let done = replies.len();
-        assert!(rt; STEP_REPLIES.starts_with(replies.as_slice()));
-        let rest = steps.get(done..).expect(&rt, "the steps that are left");
-        go_on(&mut world, rest, &mut replies).expect(&rt, "replies");
-    } else {
-        answer.expect(&rt, "an answer");
-    }
-    assert!(rt; replies.as_slice() == STEP_REPLIES.as_slice());
-    assert!(rt; world.count(1) == Some(2));
+    assert!(rt; are_made(&rt, alloc, &mut world, &steps));
 }

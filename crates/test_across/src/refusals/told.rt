@@ -8,7 +8,7 @@ use std::sync::Wait;
 use string_cache::dynamic_set::Set;
 use string_cache::word::{Buckets, Limits};
 use string_cache::{AtomList, EmptyStaticAtomSet, Fault};
-use test_calls::interned;
+use test_calls::{has_text, interned};
 use test_refusals::{End, begin, finish};
 
 /// A set without static texts.
@@ -47,7 +47,7 @@ fn intern<R: Wait + Print + Abort>(rt: &R, set: &DefaultSet, text: &str) {
     let atom = interned(rt, set, text);
     finish(rt, End::Given);
     tell(rt, set.memory(rt).saturating_sub(before));
-    assert!(rt; atom.expect(rt, "an atom").as_str() == text);
+    assert!(rt; has_text(&atom.expect(rt, "an atom"), text));
 }
 
 #[test]
@@ -82,15 +82,19 @@ fn push_four<R: Wait>(rt: &R, list: &mut AtomList<'_, EmptyStaticAtomSet>) -> Re
     Ok(())
 }
 
-/// A place has 16 bytes.
+/// Whether the list has four places once they are pushed. It asks for 16 bytes each.
+fn has_four_places<R: Wait + Print>(rt: &R, list: &mut AtomList<'_, EmptyStaticAtomSet>) -> bool {
+    begin(rt);
+    let answer = push_four(rt, list);
+    finish(rt, End::Given);
+    tell(rt, 4 * 16);
+    answer == Ok(()) && list.len() == 4
+}
+
 #[test]
 fn list_of_four_places(rt: HostRuntime) {
     let set = new_set(&rt, rt.alloc());
     let atom = interned(&rt, &set, "interned").expect(&rt, "an atom");
     let mut list = AtomList::new(&set);
-    begin(&rt);
-    let answer = push_four(&rt, &mut list);
-    finish(&rt, End::Given);
-    tell(&rt, 4 * 16);
-    assert!(rt; answer == Ok(()) && list.len() == 4 && atom.as_str() == "interned");
+    assert!(rt; has_four_places(&rt, &mut list) && has_text(&atom, "interned"));
 }

@@ -1,67 +1,100 @@
 //! Calls that ask for no memory: `gate/refused.py` refuses every request between the two lines, and wants that there is none.
 
-use crate::begun::{intern, new_set, new_table, word_in};
+use crate::begun::{intern, intern_all, new_set, new_table, word_in};
 use serde_json::Value;
 use std::alloc::Global;
 use std::cmp::Ordering;
+use std::io::Print;
 use std::process::Abort;
 use std::sync::Wait;
 use string_cache::dynamic_set::Set;
-use string_cache::static_sets::StaticAtomSet;
+use string_cache::static_sets::{StaticAtomSet, StaticTables};
 use string_cache::table::Table;
 use string_cache::word::{Buckets, Limits};
 use string_cache::{Atom, AtomList, DefaultAtom, EmptyStaticAtomSet, Fault};
-use test_calls::{cloned, interned, look_up};
+use test_calls::{cloned, cloned_at, copied, interned, links, look_up, lowered, push};
 use test_refusals::{End, begin, finish};
 use test_samples::One;
 
+/// The word of the atom of a text.
+fn atom_word<R: Wait + Abort, Static: StaticTables>(rt: &R, set: &Set<Static>, text: &str) -> u64 {
+    interned(rt, set, text)
+        .expect(rt, "an answer")
+        .unsafe_data()
+}
+
+/// Whether a text has this word in the set and in the table.
+fn are_interned<R: Wait + Print + Abort, Static: StaticTables>(
+    rt: &R,
+    set: &Set<Static>,
+    table: &mut Table<Static>,
+    text: &str,
+    word: u64,
+) -> bool {
+    begin(rt);
+    let in_set = atom_word(rt, set, text);
+    let in_table = word_in(table, text);
+    finish(rt, End::Given);
+    in_set == word && in_table == Ok(word)
+}
+
+/// Checks that a text has this word in a new set and in a new table.
+fn check_word<Static: StaticTables, R: Wait + Print + Abort>(
+    rt: &R,
+    alloc: Global,
+    text: &str,
+    word: u64,
+) {
+    let set: Set<Static> = new_set(rt, alloc);
+    let mut table: Table<Static> = new_table(rt, alloc);
+    assert!(rt; are_interned(rt, &set, &mut table, text, word));
+}
+
+/// The word of "abcdefg".
+const SHORT: u64 = 0x6766_6564_6362_6171;
+
 #[test]
 fn short_text_is_interned(rt: HostRuntime) {
-    let set: Set<EmptyStaticAtomSet> = new_set(&rt, rt.alloc());
-    let mut table: Table<EmptyStaticAtomSet> = new_table(&rt, rt.alloc());
-    begin(&rt);
-    let atom = interned(&rt, &set, "abcdefg");
-    let word = word_in(&mut table, "abcdefg");
-    finish(&rt, End::Given);
-    assert!(rt; atom.expect(&rt, "an answer").unsafe_data() == 0x6766_6564_6362_6171);
-    assert!(rt; word.expect(&rt, "an answer") == 0x6766_6564_6362_6171);
+    check_word::<EmptyStaticAtomSet, _>(&rt, rt.alloc(), "abcdefg", SHORT);
 }
 
 #[test]
 fn static_text_is_interned(rt: HostRuntime) {
-    let set: Set<One> = new_set(&rt, rt.alloc());
-    let mut table: Table<One> = new_table(&rt, rt.alloc());
-    begin(&rt);
-    let atom = interned(&rt, &set, "sentence");
-    let word = word_in(&mut table, "sentence");
-    finish(&rt, End::Given);
-    assert!(rt; atom.expect(&rt, "an answer").unsafe_data() == 2);
-    assert!(rt; word.expect(&rt, "an answer") == 2);
+    check_word::<One, _>(&rt, rt.alloc(), "sentence", 2);
 }
 
 /// The JSON value of a text.
-fn value_of<R: Wait, Static: StaticAtomSet>(
+fn value_of<R: Wait + Abort, Static: StaticAtomSet>(
     rt: &R,
     set: &Set<Static>,
     text: &str,
-) -> Result<Value, Fault> {
-    interned(rt, set, text)?.to_json(set.allocator())
+) -> Value {
+    let atom = intern(rt, set, text);
+    atom.to_json(set.allocator()).expect(rt, "a value")
+}
+
+/// The word of the atom of a JSON value.
+fn word_read<R: Wait + Abort>(rt: &R, set: &Set<One>, value: &Value) -> u64 {
+    Atom::from_json_in(rt, set, value)
+        .expect(rt, "an answer")
+        .unsafe_data()
 }
 
 /// The values of a short text and of a static one.
 #[test]
 fn json_is_read(rt: HostRuntime) {
     let set: Set<One> = new_set(&rt, rt.alloc());
-    let short = value_of(&rt, &set, "abcdefg").expect(&rt, "a value");
-    let long = value_of(&rt, &set, "sentence").expect(&rt, "a value");
+    let short = value_of(&rt, &set, "abcdefg");
+    let long = value_of(&rt, &set, "sentence");
     begin(&rt);
-    let (short, long) = (
-        Atom::from_json_in(&rt, &set, &short),
-        Atom::from_json_in(&rt, &set, &long),
-    );
+    let words = (word_read(&rt, &set, &short), word_read(&rt, &set, &long));
     finish(&rt, End::Given);
-    assert!(rt; short.expect(&rt, "an answer").unsafe_data() == 0x6766_6564_6362_6171);
-    assert!(rt; long.expect(&rt, "an answer").unsafe_data() == 2);
+    assert!(rt; words == (SHORT, 2));
+}
+
+/// The word of the atom in small letters.
+fn lower_word<R: Wait + Abort>(rt: &R, set: &Set<One>, atom: &Atom<'_, One>) -> u64 {
+    lowered(rt, set, atom).expect(rt, "an answer").unsafe_data()
 }
 
 #[test]
@@ -69,41 +102,47 @@ fn lower_case_is_a_static_text(rt: HostRuntime) {
     let set: Set<One> = new_set(&rt, rt.alloc());
     let upper = intern(&rt, &set, "SENTENCE");
     begin(&rt);
-    let lower = upper.to_ascii_lowercase_in(&rt, &set);
+    let word = lower_word(&rt, &set, &upper);
     finish(&rt, End::Given);
-    assert!(rt; lower.expect(&rt, "an answer").unsafe_data() == 2);
-}
-
-/// A copy of the atom, unless it is refused.
-fn copied<'s, R: Wait>(rt: &R, atom: &DefaultAtom<'s>) -> Result<DefaultAtom<'s>, Fault> {
-    DefaultAtom::from_atom(rt, atom)
+    assert!(rt; word == 2);
 }
 
 /// Whether clones of the atom of "interned", and the one that is found again, are equal to it. They end here.
-fn are_cloned<R: Wait>(
+fn are_cloned<R: Wait + Abort>(
     rt: &R,
     set: &Set<EmptyStaticAtomSet>,
     first: &DefaultAtom<'_>,
-) -> Result<bool, Fault> {
-    let clone = cloned(rt, first)?;
-    let again = copied(rt, first)?;
-    let found = interned(rt, set, "interned")?;
-    Ok(clone == *first && again == *first && found == *first)
+) -> bool {
+    let clone = cloned(rt, first).expect(rt, "a clone");
+    let again = copied(rt, first).expect(rt, "a copy");
+    clone == *first && again == *first && intern(rt, set, "interned") == *first
+}
+
+/// Whether the atom isn't the other one, and goes before it.
+fn goes_before(first: &DefaultAtom<'_>, other: &DefaultAtom<'_>) -> bool {
+    first != other && first.cmp(other) == Ordering::Less
+}
+
+/// Whether the atom is cloned, compared with the other one and dropped, after which that one is left.
+fn leaves_alone<R: Wait + Print + Abort>(
+    rt: &R,
+    set: &Set<EmptyStaticAtomSet>,
+    first: DefaultAtom<'_>,
+    other: &DefaultAtom<'_>,
+) -> bool {
+    begin(rt);
+    let are_right = are_cloned(rt, set, &first) && goes_before(&first, other);
+    drop(first);
+    let linked = set.linked(rt);
+    finish(rt, End::Given);
+    are_right && linked == 1 && other.as_str() == "tokenised"
 }
 
 #[test]
 fn atoms_are_cloned_compared_and_dropped(rt: HostRuntime) {
     let set: Set<EmptyStaticAtomSet> = new_set(&rt, rt.alloc());
-    let first = intern(&rt, &set, "interned");
     let other = intern(&rt, &set, "tokenised");
-    begin(&rt);
-    let are_same = are_cloned(&rt, &set, &first) == Ok(true);
-    let is_other = first != other && first.cmp(&other) == Ordering::Less;
-    drop(first);
-    let linked = set.linked(&rt);
-    finish(&rt, End::Given);
-    assert!(rt; is_other && are_same);
-    assert!(rt; linked == 1 && other.as_str() == "tokenised");
+    assert!(rt; leaves_alone(&rt, &set, intern(&rt, &set, "interned"), &other));
 }
 
 #[test]
@@ -120,17 +159,21 @@ fn sets_are_swept(rt: HostRuntime) {
     assert!(rt; (held, left) == (1, 0));
 }
 
+/// How many holders all entries have.
+fn holders<R: Wait>(rt: &R, set: &Set<EmptyStaticAtomSet>) -> u64 {
+    let mut holders = 0u64;
+    set.for_each(rt, |_, count| holders = holders.saturating_add(count));
+    holders
+}
+
 #[test]
 fn entries_are_visited(rt: HostRuntime) {
     let set: Set<EmptyStaticAtomSet> = new_set(&rt, rt.alloc());
     let atom = intern(&rt, &set, "interned");
-    let mut holders = 0u64;
     begin(&rt);
-    set.for_each(&rt, |_, count| holders = holders.saturating_add(count));
-    let bytes = set.memory(&rt);
+    let told = (holders(&rt, &set), set.memory(&rt));
     finish(&rt, End::Given);
-    assert!(rt; atom.as_str() == "interned");
-    assert!(rt; holders == 1 && bytes == 4096 * 32 + 48 + 48);
+    assert!(rt; told == (1, 4096 * 32 + 48 + 48) && atom.as_str() == "interned");
 }
 
 /// A set whose one entry died under the lock of its bucket, which is that of "interned", and is still linked.
@@ -154,23 +197,19 @@ fn set_ends_with_an_entry(rt: HostRuntime) {
     assert!(rt; linked == 1);
 }
 
-/// The atoms of six texts.
-fn six_atoms<'s, R: Wait>(
-    rt: &R,
-    set: &'s Set<EmptyStaticAtomSet>,
-) -> Result<Vec<DefaultAtom<'s>>, Fault> {
-    let mut atoms = Vec::new(set.allocator());
-    for text in "interned tokenised sentence repeated forgotten magnitude".split(' ') {
-        atoms.push(interned(rt, set, text)?)?;
-    }
-    Ok(atoms)
-}
-
 /// A set of one bucket whose six entries, which lie in two nodes, died under its lock.
 fn with_six_dying<R: Wait + Abort>(rt: &R, alloc: Global) -> Set<EmptyStaticAtomSet> {
     let buckets = Buckets::new(0).expect(rt, "bits");
     let set = Set::with_buckets(alloc, Limits::greatest(), buckets).expect(rt, "a set");
-    let atoms = six_atoms(rt, &set).expect(rt, "atoms");
+    let texts = [
+        "interned",
+        "tokenised",
+        "sentence",
+        "repeated",
+        "forgotten",
+        "magnitude",
+    ];
+    let atoms = intern_all(rt, &set, &texts);
     let held = set.buckets().get(0).expect(rt, "a bucket").lock(rt);
     drop(atoms);
     drop(held);
@@ -187,12 +226,32 @@ fn set_ends_with_two_nodes(rt: HostRuntime) {
     assert!(rt; linked == 6);
 }
 
-/// Whether the atom's text is found, and an inline and a static text are, and no other.
-fn are_found<R: Wait>(rt: &R, set: &Set<One>, held: &Atom<'_, One>) -> Result<bool, Fault> {
-    let is_held = look_up(rt, set, held.as_str())?.is_some_and(|atom| atom == *held);
-    let is_short = look_up(rt, set, "abcdefg")?.is_some();
-    let is_static = look_up(rt, set, "sentence")?.is_some();
-    Ok(is_held && is_short && is_static && look_up(rt, set, "tokenised")?.is_none())
+/// Whether the text is found.
+fn is_found<R: Wait + Abort>(rt: &R, set: &Set<One>, text: &str) -> bool {
+    look_up(rt, set, text).expect(rt, "an answer").is_some()
+}
+
+/// Whether the atom is found by its text.
+fn is_found_again<R: Wait>(rt: &R, set: &Set<One>, held: &Atom<'_, One>) -> bool {
+    match look_up(rt, set, held.as_str()) {
+        Ok(Some(found)) => found == *held,
+        _ => false,
+    }
+}
+
+/// Whether a text with a clone of its atom beside it is refused one more holder.
+fn is_full<R: Wait + Abort>(rt: &R, set: &Set<One>, held: &Atom<'_, One>) -> bool {
+    let _clone = cloned(rt, held).expect(rt, "a clone");
+    look_up(rt, set, held.as_str()).err() == Some(Fault::FullCount)
+}
+
+/// Whether the atom's text is found, and is full then, and an inline and a static text are found, and no other.
+fn are_looked_up<R: Wait + Abort>(rt: &R, set: &Set<One>, held: &Atom<'_, One>) -> bool {
+    is_found_again(rt, set, held)
+        && is_found(rt, set, "abcdefg")
+        && is_found(rt, set, "sentence")
+        && !is_found(rt, set, "tokenised")
+        && is_full(rt, set, held)
 }
 
 /// What is full once it is found, too.
@@ -200,22 +259,17 @@ fn are_found<R: Wait>(rt: &R, set: &Set<One>, held: &Atom<'_, One>) -> Result<bo
 fn texts_are_looked_up(rt: HostRuntime) {
     let limits = Limits::new(2, 9).expect(&rt, "limits");
     let set: Set<One> = Set::with_limits(rt.alloc(), limits).expect(&rt, "a set");
-    let first = intern(&rt, &set, "interned");
+    let held = intern(&rt, &set, "interned");
     begin(&rt);
-    let are_right = are_found(&rt, &set, &first) == Ok(true);
-    let second = cloned(&rt, &first);
-    let refused = look_up(&rt, &set, "interned").err();
+    let are_right = are_looked_up(&rt, &set, &held);
     finish(&rt, End::Given);
-    assert!(rt; are_right && second.is_ok());
-    assert!(rt; refused == Some(Fault::FullCount));
+    assert!(rt; are_right);
 }
 
-/// A table whose one serial of the bucket of "interned" is spent.
-fn spent_table(alloc: Global, limits: Limits) -> Result<Table<EmptyStaticAtomSet>, Fault> {
-    let mut table = Table::with_limits(alloc, limits)?;
-    let word = table.intern("interned")?;
+/// Spends the one serial of the bucket of "interned".
+fn spend<R: Abort>(rt: &R, table: &mut Table<EmptyStaticAtomSet>) {
+    let word = table.intern("interned").expect(rt, "a word");
     table.give(word);
-    Ok(table)
 }
 
 /// What the set answers to the text, in each way to hand it in.
@@ -237,7 +291,7 @@ fn refused_thrice<R: Wait>(
 fn tickets_of_a_set_are_spent(rt: HostRuntime) {
     let limits = Limits::new(9, 1).expect(&rt, "limits");
     let set: Set<EmptyStaticAtomSet> = Set::with_limits(rt.alloc(), limits).expect(&rt, "a set");
-    let value = value_of(&rt, &set, "interned").expect(&rt, "a value");
+    let value = value_of(&rt, &set, "interned");
     let text = String::from_str(rt.alloc(), "interned").expect(&rt, "a text");
     begin(&rt);
     let refused = refused_thrice(&rt, &set, text, &value);
@@ -245,64 +299,103 @@ fn tickets_of_a_set_are_spent(rt: HostRuntime) {
     assert!(rt; refused == [Some(Fault::TicketsSpent); 3]);
 }
 
+/// A table whose texts may have so many holders, and its buckets so many serials.
+fn limited_table<R: Abort>(
+    rt: &R,
+    alloc: Global,
+    holders: u64,
+    serials: u64,
+) -> Table<EmptyStaticAtomSet> {
+    let limits = Limits::new(holders, serials).expect(rt, "limits");
+    Table::with_limits(alloc, limits).expect(rt, "a table")
+}
+
 #[test]
 fn tickets_of_a_table_are_spent(rt: HostRuntime) {
-    let limits = Limits::new(9, 1).expect(&rt, "limits");
-    let mut table = spent_table(rt.alloc(), limits).expect(&rt, "a table");
+    let mut table = limited_table(&rt, rt.alloc(), 9, 1);
+    spend(&rt, &mut table);
     begin(&rt);
     let refused = word_in(&mut table, "interned").err();
     finish(&rt, End::Given);
     assert!(rt; refused == Some(Fault::TicketsSpent));
 }
 
+/// Whether the table lends the text "interned" of this word.
+fn is_lent(table: &Table<One>, word: u64) -> bool {
+    match table.text_of(word) {
+        Some(text) => text.as_str() == "interned",
+        None => false,
+    }
+}
+
+/// Whether the first that the table lists is this word, with its holders.
+fn is_listed(table: &Table<One>, word: u64) -> bool {
+    match table.iter().next() {
+        Some(held) => held.word == word && table.holders(word) == Some(held.holders),
+        None => false,
+    }
+}
+
+/// Whether a holder of the word comes and goes, and none of a number that the table doesn't hold.
+fn comes_and_goes(table: &mut Table<One>, word: u64) -> bool {
+    table.clone_held(word) == Ok(Some(word))
+        && table.release(word)
+        && table.clone_held(4) == Ok(None)
+        && !table.release(4)
+}
+
 /// What a table tells of "interned", and of a text and a number that it doesn't hold; a holder comes and goes, and then all do.
 fn is_told(table: &mut Table<One>, word: u64) -> bool {
     let is_found = table.get("interned") == Some(word) && table.get("tokenised").is_none();
-    let is_lent = match table.text_of(word) {
-        Some(text) => text.as_str() == "interned",
-        None => false,
-    };
-    let is_listed = match table.iter().next() {
-        Some(held) => held.word == word && table.holders(word) == Some(held.holders),
-        None => false,
-    };
-    let comes_and_goes = table.clone_held(word) == Ok(Some(word)) && table.release(word);
-    let is_overlooked = table.clone_held(4) == Ok(None) && !table.release(4);
+    let is_told = is_lent(table, word) && is_listed(table, word) && comes_and_goes(table, word);
     table.clear();
-    is_found && is_lent && is_listed && comes_and_goes && is_overlooked
+    is_found && is_told
+}
+
+/// Whether that is told, and nothing stays but the groups.
+fn is_looked_into<R: Print>(rt: &R, table: &mut Table<One>, word: u64) -> bool {
+    begin(rt);
+    let is_told = is_told(table, word);
+    let bytes = table.memory();
+    finish(rt, End::Given);
+    is_told && table.entries() == 0 && bytes == 4096 * 8 + 496 + 208 + 1
 }
 
 #[test]
 fn table_is_looked_into(rt: HostRuntime) {
     let mut table: Table<One> = new_table(&rt, rt.alloc());
     let word = word_in(&mut table, "interned").expect(&rt, "a word");
-    begin(&rt);
-    let is_told = is_told(&mut table, word);
-    let bytes = table.memory();
-    finish(&rt, End::Given);
-    assert!(rt; is_told && table.entries() == 0);
-    assert!(rt; bytes == 4096 * 8 + 496 + 208 + 1); // the groups stay
+    assert!(rt; is_looked_into(&rt, &mut table, word));
 }
 
-/// Whether a list of "interned" is read and cleared, and a second one is made without places.
-fn are_read_and_cleared<R: Wait>(
-    rt: &R,
-    set: &Set<EmptyStaticAtomSet>,
-    list: &mut AtomList<'_, EmptyStaticAtomSet>,
-) -> Result<bool, Fault> {
+/// A list of atoms without static texts.
+type DefaultList<'s> = AtomList<'s, EmptyStaticAtomSet>;
+
+/// Whether the list has an atom at its first place.
+fn is_cloned<R: Wait + Abort>(rt: &R, list: &DefaultList<'_>) -> bool {
+    cloned_at(rt, list, 0).expect(rt, "an answer").is_some()
+}
+
+/// Whether "interned" is read in the list, which is cleared.
+fn is_read_and_cleared<R: Wait + Abort>(rt: &R, list: &mut DefaultList<'_>) -> bool {
     let has_text = list.get(0) == Some("interned") && list.iter().len() == 1;
-    let is_cloned = list.clone_atom(rt, 0)?.is_some();
+    let is_cloned = is_cloned(rt, list);
     list.clear();
-    Ok(has_text && is_cloned && list.pop().is_none() && AtomList::new(set).is_empty())
+    has_text && is_cloned && list.pop().is_none()
 }
 
+fn new_list_is_empty(set: &Set<EmptyStaticAtomSet>) -> bool {
+    AtomList::new(set).is_empty()
+}
+
+/// A list is read and cleared, and a second one is made without places.
 #[test]
 fn list_is_read_and_cleared(rt: HostRuntime) {
     let set: Set<EmptyStaticAtomSet> = new_set(&rt, rt.alloc());
     let mut list = AtomList::new(&set);
-    list.push_str(&rt, "interned").expect(&rt, "a place");
+    push(&rt, &mut list, "interned").expect(&rt, "a place");
     begin(&rt);
-    let are_right = are_read_and_cleared(&rt, &set, &mut list);
+    let are_right = is_read_and_cleared(&rt, &mut list) && new_list_is_empty(&set);
     finish(&rt, End::Given);
-    assert!(rt; are_right == Ok(true) && set.linked(&rt) == 0);
+    assert!(rt; are_right && links(&rt, &set, 0));
 }

@@ -7,7 +7,7 @@ use std::sync::Wait;
 use string_cache::dynamic_set::Set;
 use string_cache::word::Limits;
 use string_cache::{DefaultAtom, EmptyStaticAtomSet, Fault};
-use test_calls::{cloned, is_of, links};
+use test_calls::{are_one, cloned, copied, has_word, is_of, json_of, links, lowered, read_json};
 
 /// The first ticket of "interned", and how far apart two tickets are that a bucket gives one after the other.
 const FIRST: u64 = 0x1_0840;
@@ -38,23 +38,22 @@ fn refused<R: Wait>(rt: &R, set: &Set<EmptyStaticAtomSet>) -> Option<Fault> {
     test_calls::interned(rt, set, "interned").err()
 }
 
-/// Why the text of the atom is refused, handed in as a JSON value and in small letters.
-fn refused_again<R: Wait>(
+/// Why the text of the atom is refused, handed in as a JSON value.
+fn refused_as_json<R: Wait + Abort>(
     rt: &R,
     set: &Set<EmptyStaticAtomSet>,
     atom: &DefaultAtom<'_>,
-) -> Result<[Option<Fault>; 2], Fault> {
-    let json = atom.to_json(set.allocator())?;
-    Ok([
-        DefaultAtom::from_json_in(rt, set, &json).err(),
-        atom.to_ascii_lowercase_in(rt, set).err(),
-    ])
+) -> Option<Fault> {
+    let json = json_of(atom, set.allocator()).expect(rt, "a value");
+    read_json(rt, set, &json).err()
 }
 
 /// Whether the atom's text is refused one more holder, in each way to hand it in.
-fn is_full<R: Wait>(rt: &R, set: &Set<EmptyStaticAtomSet>, atom: &DefaultAtom<'_>) -> bool {
-    refused(rt, set) == Some(Fault::FullCount)
-        && refused_again(rt, set, atom) == Ok([Some(Fault::FullCount); 2])
+fn is_full<R: Wait + Abort>(rt: &R, set: &Set<EmptyStaticAtomSet>, atom: &DefaultAtom<'_>) -> bool {
+    let full = Some(Fault::FullCount);
+    refused(rt, set) == full
+        && refused_as_json(rt, set, atom) == full
+        && lowered(rt, set, atom).err() == full
 }
 
 #[test]
@@ -67,41 +66,55 @@ fn one_holder_and_one_serial(rt: HostRuntime) {
     assert!(rt; is_of(&intern(&rt, &set, "abc"), 0x6362_6131, "abc"));
 }
 
+/// Whether "interned" has this word.
+fn is_interned<R: Wait>(rt: &R, set: &Set<EmptyStaticAtomSet>, word: u64) -> bool {
+    interned(rt, set, word).is_some()
+}
+
 /// Whether "interned" has two holders of its first ticket, and no third one.
-fn has_two_holders<R: Wait>(rt: &R, set: &Set<EmptyStaticAtomSet>) -> Option<bool> {
-    let first = interned(rt, set, FIRST)?;
-    let second = interned(rt, set, FIRST)?;
-    let is_full = refused(rt, set) == Some(Fault::FullCount);
-    drop(first);
-    drop(second);
-    Some(is_full)
+fn has_two_holders<R: Wait + Abort>(rt: &R, set: &Set<EmptyStaticAtomSet>) -> bool {
+    let _first = interned(rt, set, FIRST).expect(rt, "an atom");
+    let _second = interned(rt, set, FIRST).expect(rt, "an atom");
+    refused(rt, set) == Some(Fault::FullCount)
 }
 
 #[test]
 fn two_holders_and_two_serials(rt: HostRuntime) {
     let set = limited(&rt, rt.alloc(), 2, 2);
-    assert!(rt; has_two_holders(&rt, &set) == Some(true));
-    assert!(rt; interned(&rt, &set, FIRST + TICKET_UNIT).is_some());
+    assert!(rt; has_two_holders(&rt, &set));
+    assert!(rt; is_interned(&rt, &set, FIRST + TICKET_UNIT));
     assert!(rt; refused(&rt, &set) == Some(Fault::TicketsSpent));
 }
 
 /// Whether a clone of the atom has its word.
-fn is_cloned<R: Wait>(rt: &R, atom: &DefaultAtom<'_>) -> Result<bool, Fault> {
-    Ok(cloned(rt, atom)?.unsafe_data() == atom.unsafe_data())
+fn is_cloned<R: Wait + Abort>(rt: &R, atom: &DefaultAtom<'_>) -> bool {
+    are_one(&cloned(rt, atom).expect(rt, "a clone"), atom)
 }
 
 /// Whether the one entry is full, and the atom can't be cloned.
 fn is_not_cloned<R: Wait>(rt: &R, set: &Set<EmptyStaticAtomSet>, atom: &DefaultAtom<'_>) -> bool {
     links(rt, set, 1)
         && refused(rt, set) == Some(Fault::FullCount)
-        && is_cloned(rt, atom) == Err(Fault::FullCount)
+        && cloned(rt, atom).err() == Some(Fault::FullCount)
+}
+
+/// Whether the atom can't be cloned beside a second one, and can once that one is gone.
+fn is_cloned_alone<R: Wait + Abort>(
+    rt: &R,
+    set: &Set<EmptyStaticAtomSet>,
+    first: &DefaultAtom<'_>,
+) -> bool {
+    let second = interned(rt, set, FIRST).expect(rt, "an atom");
+    let is_full = is_not_cloned(rt, set, first);
+    drop(second);
+    is_full && is_cloned(rt, first)
 }
 
 /// Whether a copy of the atom, which goes first, has its word.
-fn is_copied<R: Wait>(rt: &R, first: DefaultAtom<'_>) -> Result<bool, Fault> {
-    let copied = DefaultAtom::from_atom(rt, &first)?;
+fn is_copied<R: Wait + Abort>(rt: &R, first: DefaultAtom<'_>) -> bool {
+    let copy = copied(rt, &first).expect(rt, "a copy");
     drop(first);
-    Ok(copied.unsafe_data() == FIRST)
+    has_word(&copy, FIRST)
 }
 
 /// Holders come and go below their limit, and have one word as long as one of them is left.
@@ -109,11 +122,8 @@ fn is_copied<R: Wait>(rt: &R, first: DefaultAtom<'_>) -> Result<bool, Fault> {
 fn holders_come_and_go(rt: HostRuntime) {
     let set = limited(&rt, rt.alloc(), 2, 9);
     let first = interned(&rt, &set, FIRST).expect(&rt, "an atom");
-    let second = interned(&rt, &set, FIRST).expect(&rt, "an atom");
-    assert!(rt; is_not_cloned(&rt, &set, &first));
-    drop(second);
-    assert!(rt; is_cloned(&rt, &first) == Ok(true));
-    assert!(rt; is_copied(&rt, first) == Ok(true));
+    assert!(rt; is_cloned_alone(&rt, &set, &first));
+    assert!(rt; is_copied(&rt, first));
     assert!(rt; links(&rt, &set, 0));
-    assert!(rt; interned(&rt, &set, FIRST + TICKET_UNIT).is_some());
+    assert!(rt; is_interned(&rt, &set, FIRST + TICKET_UNIT));
 }

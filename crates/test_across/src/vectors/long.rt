@@ -3,11 +3,12 @@
 use crate::begun::{intern, new_set, new_table};
 use serde_json::Value;
 use std::alloc::{AllocError, Global};
+use std::process::Abort;
 use std::sync::Wait;
 use string_cache::dynamic_set::Set;
 use string_cache::table::Table;
-use string_cache::{Atom, DefaultAtom, EmptyStaticAtomSet, Fault};
-use test_calls::is_of;
+use string_cache::{DefaultAtom, EmptyStaticAtomSet};
+use test_calls::{has_word, interned_owned, is_of, json_of, raised, read_json};
 
 /// A text of 2,097,160 bytes: letters of one, two, three and four bytes.
 fn long_text(alloc: Global) -> Result<String, AllocError> {
@@ -33,21 +34,20 @@ fn quarter_of_a_megabyte(rt: HostRuntime) {
 }
 
 /// Whether the atom of the owned text in a set of its own is equal to this one.
-fn is_owned_again<R: Wait>(
+fn is_owned_again<R: Wait + Abort>(
     rt: &R,
     alloc: Global,
     atom: &DefaultAtom<'_>,
     text: String,
-) -> Result<bool, Fault> {
-    let set = Set::new(alloc)?;
-    let again = Atom::from_string_in(rt, &set, text)?;
-    Ok(again == *atom)
+) -> bool {
+    let set: Set<EmptyStaticAtomSet> = new_set(rt, alloc);
+    interned_owned(rt, &set, text).expect(rt, "an atom") == *atom
 }
 
 /// Whether the atom prints its text.
-fn prints_itself(alloc: Global, atom: &DefaultAtom<'_>) -> Result<bool, AllocError> {
-    let printed = format!(in alloc; "{atom}")?;
-    Ok(atom.eq_str(&printed))
+fn prints_itself<R: Abort>(rt: &R, alloc: Global, atom: &DefaultAtom<'_>) -> bool {
+    let printed = format!(in alloc; "{atom}").expect(rt, "a text");
+    atom.eq_str(&printed)
 }
 
 #[test]
@@ -57,30 +57,41 @@ fn long_text_is_an_atom(rt: HostRuntime) {
     let atom = intern(&rt, &set, &text);
     assert!(rt; is_of(&atom, LONG_TICKET, &text));
     assert!(rt; atom.get_hash() == 0xcb0c_ec29_045a_244d);
-    assert!(rt; prints_itself(rt.alloc(), &atom) == Ok(true));
-    assert!(rt; is_owned_again(&rt, rt.alloc(), &atom, text) == Ok(true));
+    assert!(rt; prints_itself(&rt, rt.alloc(), &atom));
+    assert!(rt; is_owned_again(&rt, rt.alloc(), &atom, text));
+}
+
+/// Whether the atom in capitals is another one, and has the wanted text.
+fn changes_case<R: Wait + Abort>(
+    rt: &R,
+    set: &Set<EmptyStaticAtomSet>,
+    atom: &DefaultAtom<'_>,
+    wanted: &str,
+) -> bool {
+    let upper = raised(rt, set, atom).expect(rt, "an atom");
+    is_of(&upper, UPPER_TICKET, wanted) && upper != *atom
 }
 
 #[test]
 fn long_text_changes_case(rt: HostRuntime) {
     let text = long_text(rt.alloc()).expect(&rt, "a text");
+    let wanted = upper_text(rt.alloc()).expect(&rt, "a text");
     let set: Set<EmptyStaticAtomSet> = new_set(&rt, rt.alloc());
     let atom = intern(&rt, &set, &text);
-    let upper = atom.to_ascii_uppercase_in(&rt, &set).expect(&rt, "an atom");
-    assert!(rt; upper.unsafe_data() == UPPER_TICKET && upper != atom);
-    assert!(rt; upper.eq_str(&upper_text(rt.alloc()).expect(&rt, "a text")));
+    assert!(rt; changes_case(&rt, &set, &atom, &wanted));
 }
 
 /// Whether the atom of the JSON value in a set of its own has the long text's ticket and is equal to this one.
-fn is_read<R: Wait>(
-    rt: &R,
-    alloc: Global,
-    json: &Value,
-    atom: &DefaultAtom<'_>,
-) -> Result<bool, Fault> {
-    let set = Set::new(alloc)?;
-    let again = Atom::from_json_in(rt, &set, json)?;
-    Ok(again.unsafe_data() == LONG_TICKET && again == *atom)
+fn is_read<R: Wait + Abort>(rt: &R, alloc: Global, json: &Value, atom: &DefaultAtom<'_>) -> bool {
+    let set: Set<EmptyStaticAtomSet> = new_set(rt, alloc);
+    let again = read_json(rt, &set, json).expect(rt, "an atom");
+    has_word(&again, LONG_TICKET) && again == *atom
+}
+
+/// Whether the atom is sent as a JSON value of this text, and read from it.
+fn is_sent<R: Wait + Abort>(rt: &R, alloc: Global, atom: &DefaultAtom<'_>, text: &str) -> bool {
+    let json = json_of(atom, alloc).expect(rt, "a value");
+    json.as_str() == Some(text) && is_read(rt, alloc, &json, atom)
 }
 
 #[test]
@@ -88,18 +99,30 @@ fn long_text_is_sent_as_json(rt: HostRuntime) {
     let text = long_text(rt.alloc()).expect(&rt, "a text");
     let set: Set<EmptyStaticAtomSet> = new_set(&rt, rt.alloc());
     let atom = intern(&rt, &set, &text);
-    let json = atom.to_json(rt.alloc()).expect(&rt, "an answer");
-    assert!(rt; json.as_str() == Some(text.as_str()));
-    assert!(rt; is_read(&rt, rt.alloc(), &json, &atom) == Ok(true));
+    assert!(rt; is_sent(&rt, rt.alloc(), &atom, &text));
+}
+
+/// Whether the table holds so many texts, of so many bytes.
+fn holds(table: &Table<EmptyStaticAtomSet>, texts: usize, bytes: u128) -> bool {
+    table.entries() == texts && table.text_bytes() == bytes
+}
+
+/// Whether this is the long text's ticket, and the table holds no other text.
+fn is_held(table: &Table<EmptyStaticAtomSet>, word: u64, text: &str) -> bool {
+    word == LONG_TICKET && table.text(word) == Some(text) && holds(table, 1, 2_097_160)
+}
+
+/// Whether the table holds the long text, and nothing once it is given.
+fn comes_and_goes<R: Abort>(rt: &R, table: &mut Table<EmptyStaticAtomSet>, text: &str) -> bool {
+    let word = table.intern(text).expect(rt, "a word");
+    let is_held = is_held(table, word, text);
+    table.give(word);
+    is_held && holds(table, 0, 0)
 }
 
 #[test]
 fn long_text_lies_in_a_table(rt: HostRuntime) {
     let text = long_text(rt.alloc()).expect(&rt, "a text");
     let mut table: Table<EmptyStaticAtomSet> = new_table(&rt, rt.alloc());
-    let word = table.intern(&text).expect(&rt, "a word");
-    assert!(rt; word == LONG_TICKET && table.text(word) == Some(text.as_str()));
-    assert!(rt; table.entries() == 1 && table.text_bytes() == 2_097_160);
-    table.give(word);
-    assert!(rt; table.entries() == 0 && table.text_bytes() == 0);
+    assert!(rt; comes_and_goes(&rt, &mut table, &text));
 }

@@ -1,6 +1,6 @@
 //! Words that are odd, or of nothing, and tables that are odd.
 
-use crate::begun::{intern, new_set};
+use crate::begun::{intern, new_set, new_table};
 use std::alloc::Global;
 use string_cache::dynamic_set::Set;
 use string_cache::static_sets::{PhfStrSet, StaticAtomSet};
@@ -8,6 +8,7 @@ use string_cache::steps::World;
 use string_cache::table::Table;
 use string_cache::word::{Form, InlineText, Limits, form_of, ticket_word};
 use string_cache::{Atom, DefaultAtom, EmptyStaticAtomSet, Fault};
+use test_calls::has_word;
 use test_samples::{One, Short, Twice};
 
 /// Words with tags that no form has, a length above 7, bytes behind the text, bytes that aren't UTF-8, low bits beside a static tag, and a
@@ -131,6 +132,23 @@ fn checked_tables(rt: HostRuntime) {
     assert!(rt; One::get().check() && Short::get().check() && !Twice::get().check());
 }
 
+/// Whether the static text at this place has this atom.
+fn is_packed<S: StaticAtomSet>(index: u32, atom: &Atom<'_, S>) -> bool {
+    match Atom::<S>::pack_static(index) {
+        Some(packed) => packed == *atom,
+        None => false,
+    }
+}
+
+/// Whether there is no atom of a static text at this place.
+fn is_no_place<S: StaticAtomSet>(index: u32) -> bool {
+    Atom::<S>::pack_static(index).is_none()
+}
+
+fn is_not_static<S: StaticAtomSet>(text: &str) -> bool {
+    Atom::<S>::try_static(text).is_none()
+}
+
 /// By OpenSSL's SipHash f2 of "sentence" is 0x56e93a5c, so its place among two is 0.
 #[test]
 fn text_listed_twice(rt: HostRuntime) {
@@ -138,24 +156,23 @@ fn text_listed_twice(rt: HostRuntime) {
     let atom = intern(&rt, &set, "sentence");
     assert!(rt; atom.is_static() && atom.unsafe_data() == 2);
     assert!(rt; atom.get_hash() == 1);
-    assert!(rt; Atom::<Twice>::pack_static(0) == Some(atom));
-    assert!(rt; Atom::<Twice>::pack_static(1).is_none());
+    assert!(rt; is_packed(0, &atom) && is_no_place::<Twice>(1));
 }
 
 #[test]
 fn short_text_in_tables(rt: HostRuntime) {
     let set: Set<Short> = new_set(&rt, rt.alloc());
     let atom = intern(&rt, &set, "short");
-    assert!(rt; atom.unsafe_data() == 0x7472_6f68_7351);
-    assert!(rt; Atom::<Short>::try_static("short").is_none());
-    assert!(rt; Atom::<Short>::pack_static(0).is_none());
+    assert!(rt; has_word(&atom, 0x7472_6f68_7351));
+    assert!(rt; is_not_static::<Short>("short") && is_no_place::<Short>(0));
 }
 
-/// How many replies a new table gives to no calls.
-fn replies_of_table(alloc: Global) -> Result<usize, Fault> {
-    let mut table = Table::<EmptyStaticAtomSet>::new(alloc)?;
-    let replies = table.run(&[])?;
-    Ok(replies.len())
+/// How many replies the table gives to no calls.
+fn replies_to_none(table: &mut Table<EmptyStaticAtomSet>) -> Option<usize> {
+    match table.run(&[]) {
+        Ok(replies) => Some(replies.len()),
+        Err(_) => None,
+    }
 }
 
 /// How many replies a new world appends for no steps.
@@ -168,6 +185,7 @@ fn replies_of_world(alloc: Global) -> Result<usize, Fault> {
 
 #[test]
 fn empty_lists(rt: HostRuntime) {
-    assert!(rt; replies_of_table(rt.alloc()) == Ok(0));
+    let mut table = new_table(&rt, rt.alloc());
+    assert!(rt; replies_to_none(&mut table) == Some(0));
     assert!(rt; replies_of_world(rt.alloc()) == Ok(0));
 }
