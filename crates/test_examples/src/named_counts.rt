@@ -4,9 +4,10 @@ ghost use Rattle.std.specs.Prelude.{◌≡◌};
 
 use named_atoms::{ByWord, NamedAtom};
 use named_set::{FreshName, NamedSet, SetName};
-use std::alloc::{AllocError, Global};
+use std::alloc::Global;
 use std::collections::HashMap;
 use std::marker::Brand;
+use std::process::Abort;
 use std::sync::Wait;
 use std::thread::{self, Threads};
 use string_cache::Fault;
@@ -84,119 +85,115 @@ fn count_one<'s, N: SetName, R: Wait>(
 }
 
 /// The counts of one worker's words.
-fn counts_of<'s, N: SetName, R: Wait>(
+fn counts_of<'s, N: SetName, R: Wait + Abort>(
     rt: &R,
     set: &'s Named<N>,
     text: &str,
     shares: Shares,
     worker: usize,
-) -> Result<Counts<'s, N>, Fault> {
+) -> Counts<'s, N> {
     let mut counts = HashMap::new(set.allocator());
     for (at, word) in text.split_whitespace().enumerate() {
         if shares.worker_of(at) == worker {
-            count_one(rt, set, &mut counts, word)?;
+            count_one(rt, set, &mut counts, word).expect(rt, "room");
         }
     }
-    Ok(counts)
+    counts
 }
 
 /// The counts of each of the workers, which count at once.
-fn count_each<'s, N: SetName + Send + Sync, R: Threads + Wait + Sync>(
+fn count_each<'s, N: SetName + Send + Sync, R: Threads + Wait + Sync + Abort>(
     rt: &R,
     set: &'s Named<N>,
     text: &str,
     shares: Shares,
-) -> Result<Vec<Result<Counts<'s, N>, Fault>>, AllocError> {
+) -> Vec<Counts<'s, N>> {
     thread::map_indices(
         rt,
         set.allocator(),
         WORKERS,
         &|worker| counts_of(rt, set, text, shares, worker),
     )
+    .expect(rt, "workers")
 }
 
 /// Adds what one worker counted.
-fn add_all<'s, N: SetName>(totals: &mut Counts<'s, N>, counts: Counts<'s, N>) -> Result<(), Fault> {
+fn add_all<'s, N: SetName, R: Abort>(rt: &R, totals: &mut Counts<'s, N>, counts: Counts<'s, N>) {
     for (word, times) in counts {
-        add(totals, word, times)?;
+        add(totals, word, times).expect(rt, "room");
     }
-    Ok(())
 }
 
 /// What all workers counted together.
-fn totals_of<'s, N: SetName>(
+fn totals_of<'s, N: SetName, R: Abort>(
+    rt: &R,
     alloc: Global,
-    each: Vec<Result<Counts<'s, N>, Fault>>,
-) -> Result<Counts<'s, N>, Fault> {
+    each: Vec<Counts<'s, N>>,
+) -> Counts<'s, N> {
     let mut totals = HashMap::new(alloc);
     for counts in each {
-        add_all(&mut totals, counts?)?;
+        add_all(rt, &mut totals, counts);
     }
-    Ok(totals)
+    totals
 }
 
 /// Whether this is what stands under the word of a text.
-fn is_total<N: SetName, R: Wait>(
+fn is_total<N: SetName, R: Wait + Abort>(
     rt: &R,
     set: &Named<N>,
     totals: &Counts<N>,
     text: &str,
     wanted: u64,
-) -> Result<bool, Fault> {
-    let word = ByWord::new(NamedAtom::from_str_in(rt, set, text)?);
-    Ok(totals.get(&word).copied() == Some(wanted))
+) -> bool {
+    let atom = NamedAtom::from_str_in(rt, set, text).expect(rt, "an atom");
+    totals.get(&ByWord::new(atom)).copied() == Some(wanted)
 }
 
 /// Whether each text has its total, and there is no other word.
-fn are_totals<N: SetName, R: Wait>(
-    rt: &R,
-    set: &Named<N>,
-    totals: &Counts<N>,
-) -> Result<bool, Fault> {
+fn are_totals<N: SetName, R: Wait + Abort>(rt: &R, set: &Named<N>, totals: &Counts<N>) -> bool {
     for (text, times) in &TIMES {
-        if !is_total(rt, set, totals, text, times.saturating_mul(LINES as u64))? {
-            return Ok(false);
+        if !is_total(rt, set, totals, text, times.saturating_mul(LINES as u64)) {
+            return false;
         }
     }
-    Ok(totals.len() == TIMES.len())
+    totals.len() == TIMES.len()
 }
 
 /// Counts the text, and asks for the totals. While they are held, the three dynamic texts are linked.
-fn are_counted<N: SetName + Send + Sync, R: Threads + Wait + Sync>(
+fn are_counted<N: SetName + Send + Sync, R: Threads + Wait + Sync + Abort>(
     rt: &R,
     set: &Named<N>,
     text: &str,
     shares: Shares,
-) -> Result<bool, Fault> {
-    let each = count_each(rt, set, text, shares)?;
-    let totals = totals_of(set.allocator(), each)?;
-    Ok(are_totals(rt, set, &totals)? && set.linked(rt) == 3)
+) -> bool {
+    let each = count_each(rt, set, text, shares);
+    let totals = totals_of(rt, set.allocator(), each);
+    are_totals(rt, set, &totals) && set.linked(rt) == 3
 }
 
 /// Whether the totals are right for each way to share the words out, and whether nothing is left linked.
-fn are_all_counted<N: SetName + Send + Sync, R: Threads + Wait + Sync>(
+fn are_all_counted<N: SetName + Send + Sync, R: Threads + Wait + Sync + Abort>(
     rt: &R,
     set: &Named<N>,
-) -> Result<bool, Fault> {
-    let text = LINE.repeat(set.allocator(), LINES)?;
-    let text = text.as_str();
+) -> bool {
+    let text = LINE.repeat(set.allocator(), LINES).expect(rt, "room");
     for shares in &[Shares::Blocks, Shares::Turns, Shares::Halves] {
-        if !are_counted(rt, set, text, *shares)? {
-            return Ok(false);
+        if !are_counted(rt, set, &text, *shares) {
+            return false;
         }
     }
-    Ok(set.linked(rt) == 0)
+    set.linked(rt) == 0
 }
 
 /// The same, in the set with this name.
-fn are_all_counted_named<N: SetName + Send + Sync, R: Threads + Wait + Sync>(
+fn are_all_counted_named<N: SetName + Send + Sync, R: Threads + Wait + Sync + Abort>(
     rt: &R,
     alloc: Global,
     name: FreshName,
-) -> Result<bool, Fault>
+) -> bool
     requires { N.logs ≡ name.logs }
 {
-    let set = NamedSet::new(alloc, name, Limits::greatest())?;
+    let set = NamedSet::new(alloc, name, Limits::greatest()).expect(rt, "a set");
     are_all_counted::<N, R>(rt, &set)
 }
 
@@ -204,5 +201,5 @@ fn are_all_counted_named<N: SetName + Send + Sync, R: Threads + Wait + Sync>(
 #[test]
 fn totals_are_those_of_texts(rt: HostRuntime) {
     let name = FreshName::new(rt.alloc(), Buckets::usual()).expect(&rt, "a name");
-    assert!(rt; are_all_counted_named::<Brand, _>(&rt, rt.alloc(), name).expect(&rt, "an answer"));
+    assert!(rt; are_all_counted_named::<Brand, _>(&rt, rt.alloc(), name));
 }
