@@ -1,7 +1,9 @@
 //! The calls of a set on a few texts, over and over.
 
+use crate::calls::{Pairs, compare_all};
 use crate::elements::Elements;
 use crate::phases::Phases;
+use crate::sets::Shared;
 use std::alloc::Global;
 use std::rt::Clock;
 use std::sync::Wait;
@@ -37,17 +39,85 @@ const TURNED: [&str; 8] = [
     "background-color",
 ];
 
+/// A set whose atoms tell of themselves.
+trait Telling: Shared {
+    /// How many bytes an atom's text has.
+    fn length(atom: &Self::Atom) -> usize;
+
+    /// Whether an atom's text is kept in the set.
+    fn is_dynamic(atom: &Self::Atom) -> bool;
+}
+
+impl<'s, Static: StaticAtomSet> Telling for &'s Set<Static> {
+    #[inline]
+    fn length(atom: &Atom<'s, Static>) -> usize {
+        atom.as_str().len()
+    }
+
+    #[inline]
+    fn is_dynamic(atom: &Atom<'s, Static>) -> bool {
+        atom.is_dynamic()
+    }
+}
+
+/// Interns the texts in turn, so many times, and drops each atom at once. How often that had the text's length.
+fn intern_all<S: Telling, R: Wait>(
+    rt: &R,
+    set: S,
+    rounds: usize,
+    texts: &[&str],
+) -> Result<usize, Fault> {
+    let mut done = 0usize;
+    for _round in 0..rounds {
+        for text in texts {
+            let atom = set.intern(rt, text)?;
+            done = done.wrapping_add(usize::from(S::length(&atom) == text.len()));
+        }
+    }
+    Ok(done)
+}
+
+/// Clones the atoms in turn, so many times, and drops each clone at once. How often that was one whose text the set keeps.
+fn clone_all<S: Telling, R: Wait>(
+    rt: &R,
+    rounds: usize,
+    atoms: &[S::Atom],
+) -> Result<usize, Fault> {
+    let mut done = 0usize;
+    for _round in 0..rounds {
+        for atom in atoms {
+            let clone = S::copy(rt, atom)?;
+            done = done.wrapping_add(usize::from(S::is_dynamic(&clone)));
+        }
+    }
+    Ok(done)
+}
+
+/// Adds the atoms of the texts to those.
+fn push_atoms<S: Shared, R: Wait>(
+    rt: &R,
+    set: S,
+    texts: &[&str],
+    atoms: &mut Vec<S::Atom>,
+) -> Result<(), Fault> {
+    for text in texts {
+        atoms.push(set.intern(rt, text)?)?;
+    }
+    Ok(())
+}
+
 /// A set, and what was timed on it.
 #[derive(Drop)]
-struct Hot<'s, R: Wait> {
+struct Hot<'s, S: Shared, R: Wait> {
     rt: &'s R,
-    set: &'s Set<Elements>,
+    alloc: Global,
+    set: S,
     /// How often each call is made of each text.
     rounds: usize,
     phases: &'s mut Phases,
 }
 
-impl<'s, R: Wait + Clock> Hot<'s, R> {
+impl<'s, S: Telling, R: Wait + Clock> Hot<'s, S, R> {
     /// Notes the calls on this number of texts since then: how long they took, and how many did what they were made for.
     fn note(
         &mut self,
@@ -62,37 +132,22 @@ impl<'s, R: Wait + Clock> Hot<'s, R> {
 
     /// Interns the texts in turn, and drops each atom at once.
     fn intern(&mut self, name: &'static str, texts: &[&str]) -> Result<(), anyhow::Error> {
-        let mut done = 0usize;
         let start = Instant::now(self.rt)?;
-        for _round in 0..self.rounds {
-            for text in texts {
-                let atom = Atom::from_str_in(self.rt, self.set, text)?;
-                done = done.wrapping_add(usize::from(atom.as_str().len() == text.len()));
-            }
-        }
+        let done = intern_all(self.rt, self.set, self.rounds, texts)?;
         self.note(name, texts.len(), done, start)
     }
 
     /// Clones the atoms in turn, and drops each clone at once.
-    fn clone_all(
-        &mut self,
-        name: &'static str,
-        atoms: &[Atom<'s, Elements>],
-    ) -> Result<(), anyhow::Error> {
-        let mut done = 0usize;
+    fn clone_all(&mut self, name: &'static str, atoms: &[S::Atom]) -> Result<(), anyhow::Error> {
         let start = Instant::now(self.rt)?;
-        for _round in 0..self.rounds {
-            for atom in atoms {
-                let clone = atom.clone_atom(self.rt)?;
-                done = done.wrapping_add(usize::from(clone.is_dynamic()));
-            }
-        }
+        let done = clone_all::<S, R>(self.rt, self.rounds, atoms)?;
         self.note(name, atoms.len(), done, start)
     }
 
     /// Interns texts that are held, and clones their atoms.
     fn intern_and_clone_held(&mut self) -> Result<(), anyhow::Error> {
-        let held = atoms_of(self.rt, self.set, &DYNAMIC)?;
+        let mut held = Vec::new(self.alloc);
+        push_atoms(self.rt, self.set, &DYNAMIC, &mut held)?;
         self.intern("intern and drop, dynamic and held", &DYNAMIC)?;
         self.clone_all("clone and drop", &held)
     }
@@ -105,55 +160,37 @@ impl<'s, R: Wait + Clock> Hot<'s, R> {
         rights: &[&str],
         is_equal: bool,
     ) -> Result<(), anyhow::Error> {
-        let lefts = atoms_of(self.rt, self.set, lefts)?;
-        let rights = atoms_of(self.rt, self.set, rights)?;
-        self.compare_atoms(name, &lefts, &rights, is_equal)
+        let mut pairs = Pairs::with_capacity(self.alloc, lefts.len())?;
+        push_atoms(self.rt, self.set, lefts, &mut pairs.lefts)?;
+        push_atoms(self.rt, self.set, rights, &mut pairs.rights)?;
+        self.compare_pairs(name, &pairs, is_equal)
     }
 
-    /// Compares each atom of one list with the one at its place in the other.
-    fn compare_atoms(
+    /// Compares the atoms of each pair.
+    fn compare_pairs(
         &mut self,
         name: &'static str,
-        lefts: &[Atom<'s, Elements>],
-        rights: &[Atom<'s, Elements>],
+        pairs: &Pairs<S::Atom>,
         is_equal: bool,
     ) -> Result<(), anyhow::Error> {
-        let mut done = 0usize;
         let start = Instant::now(self.rt)?;
-        for _round in 0..self.rounds {
-            for (left, right) in lefts.iter().zip(rights) {
-                done = done.wrapping_add(usize::from((left == right) == is_equal));
-            }
-        }
-        self.note(name, lefts.len(), done, start)
+        let done = compare_all(self.rounds, &pairs.lefts, &pairs.rights, is_equal);
+        self.note(name, pairs.lefts.len(), done, start)
     }
 
-    /// Times each kind of call.
-    fn measure(&mut self) -> Result<(), anyhow::Error> {
+    /// Times each kind of call. These are the static texts of the set's type.
+    fn measure(&mut self, statics: &[&str]) -> Result<(), anyhow::Error> {
         self.intern("intern and drop, inline", &INLINE)?;
-        self.intern("intern and drop, static", texts_of::<Elements>())?;
+        self.intern("intern and drop, static", statics)?;
         self.intern_and_clone_held()?;
         self.compare("== of one text", &DYNAMIC, &DYNAMIC, true)?;
         self.compare("== of two texts", &DYNAMIC, &TURNED, false)
     }
 }
 
-/// The atoms of the texts.
-fn atoms_of<'s, R: Wait>(
-    rt: &R,
-    set: &'s Set<Elements>,
-    texts: &[&str],
-) -> Result<Vec<Atom<'s, Elements>>, Fault> {
-    let mut atoms = Vec::new(set.allocator());
-    for text in texts {
-        atoms.push(Atom::from_str_in(rt, set, text)?)?;
-    }
-    Ok(atoms)
-}
-
 /// The static texts of the type.
-fn texts_of<S: StaticAtomSet>() -> &'static [&'static str] {
-    S::get().atoms
+fn texts_of<Static: StaticAtomSet>() -> &'static [&'static str] {
+    Static::get().atoms
 }
 
 /// Times interning inline, static and held dynamic texts, each with its drop, cloning and dropping, and comparing atoms of one
@@ -165,12 +202,13 @@ pub fn measure<R: Wait + Clock>(
     rounds: usize,
     phases: &mut Phases,
 ) -> Result<(), anyhow::Error> {
-    let set = Set::with_buckets(alloc, Limits::greatest(), buckets)?;
+    let set = Set::<Elements>::with_buckets(alloc, Limits::greatest(), buckets)?;
     let mut hot = Hot {
         rt,
+        alloc,
         set: &set,
         rounds,
         phases,
     };
-    hot.measure()
+    hot.measure(texts_of::<Elements>())
 }

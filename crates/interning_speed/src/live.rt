@@ -1,116 +1,28 @@
 //! The calls of a set, beside many live texts.
 
-use crate::phases::{Phase, Phases};
+use crate::calls::{Timed, drop_all};
+use crate::phases::Phases;
 use crate::texts::Texts;
 use std::alloc::Global;
 use std::rt::Clock;
 use std::sync::Wait;
-use std::time::Instant;
 use string_cache::dynamic_set::Set;
 use string_cache::word::{Buckets, Limits};
-use string_cache::{DefaultAtom, EmptyStaticAtomSet, Fault};
+use string_cache::{DefaultAtom, EmptyStaticAtomSet};
 
-/// Interns the texts, and adds their atoms to those.
-pub fn intern_all<'s, R: Wait>(
-    rt: &R,
-    set: &'s Set<EmptyStaticAtomSet>,
-    texts: &[String],
-    atoms: &mut Vec<DefaultAtom<'s>>,
-) -> Result<(), Fault> {
-    for text in texts {
-        atoms.push(DefaultAtom::from_str_in(rt, set, text.as_str())?)?;
-    }
-    Ok(())
-}
-
-/// Clones the atoms, and adds the clones to those.
-fn clone_all<'s, R: Wait>(
-    rt: &R,
-    atoms: &[DefaultAtom<'s>],
-    clones: &mut Vec<DefaultAtom<'s>>,
-) -> Result<(), Fault> {
-    for atom in atoms {
-        clones.push(atom.clone_atom(rt)?)?;
-    }
-    Ok(())
-}
-
-/// A set, and what was timed on it.
-#[derive(Drop)]
-struct Live<'s, R: Wait> {
-    rt: &'s R,
-    set: &'s Set<EmptyStaticAtomSet>,
-    phases: &'s mut Phases,
-}
-
-impl<'s, R: Wait + Clock> Live<'s, R> {
-    /// Interns the texts, and adds their atoms to those, of which there are none.
-    fn intern_into(
-        &mut self,
-        name: &'static str,
-        texts: &[String],
-        atoms: &mut Vec<DefaultAtom<'s>>,
-    ) -> Result<(), anyhow::Error> {
-        let start = Instant::now(self.rt)?;
-        intern_all(self.rt, self.set, texts, atoms)?;
-        self.phases
-            .note(self.rt, name, texts.len(), atoms.len(), start)
-    }
-
-    /// Interns the texts, and answers their atoms.
-    fn intern(
-        &mut self,
-        name: &'static str,
-        texts: &[String],
-    ) -> Result<Vec<DefaultAtom<'s>>, anyhow::Error> {
-        let mut atoms = Vec::with_capacity(self.set.allocator(), texts.len())?;
-        self.intern_into(name, texts, &mut atoms)?;
-        Ok(atoms)
-    }
-
-    /// Clones the atoms, and adds the clones to those, of which there are none.
-    fn clone_into(
-        &mut self,
-        atoms: &[DefaultAtom<'s>],
-        clones: &mut Vec<DefaultAtom<'s>>,
-    ) -> Result<(), anyhow::Error> {
-        let start = Instant::now(self.rt)?;
-        clone_all(self.rt, atoms, clones)?;
-        self.phases
-            .note(self.rt, "clone", atoms.len(), clones.len(), start)
-    }
-
-    /// Clones the atoms.
-    fn clones_of(
-        &mut self,
-        atoms: &[DefaultAtom<'s>],
-    ) -> Result<Vec<DefaultAtom<'s>>, anyhow::Error> {
-        let mut clones = Vec::with_capacity(self.set.allocator(), atoms.len())?;
-        self.clone_into(atoms, &mut clones)?;
-        Ok(clones)
-    }
-
+impl<'s, R: Wait + Clock> Timed<'s, &'s Set<EmptyStaticAtomSet>, R> {
     /// Drops the atoms, the last one first. Each of them is the last of its text, or none is.
     fn drop_all(
         &mut self,
         name: &'static str,
-        mut atoms: Vec<DefaultAtom<'s>>,
+        atoms: Vec<DefaultAtom<'s>>,
         is_last: bool,
     ) -> Result<(), anyhow::Error> {
-        let calls = atoms.len();
         let before = self.set.linked(self.rt);
-        let start = Instant::now(self.rt)?;
-        for _atom in 0..calls {
-            drop(atoms.pop());
-        }
-        let time = start.elapsed(self.rt)?;
+        let mut phase = drop_all(self.rt, name, atoms)?;
         let gone = before.saturating_sub(self.set.linked(self.rt));
-        self.phases.add(Phase {
-            name,
-            calls,
-            done: done_of(calls, gone, is_last),
-            time,
-        })
+        phase.done = done_of(phase.calls, gone, is_last);
+        self.phases.add(phase)
     }
 
     /// Clones the atoms, and drops the clones.
@@ -146,26 +58,21 @@ fn done_of(calls: usize, gone: u128, is_last: bool) -> usize {
     }
 }
 
-/// Times each kind of call in this set.
-fn measure_in<R: Wait + Clock>(
-    rt: &R,
-    set: &Set<EmptyStaticAtomSet>,
-    count: usize,
-    phases: &mut Phases,
-) -> Result<(), anyhow::Error> {
-    let texts = Texts::new(set.allocator(), count)?;
-    Live { rt, set, phases }.measure(&texts)
-}
-
 /// Times each kind of call: interning texts that are new, and in another order where they are there, cloning the atoms in
 /// that order, the ends of the clones, those of the last atoms of the newest texts, and those of the last atoms of all.
 pub fn measure<R: Wait + Clock>(
     rt: &R,
     alloc: Global,
     buckets: Buckets,
-    count: usize,
+    texts: &Texts,
     phases: &mut Phases,
 ) -> Result<(), anyhow::Error> {
     let set = Set::with_buckets(alloc, Limits::greatest(), buckets)?;
-    measure_in(rt, &set, count, phases)
+    let mut timed = Timed {
+        rt,
+        alloc,
+        set: &set,
+        phases,
+    };
+    timed.measure(texts)
 }

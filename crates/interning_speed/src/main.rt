@@ -1,12 +1,14 @@
 //! Times the calls of the table for one thread, and those of the set that threads share.
 #![tactic(auto)]
 
+mod calls;
 mod crowd;
 mod elements;
 mod hot;
 mod live;
 mod named;
 mod phases;
+mod sets;
 mod table;
 mod texts;
 
@@ -18,6 +20,7 @@ use std::sync::Wait;
 use std::thread::Threads;
 use std::{env, fmt};
 use string_cache::word::Buckets;
+use texts::Texts;
 
 /// What is printed of each kind of call.
 #[derive(Clone, Copy)]
@@ -69,6 +72,16 @@ impl fmt::Display for Subject {
     }
 }
 
+impl Subject {
+    /// How many texts are made for it, where the arguments have this number: none if it has a few of its own.
+    fn texts(self, number: usize) -> usize {
+        match self {
+            Subject::Hot => 0,
+            _ => number,
+        }
+    }
+}
+
 const ALL: [Subject; 5] = [
     Subject::Table,
     Subject::Hot,
@@ -91,40 +104,28 @@ fn subject_of(word: &str) -> Result<Option<Subject>, ()> {
 }
 
 /// What the words ask for, or `None` where they aren't those of a command.
-fn command_of(
-    report: &str,
-    subject: &str,
-    number: &str,
-    bits: &str,
-    workers: &str,
-) -> Option<Command> {
-    let report = match report {
+fn command_of(words: &[String]) -> Option<Command> {
+    let [report, subject, number, bits, workers] = words else {
+        return None;
+    };
+    let report = match report.as_str() {
         "counts" => Report::Counts,
         "times" => Report::Times,
         _ => return None,
     };
     Some(Command {
         report,
-        only: subject_of(subject).ok()?,
-        number: number.parse::<usize>().ok()?,
-        buckets: bits.parse::<u8>().ok().and_then(Buckets::new)?,
-        workers: workers.parse::<usize>().ok()?,
+        only: subject_of(subject.as_str()).ok()?,
+        number: number.as_str().parse::<usize>().ok()?,
+        buckets: bits.as_str().parse::<u8>().ok().and_then(Buckets::new)?,
+        workers: workers.as_str().parse::<usize>().ok()?,
     })
 }
 
 /// `None` where the arguments aren't those of a command.
 fn asked_for(rt: &(impl Env + AllocGlobal)) -> Result<Option<Command>, anyhow::Error> {
     let words: Vec<String> = env::args(rt)?.skip(1).collect(rt.alloc())?;
-    Ok(match words.as_slice() {
-        [report, subject, number, bits, workers] => command_of(
-            report.as_str(),
-            subject.as_str(),
-            number.as_str(),
-            bits.as_str(),
-            workers.as_str(),
-        ),
-        _ => None,
-    })
+    Ok(command_of(words.as_slice()))
 }
 
 /// Makes the calls, and times them.
@@ -135,13 +136,26 @@ fn measure<R: Threads + Wait + Clock + Sync>(
     command: &Command,
     phases: &mut Phases,
 ) -> Result<(), anyhow::Error> {
-    let (buckets, number) = (command.buckets, command.number);
+    let texts = Texts::new(alloc, subject.texts(command.number))?;
+    measure_over(rt, alloc, subject, command, &texts, phases)
+}
+
+/// The same, over these texts.
+fn measure_over<R: Threads + Wait + Clock + Sync>(
+    rt: &R,
+    alloc: Global,
+    subject: Subject,
+    command: &Command,
+    texts: &Texts,
+    phases: &mut Phases,
+) -> Result<(), anyhow::Error> {
+    let buckets = command.buckets;
     match subject {
-        Subject::Table => table::measure(rt, alloc, number, phases),
-        Subject::Hot => hot::measure(rt, alloc, buckets, number, phases),
-        Subject::Live => live::measure(rt, alloc, buckets, number, phases),
-        Subject::Crowd => crowd::measure(rt, alloc, buckets, number, command.workers, phases),
-        Subject::Named => named::measure(rt, alloc, buckets, number, phases),
+        Subject::Table => table::measure(rt, alloc, texts, phases),
+        Subject::Hot => hot::measure(rt, alloc, buckets, command.number, phases),
+        Subject::Live => live::measure(rt, alloc, buckets, texts, phases),
+        Subject::Crowd => crowd::measure(rt, alloc, buckets, texts, command.workers, phases),
+        Subject::Named => named::measure(rt, alloc, buckets, texts, phases),
     }
 }
 

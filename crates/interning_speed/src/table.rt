@@ -133,9 +133,8 @@ fn new_table(alloc: Global) -> Result<Measured, Fault> {
 pub fn measure<R: Clock>(
     rt: &R,
     alloc: Global,
-    count: usize,
+    texts: &Texts,
     phases: &mut Phases,
 ) -> Result<(), anyhow::Error> {
-    let texts = Texts::new(alloc, count)?;
-    new_table(alloc)?.measure(rt, alloc, &texts, phases)
+    new_table(alloc)?.measure(rt, alloc, texts, phases)
 }

@@ -1,4 +1,4 @@
-use Rattle.interning_speed.proofs.named.measure_texts.Given as goal
+use Rattle.interning_speed.proofs.named.measure.Given as goal
 
 -- the name is the one that was just made
 abbrev pub ghosts-measure_named : goal.ghosts-measure_named
