@@ -4,7 +4,7 @@ use crate::calls;
 use crate::phases::{Phase, Phases};
 use crate::sets::Shared;
 use crate::texts::Texts;
-use std::alloc::Global;
+use std::alloc::{AllocError, Global};
 use std::rt::Clock;
 use std::sync::Wait;
 use std::thread;
@@ -44,6 +44,25 @@ fn count_of<T: Drop>(held: &[Result<Vec<T>, Fault>]) -> Result<usize, Fault> {
     Ok(count)
 }
 
+/// The atoms of all threads in this set.
+fn held_by_all<S: Shared + Sync, R: Threads + Wait + Sync>(
+    rt: &R,
+    alloc: Global,
+    set: S,
+    texts: &Texts,
+    workers: usize,
+) -> Result<Vec<Result<Vec<S::Atom>, Fault>>, AllocError>
+where
+    S::Atom: Send,
+{
+    thread::map_indices(
+        rt,
+        alloc,
+        workers,
+        &|n| intern_own(rt, alloc, set, texts, n),
+    )
+}
+
 /// Times the threads in this set.
 fn measure_in<S: Shared + Sync, R: Threads + Wait + Clock + Sync>(
     rt: &R,
@@ -51,19 +70,15 @@ fn measure_in<S: Shared + Sync, R: Threads + Wait + Clock + Sync>(
     set: S,
     texts: &Texts,
     workers: usize,
-) -> Result<Phase, anyhow::Error>
+    phases: &mut Phases,
+) -> Result<(), anyhow::Error>
 where
     S::Atom: Send,
 {
     let start = Instant::now(rt)?;
-    let held = thread::map_indices(
-        rt,
-        alloc,
-        workers,
-        &|n| intern_own(rt, alloc, set, texts, n),
-    )?;
+    let held = held_by_all(rt, alloc, set, texts, workers)?;
     let time = start.elapsed(rt)?;
-    Ok(Phase {
+    phases.add(Phase {
         name: "intern and hold, by all threads",
         calls: texts.len().saturating_mul(workers),
         done: count_of(&held)?,
@@ -82,5 +97,5 @@ pub fn measure<R: Threads + Wait + Clock + Sync>(
     phases: &mut Phases,
 ) -> Result<(), anyhow::Error> {
     let set = Set::<EmptyStaticAtomSet>::with_buckets(alloc, Limits::greatest(), buckets)?;
-    phases.add(measure_in(rt, alloc, &set, texts, workers)?)
+    measure_in(rt, alloc, &set, texts, workers, phases)
 }

@@ -2,20 +2,33 @@
 
 use crate::calls::{Timed, drop_all};
 use crate::phases::Phases;
+use crate::sets::Shared;
 use crate::texts::Texts;
 use std::alloc::Global;
 use std::rt::Clock;
 use std::sync::Wait;
+use string_cache::EmptyStaticAtomSet;
 use string_cache::dynamic_set::Set;
 use string_cache::word::{Buckets, Limits};
-use string_cache::{DefaultAtom, EmptyStaticAtomSet};
 
-impl<'s, R: Wait + Clock> Timed<'s, &'s Set<EmptyStaticAtomSet>, R> {
+/// A set that tells how many texts it has.
+trait Counted: Shared {
+    /// How many of its texts are linked.
+    fn linked<R: Wait>(self, rt: &R) -> u128;
+}
+
+impl<'s> Counted for &'s Set<EmptyStaticAtomSet> {
+    fn linked<R: Wait>(self, rt: &R) -> u128 {
+        Set::linked(self, rt)
+    }
+}
+
+impl<'s, S: Counted, R: Wait + Clock> Timed<'s, S, R> {
     /// Drops the atoms, the last one first. Each of them is the last of its text, or none is.
-    fn drop_all(
+    fn drop_counted(
         &mut self,
         name: &'static str,
-        atoms: Vec<DefaultAtom<'s>>,
+        atoms: Vec<S::Atom>,
         is_last: bool,
     ) -> Result<(), anyhow::Error> {
         let before = self.set.linked(self.rt);
@@ -26,25 +39,25 @@ impl<'s, R: Wait + Clock> Timed<'s, &'s Set<EmptyStaticAtomSet>, R> {
     }
 
     /// Clones the atoms, and drops the clones.
-    fn clone_and_drop(&mut self, atoms: &[DefaultAtom<'s>]) -> Result<(), anyhow::Error> {
+    fn clone_and_drop(&mut self, atoms: &[S::Atom]) -> Result<(), anyhow::Error> {
         let clones = self.clones_of(atoms)?;
-        self.drop_all("drop of a clone", clones, false)
+        self.drop_counted("drop of a clone", clones, false)
     }
 
     /// Interns texts that are new, and drops their atoms.
     fn intern_and_drop(&mut self, texts: &[String]) -> Result<(), anyhow::Error> {
         let newest = self.intern("intern of one more new text", texts)?;
-        self.drop_all("last drop, of the newest", newest, true)
+        self.drop_counted("last drop, of the newest", newest, true)
     }
 
     /// Times each kind of call.
-    fn measure(&mut self, texts: &Texts) -> Result<(), anyhow::Error> {
+    fn measure_live(&mut self, texts: &Texts) -> Result<(), anyhow::Error> {
         let first = self.intern("intern of a new text", texts.first())?;
         let again = self.intern("intern of a text that is there", texts.again())?;
         self.clone_and_drop(&again)?;
         drop(first);
         self.intern_and_drop(texts.more())?;
-        self.drop_all("last drop, of any", again, true)
+        self.drop_counted("last drop, of any", again, true)
     }
 }
 
@@ -67,12 +80,12 @@ pub fn measure<R: Wait + Clock>(
     texts: &Texts,
     phases: &mut Phases,
 ) -> Result<(), anyhow::Error> {
-    let set = Set::with_buckets(alloc, Limits::greatest(), buckets)?;
+    let set = Set::<EmptyStaticAtomSet>::with_buckets(alloc, Limits::greatest(), buckets)?;
     let mut timed = Timed {
         rt,
         alloc,
         set: &set,
         phases,
     };
-    timed.measure(texts)
+    timed.measure_live(texts)
 }

@@ -60,6 +60,16 @@ struct Command {
     workers: usize,
 }
 
+impl Command {
+    /// Whether a subject is to be timed.
+    fn asks_for(&self, subject: Subject) -> bool {
+        match self.only {
+            Some(only) => only == subject,
+            None => true,
+        }
+    }
+}
+
 impl fmt::Display for Subject {
     fn fmt<W: fmt::Write>(&self, f: &mut fmt::Formatter<W>) -> fmt::Result {
         f.write_str(match self {
@@ -190,6 +200,20 @@ fn run_subject<R: Threads + Wait + Clock + Print + Sync>(
     print_all(rt, command.report, phases.list())
 }
 
+/// Times what is asked for, one subject after the other.
+fn run<R: Threads + Wait + Clock + Print + Sync>(
+    rt: &R,
+    alloc: Global,
+    command: &Command,
+) -> Result<(), anyhow::Error> {
+    for subject in &ALL {
+        if command.asks_for(*subject) {
+            run_subject(rt, alloc, *subject, command)?;
+        }
+    }
+    Ok(())
+}
+
 fn main(rt: HostRuntime) -> Result<(), anyhow::Error> {
     let Some(command) = asked_for(&rt)? else {
         println!(rt;
@@ -197,10 +221,5 @@ fn main(rt: HostRuntime) -> Result<(), anyhow::Error> {
         )?;
         return Ok(());
     };
-    for subject in ALL {
-        if command.only.is_none_or(|only| only == subject) {
-            run_subject(&rt, rt.alloc(), subject, &command)?;
-        }
-    }
-    Ok(())
+    run(&rt, rt.alloc(), &command)
 }

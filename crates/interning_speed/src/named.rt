@@ -8,7 +8,7 @@ use crate::sets::Shared;
 use crate::texts::Texts;
 use named_atoms::{ByWord, NamedAtom};
 use named_set::{FreshName, NamedSet, SetName};
-use std::alloc::Global;
+use std::alloc::{AllocError, Global};
 use std::collections::HashMap;
 use std::hash::Hash;
 use std::marker::Brand;
@@ -43,6 +43,12 @@ struct Places<K: Drop + Eq + Hash> {
 }
 
 impl<K: Drop + Eq + Hash> Places<K> {
+    /// Adds a word to the map.
+    fn put(&mut self, key: K, place: usize) -> Result<(), AllocError> {
+        self.places.insert(key, place)?;
+        Ok(())
+    }
+
     /// How many of the words the map has.
     fn found(&self) -> usize {
         let mut done = 0usize;
@@ -66,7 +72,7 @@ fn place_all<S: Keyed, R: Wait>(
 ) -> Result<(), Fault> {
     for (place, atom) in atoms.iter().enumerate() {
         places.keys.push(key_again::<S, R>(rt, atom)?)?;
-        places.places.insert(key_again::<S, R>(rt, atom)?, place)?;
+        places.put(key_again::<S, R>(rt, atom)?, place)?;
     }
     Ok(())
 }
@@ -179,7 +185,7 @@ impl<'s, S: Keyed, R: Wait + Clock> Timed<'s, S, R> {
     }
 
     /// Times each kind of call.
-    fn measure(&mut self, texts: &Texts) -> Result<(), anyhow::Error> {
+    fn measure_named(&mut self, texts: &Texts) -> Result<(), anyhow::Error> {
         let first = self.intern("intern of a new text", texts.first())?;
         let again = self.intern("intern of a text that is there", texts.again())?;
         self.compare_clones(&again)?;
@@ -220,5 +226,5 @@ fn measure_named<N: SetName, R: Wait + Clock>(
         set: &set,
         phases,
     };
-    timed.measure(texts)
+    timed.measure_named(texts)
 }

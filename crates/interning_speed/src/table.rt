@@ -2,11 +2,24 @@
 
 use crate::phases::{Phase, Phases};
 use crate::texts::Texts;
-use std::alloc::Global;
+use std::alloc::{AllocError, Global};
 use std::rt::Clock;
 use std::time::Instant;
 use string_cache::table::{Call, Table, TableReply};
 use string_cache::{EmptyStaticAtomSet, Fault};
+
+/// A kind of calls on a word that is held.
+#[derive(Clone, Copy)]
+enum Kind {
+    Clone,
+    Give,
+}
+
+/// What is printed of the calls that clone each word.
+const CLONES: [&str; 1] = ["clone"];
+
+/// What is printed of those that give it, once for each of its holders, of which it has three.
+const GIVES: [&str; 3] = ["give", "give again", "give by the last holder"];
 
 /// A table, and the words of the texts that were interned last.
 #[derive(Drop)]
@@ -50,55 +63,28 @@ impl Measured {
         let start = Instant::now(rt)?;
         let replies = self.table.run(calls)?;
         let time = start.elapsed(rt)?;
-        let done = replies.iter().filter(|reply| is_done(reply)).count();
         phases.add(Phase {
             name,
             calls: calls.len(),
-            done,
+            done: count_done(&replies),
             time,
         })
     }
 
-    /// Clones each word.
-    fn clone_all<R: Clock>(
+    /// Makes a call of this kind on each word, once for each of the names.
+    fn run_each<R: Clock>(
         &mut self,
         rt: &R,
         alloc: Global,
         phases: &mut Phases,
+        kind: Kind,
+        names: &[&'static str],
     ) -> Result<(), anyhow::Error> {
-        let clones: Vec<Call> = self
-            .words
-            .iter()
-            .map(|word| Call::Clone(*word))
-            .collect(alloc)?;
-        self.run(rt, phases, "clone", &clones)
-    }
-
-    /// Makes the calls, which give each word once, once for each of its holders, of which it has three.
-    fn give_thrice<R: Clock>(
-        &mut self,
-        rt: &R,
-        phases: &mut Phases,
-        gives: &[Call],
-    ) -> Result<(), anyhow::Error> {
-        self.run(rt, phases, "give", gives)?;
-        self.run(rt, phases, "give again", gives)?;
-        self.run(rt, phases, "give by the last holder", gives)
-    }
-
-    /// Gives each word once for each of its holders, of which it has three.
-    fn give_all<R: Clock>(
-        &mut self,
-        rt: &R,
-        alloc: Global,
-        phases: &mut Phases,
-    ) -> Result<(), anyhow::Error> {
-        let gives: Vec<Call> = self
-            .words
-            .iter()
-            .map(|word| Call::Give(*word))
-            .collect(alloc)?;
-        self.give_thrice(rt, phases, &gives)
+        let calls = calls_of(alloc, kind, &self.words)?;
+        for name in names {
+            self.run(rt, phases, name, &calls)?;
+        }
+        Ok(())
     }
 
     /// Times each kind of call in a table that is new.
@@ -111,13 +97,32 @@ impl Measured {
     ) -> Result<(), anyhow::Error> {
         self.intern(rt, phases, "intern of a new text", texts.first())?;
         self.intern(rt, phases, "intern of a text that is there", texts.again())?;
-        self.clone_all(rt, alloc, phases)?;
-        self.give_all(rt, alloc, phases)
+        self.run_each(rt, alloc, phases, Kind::Clone, &CLONES)?;
+        self.run_each(rt, alloc, phases, Kind::Give, &GIVES)
     }
 }
 
-fn is_done(reply: &TableReply) -> bool {
-    matches!(reply, TableReply::Word(_) | TableReply::Given)
+/// The calls of this kind on each word.
+fn calls_of(alloc: Global, kind: Kind, words: &[u64]) -> Result<Vec<Call>, AllocError> {
+    let mut calls = Vec::with_capacity(alloc, words.len())?;
+    for word in words {
+        calls.push(match kind {
+            Kind::Clone => Call::Clone(*word),
+            Kind::Give => Call::Give(*word),
+        })?;
+    }
+    Ok(calls)
+}
+
+/// How many of the calls found their word held.
+fn count_done(replies: &[TableReply]) -> usize {
+    let mut done = 0usize;
+    for reply in replies {
+        if matches!(reply, TableReply::Word(_) | TableReply::Given) {
+            done = done.wrapping_add(1);
+        }
+    }
+    done
 }
 
 /// A new table.
