@@ -1,7 +1,6 @@
 //! The calls that a thread makes, and what they answer.
 
 use crate::texts::{Case, Word};
-use std::alloc::{AllocError, Global};
 
 /// A call. `Clone`, `Drop` and `ToCase` are made on the newest atom that the thread has.
 #[derive(Clone, Copy)]
@@ -14,6 +13,13 @@ pub enum Call {
     Clone,
     Drop,
     ToCase(Case),
+    /// A call on the whole set.
+    Whole(Whole),
+}
+
+/// A call on the whole set.
+#[derive(Clone, Copy)]
+pub enum Whole {
     Sweep,
     Linked,
     /// Visits each entry.
@@ -33,41 +39,33 @@ impl Call {
             b'd' => Some(Call::Drop),
             b'u' => Some(Call::ToCase(Case::Upper)),
             b'w' => Some(Call::ToCase(Case::Lower)),
-            b's' => Some(Call::Sweep),
-            b'l' => Some(Call::Linked),
-            b'v' => Some(Call::Visit),
-            b'm' => Some(Call::Memory),
+            b's' => Some(Call::Whole(Whole::Sweep)),
+            b'l' => Some(Call::Whole(Whole::Linked)),
+            b'v' => Some(Call::Whole(Whole::Visit)),
+            b'm' => Some(Call::Whole(Whole::Memory)),
             _ => None,
         }
     }
+}
 
-    /// The calls of these letters, up to the first one that stands for none.
-    pub fn of_letters(alloc: Global, letters: &str) -> Result<Vec<Call>, AllocError> {
-        let mut calls = Vec::new(alloc);
-        for letter in letters.bytes() {
-            let Some(call) = Call::of_letter(letter) else {
-                break;
-            };
-            calls.push(call)?;
-        }
-        Ok(calls)
-    }
-
+impl Whole {
     pub fn name(&self) -> &'static str {
         match self {
-            Call::Intern(_) => "intern",
-            Call::Read(_) => "read",
-            Call::Find(_) => "find",
-            Call::Clone => "clone",
-            Call::Drop => "drop",
-            Call::ToCase(Case::Upper) => "upper",
-            Call::ToCase(Case::Lower) => "lower",
-            Call::Sweep => "sweep",
-            Call::Linked => "linked",
-            Call::Visit => "visit",
-            Call::Memory => "memory",
+            Whole::Sweep => "sweep",
+            Whole::Linked => "linked",
+            Whole::Visit => "visit",
+            Whole::Memory => "memory",
         }
     }
+}
+
+/// A call that has begun.
+#[derive(Clone, Copy)]
+pub struct Begun {
+    pub call: &'static str,
+    /// The text of the atom that it is made on, or that it asks for.
+    pub text: &'static str,
+    pub at: u64,
 }
 
 /// What a call answered.
@@ -88,14 +86,27 @@ pub enum Answer {
     Strange(u64),
 }
 
+impl Answer {
+    /// The word and the number by which it is printed.
+    pub fn shown(&self) -> (&'static str, u128) {
+        match self {
+            Answer::Nothing => ("nothing", 0),
+            Answer::Ticket(ticket) => ("ticket", u128::from(*ticket)),
+            Answer::OtherText(ticket) => ("other-text", u128::from(*ticket)),
+            Answer::Fault(number) => ("fault", u128::from(*number)),
+            Answer::Absent => ("absent", 0),
+            Answer::Linked(number) => ("linked", *number),
+            Answer::Visited(number) => ("visited", u128::from(*number)),
+            Answer::Strange(number) => ("strange", u128::from(*number)),
+        }
+    }
+}
+
 /// A call that was made.
 #[derive(Clone, Copy)]
 pub struct Done {
     pub thread: u64,
-    pub call: &'static str,
-    /// The text of the atom that it was made on, or that it asked for.
-    pub text: &'static str,
-    pub begun: u64,
+    pub begun: Begun,
     pub ended: u64,
     pub answer: Answer,
 }

@@ -14,7 +14,7 @@ mod worker;
 ghost use Rattle.std.specs.Prelude.{◌≡◌};
 
 use anyhow::{Result, bail};
-use calls::{Answer, Call, Done};
+use calls::{Begun, Done};
 use named_set::{FreshName, NamedSet, SetName};
 use sets::Shared;
 use std::alloc::Global;
@@ -37,36 +37,38 @@ const CLOCK: u64 = 0x5343_4845_4400_0000;
 #[derive(Drop)]
 struct Start<'c, S: Shared> {
     worker: Worker<'c, S>,
-    calls: Vec<Call>,
+    /// The letters of its calls.
+    calls: &'c str,
 }
 
 impl<'c, S: Shared> Start<'c, S> {
     /// The thread of an argument, whose first calls are made.
     fn new<R: Wait>(
         rt: &R,
+        alloc: Global,
         set: S,
         clock: &'c AtomicU64,
         thread: u64,
-        arg: &str,
+        arg: &'c str,
     ) -> Result<Start<'c, S>> {
         let Some((first, calls)) = arg.split_once('/') else {
             bail!("a thread is CALLS/CALLS");
         };
-        let mut worker = Worker::new(set, clock, thread)?;
-        for call in Call::of_letters(set.allocator(), first)? {
-            worker.make(rt, call)?;
-        }
-        let calls = Call::of_letters(set.allocator(), calls)?;
+        let mut worker = Worker::new(alloc, set, clock, thread)?;
+        worker.make_all(rt, first)?;
         Ok(Start { worker, calls })
     }
 }
+
+/// What each thread's calls answered.
+type Answers = Vec<Result<Vec<Done>, Fault>>;
 
 /// Starts a thread for each of the last `left` of them, from the last down, and joins them all.
 fn start_to<'x, 'e: 'x, S: Shared + Send + 'e, R: Threads + Wait + Sync>(
     scope: &thread::Scope<'x, &'e ()>,
     rt: &'e R,
     mut starts: Vec<Start<'e, S>>,
-    done: &mut Vec<Result<Vec<Done>, Fault>>,
+    done: &mut Answers,
     left: usize,
 ) -> Result<(), Fault>
 where
@@ -90,13 +92,13 @@ where
 fn run<'e, S: Shared + Send + 'e, R: Threads + Wait + Sync>(
     rt: &'e R,
     starts: Vec<Start<'e, S>>,
-    done: &mut Vec<Result<Vec<Done>, Fault>>,
+    done: &mut Answers,
 ) -> Result<(), Fault>
 where
     S::Atom: Send,
 {
+    let left = starts.len();
     thread::scope(thread::scope_env::<'e>(), rt, move |scope| {
-        let left = starts.len();
         start_to(scope, rt, starts, done, left)
     })
 }
@@ -104,23 +106,30 @@ where
 fn print_call<R: Print>(rt: &R, done: &Done) -> Result<()> {
     let Done {
         thread,
-        call,
-        text,
-        begun,
+        begun: Begun { call, text, at },
         ended,
         answer,
     } = *done;
-    let (word, number) = match answer {
-        Answer::Nothing => ("nothing", 0),
-        Answer::Ticket(ticket) => ("ticket", u128::from(ticket)),
-        Answer::OtherText(ticket) => ("other-text", u128::from(ticket)),
-        Answer::Fault(number) => ("fault", u128::from(number)),
-        Answer::Absent => ("absent", 0),
-        Answer::Linked(number) => ("linked", number),
-        Answer::Visited(number) => ("visited", u128::from(number)),
-        Answer::Strange(number) => ("strange", u128::from(number)),
-    };
-    println!(rt; "{thread} {call} {text} {begun} {ended} {word} {number}")?;
+    let (word, number) = answer.shown();
+    println!(rt; "{thread} {call} {text} {at} {ended} {word} {number}")?;
+    Ok(())
+}
+
+fn print_calls<R: Print>(rt: &R, calls: &[Done]) -> Result<()> {
+    for call in calls {
+        print_call(rt, call)?;
+    }
+    Ok(())
+}
+
+/// Prints what the threads did, up to the first one that failed.
+fn print_all<R: Print>(rt: &R, done: &[Result<Vec<Done>, Fault>]) -> Result<()> {
+    for calls in done {
+        match calls {
+            Ok(calls) => print_calls(rt, calls)?,
+            Err(fault) => return Err((*fault).into()),
+        }
+    }
     Ok(())
 }
 
@@ -133,39 +142,19 @@ fn print_end<S: Shared, R: Wait + Print>(rt: &R, set: S) -> Result<()> {
     Ok(())
 }
 
-/// What the arguments ask for.
-#[derive(Drop)]
-struct Scene {
-    is_named: bool,
+/// The size of a set.
+#[derive(Clone, Copy)]
+struct Size {
     limits: Limits,
     buckets: Buckets,
-    threads: Vec<String>,
 }
 
-impl Scene {
-    /// The scene of a program's arguments.
-    fn of_words(mut words: env::Args, alloc: Global) -> Result<Scene> {
-        let _ = words.next();
-        let mut first = words.next();
-        let is_named = first.as_ref().is_some_and(|word| word.as_str() == "named");
-        if is_named {
-            first = words.next();
-        }
-        let (Some(holders), Some(serials), Some(bits)) = (first, words.next(), words.next()) else {
-            bail!("usage: schedules [named] HOLDERS SERIALS BITS CALLS/CALLS ..");
-        };
-        let (limits, buckets) = (limits_of(&holders, &serials)?, buckets_of(&bits)?);
-        let mut threads = Vec::new(alloc);
-        for word in words {
-            threads.push(word)?;
-        }
-        Ok(Scene {
-            is_named,
-            limits,
-            buckets,
-            threads,
-        })
-    }
+/// The size that three numbers ask for.
+fn size_of(holders: &str, serials: &str, bits: &str) -> Result<Size> {
+    Ok(Size {
+        limits: limits_of(holders, serials)?,
+        buckets: buckets_of(bits)?,
+    })
 }
 
 /// The limits that the first two numbers ask for.
@@ -184,30 +173,56 @@ fn buckets_of(bits: &str) -> Result<Buckets> {
     Ok(buckets)
 }
 
-/// Makes the first calls of all threads, starts these, and prints what they did, and what the set is at the end.
-fn play<'e, S: Shared + Send + 'e, R: Threads + Wait + Print + Sync>(
+/// Adds the threads of the arguments to those, the first one first, and makes their first calls.
+fn push_starts<'c, S: Shared, R: Wait>(
+    rt: &R,
+    alloc: Global,
+    set: S,
+    clock: &'c AtomicU64,
+    threads: &'c [String],
+    starts: &mut Vec<Start<'c, S>>,
+) -> Result<()> {
+    let mut thread = 0u64;
+    for calls in threads {
+        thread = thread.saturating_add(1);
+        starts.push(Start::new(rt, alloc, set, clock, thread, calls.as_str())?)?;
+    }
+    Ok(())
+}
+
+/// Makes the first calls of all threads, starts these, and adds what they did to that.
+fn make_calls<'e, S: Shared + Send + 'e, R: Threads + Wait + Sync>(
     rt: &'e R,
+    alloc: Global,
     set: S,
     clock: &'e AtomicU64,
-    threads: &[String],
+    threads: &'e [String],
+    done: &mut Answers,
 ) -> Result<()>
 where
     S::Atom: Send,
 {
-    let mut starts = Vec::new(set.allocator());
-    let mut thread = 0u64;
-    for calls in threads {
-        thread = thread.saturating_add(1);
-        starts.push(Start::new(rt, set, clock, thread, calls)?)?;
-    }
+    let mut starts = Vec::new(alloc);
+    push_starts(rt, alloc, set, clock, threads, &mut starts)?;
     starts.reverse(); // so that the first is started first
-    let mut done = Vec::new(set.allocator());
-    run(rt, starts, &mut done)?;
-    for calls in done {
-        for call in calls?.iter() {
-            print_call(rt, call)?;
-        }
-    }
+    run(rt, starts, done)?;
+    Ok(())
+}
+
+/// Makes all calls, and prints what they did, and what the set is at the end.
+fn play<'e, S: Shared + Send + 'e, R: Threads + Wait + Print + Sync>(
+    rt: &'e R,
+    alloc: Global,
+    set: S,
+    clock: &'e AtomicU64,
+    threads: &'e [String],
+) -> Result<()>
+where
+    S::Atom: Send,
+{
+    let mut done = Vec::new(alloc);
+    make_calls(rt, alloc, set, clock, threads, &mut done)?;
+    print_all(rt, &done)?;
     print_end(rt, set)
 }
 
@@ -216,35 +231,69 @@ fn play_over_set<R: Threads + Wait + Print + Sync>(
     rt: &R,
     alloc: Global,
     clock: &AtomicU64,
-    scene: &Scene,
+    size: Size,
+    threads: &[String],
 ) -> Result<()> {
-    let set = Set::<EmptyStaticAtomSet>::with_buckets(alloc, scene.limits, scene.buckets)?;
-    play(rt, &set, clock, &scene.threads)
+    let set = Set::<EmptyStaticAtomSet>::with_buckets(alloc, size.limits, size.buckets)?;
+    play(rt, alloc, &set, clock, threads)
 }
 
-/// A scene over the set with this name.
-fn play_over_named<N: SetName + Send + Sync, R: Threads + Wait + Print + Sync>(
+/// A scene over a set that has a name.
+fn play_over_named<R: Threads + Wait + Print + Sync>(
     rt: &R,
     alloc: Global,
     clock: &AtomicU64,
-    scene: &Scene,
+    size: Size,
+    threads: &[String],
+) -> Result<()> {
+    let name = FreshName::new(alloc, size.buckets)?;
+    play_over_name::<Brand, R>(rt, alloc, clock, size.limits, threads, name)
+}
+
+/// The same, over the set with this name.
+fn play_over_name<N: SetName + Send + Sync, R: Threads + Wait + Print + Sync>(
+    rt: &R,
+    alloc: Global,
+    clock: &AtomicU64,
+    limits: Limits,
+    threads: &[String],
     name: FreshName,
 ) -> Result<()>
     requires { N.logs ≡ name.logs }
 {
-    let set = NamedSet::<EmptyStaticAtomSet, N>::new(alloc, name, scene.limits)?;
-    play(rt, &set, clock, &scene.threads)
+    let set = NamedSet::<EmptyStaticAtomSet, N>::new(alloc, name, limits)?;
+    play(rt, alloc, &set, clock, threads)
+}
+
+/// Plays the scene of a program's arguments, without the word `named`.
+fn play_words<R: Threads + Wait + Print + Sync>(
+    rt: &R,
+    alloc: Global,
+    clock: &AtomicU64,
+    words: &[String],
+    is_named: bool,
+) -> Result<()> {
+    let [holders, serials, bits, threads @ ..] = words else {
+        bail!("usage: schedules [named] HOLDERS SERIALS BITS CALLS/CALLS ..");
+    };
+    let size = size_of(holders.as_str(), serials.as_str(), bits.as_str())?;
+    if is_named {
+        play_over_named(rt, alloc, clock, size, threads)
+    } else {
+        play_over_set(rt, alloc, clock, size, threads)
+    }
 }
 
 fn main(rt: HostRuntime) -> Result<()> {
     let alloc = rt.alloc();
-    let scene = Scene::of_words(env::args(&rt)?, alloc)?;
+    let words: Vec<String> = env::args(&rt)?.skip(1).collect(alloc)?;
     let clock = AtomicU64::new(0);
     clock.fetch_add(CLOCK, Ordering::SeqCst);
     clock.store(0, Ordering::SeqCst);
-    if !scene.is_named {
-        return play_over_set(&rt, alloc, &clock, &scene);
+    match words.as_slice() {
+        [first, others @ ..] if first.as_str() == "named" => {
+            play_words(&rt, alloc, &clock, others, true)
+        }
+        all => play_words(&rt, alloc, &clock, all, false),
     }
-    let name = FreshName::new(alloc, scene.buckets)?;
-    play_over_named::<Brand, HostRuntime>(&rt, alloc, &clock, &scene, name)
 }

@@ -5,7 +5,6 @@ use crate::texts::Case;
 use named_atoms::NamedAtom;
 use named_set::{NamedSet, SetName};
 use serde_json::Value;
-use std::alloc::Global;
 use std::sync::Wait;
 use string_cache::dynamic_set::Set;
 use string_cache::{DefaultAtom, EmptyStaticAtomSet, Fault};
@@ -14,8 +13,6 @@ use string_cache::{DefaultAtom, EmptyStaticAtomSet, Fault};
 pub trait Shared: Copy {
     /// An atom of the set.
     type Atom: Drop;
-
-    fn allocator(self) -> Global;
 
     fn intern<R: Wait>(self, rt: &R, text: &str) -> Result<Self::Atom, Fault>;
 
@@ -45,10 +42,6 @@ pub trait Shared: Copy {
 
 impl<'s> Shared for &'s Set<EmptyStaticAtomSet> {
     type Atom = DefaultAtom<'s>;
-
-    fn allocator(self) -> Global {
-        Set::allocator(self)
-    }
 
     fn intern<R: Wait>(self, rt: &R, text: &str) -> Result<DefaultAtom<'s>, Fault> {
         DefaultAtom::from_str_in(rt, self, text)
@@ -105,10 +98,6 @@ impl<'s> Shared for &'s Set<EmptyStaticAtomSet> {
 
 impl<'s, N: SetName> Shared for &'s NamedSet<EmptyStaticAtomSet, N> {
     type Atom = NamedAtom<'s, EmptyStaticAtomSet, N>;
-
-    fn allocator(self) -> Global {
-        NamedSet::allocator(self)
-    }
 
     fn intern<R: Wait>(
         self,

@@ -7,6 +7,16 @@ pub enum Case {
     Upper,
 }
 
+impl Case {
+    /// The name of the call that puts an atom into it.
+    pub fn name(&self) -> &'static str {
+        match self {
+            Case::Lower => "lower",
+            Case::Upper => "upper",
+        }
+    }
+}
+
 /// A text in both cases.
 #[derive(Clone, Copy)]
 struct Text {

@@ -1,10 +1,11 @@
 //! A thread's atoms, and the calls that it makes one after another.
 
-use crate::calls::{Answer, Call, Done};
+use crate::calls::{Answer, Begun, Call, Done, Whole};
 use crate::seen::Seen;
 use crate::sets::Shared;
 use crate::texts::{Case, Word};
 use serde_json::Value;
+use std::alloc::Global;
 use std::sync::Wait;
 use std::sync::atomic::{AtomicU64, Ordering};
 use string_cache::Fault;
@@ -19,8 +20,21 @@ struct Kept<S: Shared> {
     word: Word,
 }
 
+impl<S: Shared> Kept<S> {
+    /// Its ticket, and whether it has its text.
+    fn answer(&self) -> Answer {
+        let ticket = S::ticket(&self.atom);
+        if S::is_of(&self.atom, self.word.as_str()) {
+            Answer::Ticket(ticket)
+        } else {
+            Answer::OtherText(ticket)
+        }
+    }
+}
+
 #[derive(Drop)]
 pub struct Worker<'c, S: Shared> {
+    alloc: Global,
     set: S,
     clock: &'c AtomicU64,
     thread: u64,
@@ -30,9 +44,14 @@ pub struct Worker<'c, S: Shared> {
 
 impl<'c, S: Shared> Worker<'c, S> {
     /// A worker without atoms.
-    pub fn new(set: S, clock: &'c AtomicU64, thread: u64) -> Result<Worker<'c, S>, Fault> {
-        let alloc = set.allocator();
+    pub fn new(
+        alloc: Global,
+        set: S,
+        clock: &'c AtomicU64,
+        thread: u64,
+    ) -> Result<Worker<'c, S>, Fault> {
         Ok(Worker {
+            alloc,
             set,
             clock,
             thread,
@@ -41,19 +60,34 @@ impl<'c, S: Shared> Worker<'c, S> {
         })
     }
 
-    /// Makes the calls, and then drops what atoms are left, the newest first. What each answered.
-    pub fn work<R: Wait>(mut self, rt: &R, calls: Vec<Call>) -> Result<Vec<Done>, Fault> {
-        for call in calls {
-            self.make(rt, call)?;
-        }
-        for _ in 0..self.atoms.len() {
-            self.let_go()?;
-        }
+    /// Makes the calls of these letters, and then drops what atoms are left, the newest first. What each answered.
+    pub fn work<R: Wait>(mut self, rt: &R, letters: &str) -> Result<Vec<Done>, Fault> {
+        self.make_all(rt, letters)?;
+        self.let_all_go()?;
         Ok(self.done)
     }
 
+    /// Makes the calls of these letters, up to the first one that stands for none.
+    pub fn make_all<R: Wait>(&mut self, rt: &R, letters: &str) -> Result<(), Fault> {
+        for letter in letters.bytes() {
+            match Call::of_letter(letter) {
+                Some(call) => self.make(rt, call)?,
+                None => break,
+            }
+        }
+        Ok(())
+    }
+
+    /// Drops its atoms, the newest first.
+    fn let_all_go(&mut self) -> Result<(), Fault> {
+        for _ in 0..self.atoms.len() {
+            self.let_go()?;
+        }
+        Ok(())
+    }
+
     /// Makes one call. One on an atom isn't made where there is none.
-    pub fn make<R: Wait>(&mut self, rt: &R, call: Call) -> Result<(), Fault> {
+    fn make<R: Wait>(&mut self, rt: &R, call: Call) -> Result<(), Fault> {
         match call {
             Call::Intern(word) => self.intern(rt, word),
             Call::Read(word) => self.read(rt, word),
@@ -61,10 +95,7 @@ impl<'c, S: Shared> Worker<'c, S> {
             Call::Clone => self.copy(rt),
             Call::Drop => self.let_go(),
             Call::ToCase(case) => self.change_case(rt, case),
-            Call::Sweep => self.sweep(rt),
-            Call::Linked => self.count(rt),
-            Call::Visit => self.visit(rt),
-            Call::Memory => self.measure(rt),
+            Call::Whole(call) => self.ask(rt, call),
         }
     }
 
@@ -73,77 +104,71 @@ impl<'c, S: Shared> Worker<'c, S> {
         self.clock.fetch_add(1, Ordering::SeqCst)
     }
 
-    fn note(
-        &mut self,
-        call: Call,
-        text: &'static str,
-        begun: u64,
-        answer: Answer,
-    ) -> Result<(), Fault> {
-        let ended = self.tick();
-        let thread = self.thread;
-        let call = call.name();
-        self.done.push(Done {
-            thread,
+    /// Marks that a call begins. `text` is what it is made on or asks for.
+    fn begin(&self, call: &'static str, text: &'static str) -> Begun {
+        Begun {
             call,
             text,
+            at: self.tick(),
+        }
+    }
+
+    /// Marks that a call ends, and notes what it answered.
+    fn end(&mut self, begun: Begun, answer: Answer) -> Result<(), Fault> {
+        let done = Done {
+            thread: self.thread,
             begun,
-            ended,
+            ended: self.tick(),
             answer,
-        })?;
+        };
+        self.done.push(done)?;
         Ok(())
     }
 
-    /// Notes a call that was to give an atom of the word, and keeps that. `text` is what it was made on or asked for.
+    /// Ends a call that was to give an atom of the word, and keeps that.
     fn keep(
         &mut self,
-        call: Call,
-        text: &'static str,
-        begun: u64,
+        begun: Begun,
         word: Word,
         given: Result<S::Atom, Fault>,
     ) -> Result<(), Fault> {
-        let answer = match &given {
-            Ok(atom) => {
-                let ticket = S::ticket(atom);
-                if S::is_of(atom, word.as_str()) {
-                    Answer::Ticket(ticket)
-                } else {
-                    Answer::OtherText(ticket)
-                }
-            }
-            Err(fault) => Answer::Fault(u64::from(fault.number())),
-        };
-        self.note(call, text, begun, answer)?;
-        if let Ok(atom) = given {
-            self.atoms.push(Kept { atom, word })?;
+        match given {
+            Ok(atom) => self.keep_atom(begun, Kept { atom, word }),
+            Err(fault) => self.end(begun, Answer::Fault(u64::from(fault.number()))),
         }
-        Ok(())
+    }
+
+    /// Keeps the atom that a call gave, and ends that.
+    fn keep_atom(&mut self, begun: Begun, kept: Kept<S>) -> Result<(), Fault> {
+        let answer = kept.answer();
+        self.atoms.push(kept)?;
+        self.end(begun, answer)
     }
 
     fn intern<R: Wait>(&mut self, rt: &R, word: Word) -> Result<(), Fault> {
-        let text = word.as_str();
-        let begun = self.tick();
-        let given = self.set.intern(rt, text);
-        self.keep(Call::Intern(word), text, begun, word, given)
+        let begun = self.begin("intern", word.as_str());
+        let given = self.set.intern(rt, begun.text);
+        self.keep(begun, word, given)
     }
 
     fn read<R: Wait>(&mut self, rt: &R, word: Word) -> Result<(), Fault> {
-        let text = word.as_str();
-        let value = Value::String(String::from_str(self.set.allocator(), text)?);
-        let begun = self.tick();
-        let given = self.set.read(rt, &value);
-        self.keep(Call::Read(word), text, begun, word, given)
+        let text = String::from_str(self.alloc, word.as_str())?;
+        self.read_value(rt, word, &Value::String(text))
+    }
+
+    /// Interns the word that a JSON value has.
+    fn read_value<R: Wait>(&mut self, rt: &R, word: Word, value: &Value) -> Result<(), Fault> {
+        let begun = self.begin("read", word.as_str());
+        let given = self.set.read(rt, value);
+        self.keep(begun, word, given)
     }
 
     fn find<R: Wait>(&mut self, rt: &R, word: Word) -> Result<(), Fault> {
-        let text = word.as_str();
-        let begun = self.tick();
-        let call = Call::Find(word);
-        match self.set.find(rt, text) {
-            Ok(None) => self.note(call, text, begun, Answer::Absent),
-            Ok(Some(atom)) => self.keep(call, text, begun, word, Ok(atom)),
-            Err(fault) => self.keep(call, text, begun, word, Err(fault)),
+        let begun = self.begin("find", word.as_str());
+        match self.set.find(rt, begun.text) {
+            Ok(None) => self.end(begun, Answer::Absent),
+            Ok(Some(atom)) => self.keep(begun, word, Ok(atom)),
+            Err(fault) => self.keep(begun, word, Err(fault)),
         }
     }
 
@@ -152,65 +177,55 @@ impl<'c, S: Shared> Worker<'c, S> {
             return Ok(());
         };
         let word = *word;
-        let begun = self.tick();
+        let begun = self.begin("clone", word.as_str());
         let given = S::copy(rt, atom);
-        self.keep(Call::Clone, word.as_str(), begun, word, given)
+        self.keep(begun, word, given)
     }
 
     fn change_case<R: Wait>(&mut self, rt: &R, case: Case) -> Result<(), Fault> {
-        let set = self.set;
-        let Some(kept) = self.atoms.last() else {
+        let Some(Kept { atom, word }) = self.atoms.last() else {
             return Ok(());
         };
-        let word = kept.word;
-        let begun = self.tick();
-        let given = set.in_case(rt, &kept.atom, case);
-        self.keep(
-            Call::ToCase(case),
-            word.as_str(),
-            begun,
-            word.in_case(case),
-            given,
-        )
+        let word = *word;
+        let begun = self.begin(case.name(), word.as_str());
+        let given = self.set.in_case(rt, atom, case);
+        self.keep(begun, word.in_case(case), given)
     }
 
     fn let_go(&mut self) -> Result<(), Fault> {
-        let Some(Kept { atom, word }) = self.atoms.pop() else {
+        let Some(kept) = self.atoms.pop() else {
             return Ok(());
         };
-        let ticket = S::ticket(&atom);
-        let answer = if S::is_of(&atom, word.as_str()) {
-            Answer::Ticket(ticket)
-        } else {
-            Answer::OtherText(ticket)
-        };
-        let begun = self.tick();
-        drop(atom);
-        self.note(Call::Drop, word.as_str(), begun, answer)
+        let answer = kept.answer();
+        let begun = self.begin("drop", kept.word.as_str());
+        drop(kept);
+        self.end(begun, answer)
     }
 
-    fn sweep<R: Wait>(&mut self, rt: &R) -> Result<(), Fault> {
-        let begun = self.tick();
-        self.set.sweep(rt);
-        self.note(Call::Sweep, "-", begun, Answer::Nothing)
+    /// Makes a call on the whole set.
+    fn ask<R: Wait>(&mut self, rt: &R, call: Whole) -> Result<(), Fault> {
+        let begun = self.begin(call.name(), "-");
+        let answer = ask_set(rt, self.set, call);
+        self.end(begun, answer)
     }
+}
 
-    fn count<R: Wait>(&mut self, rt: &R) -> Result<(), Fault> {
-        let begun = self.tick();
-        let linked = self.set.linked(rt);
-        self.note(Call::Linked, "-", begun, Answer::Linked(linked))
-    }
-
-    fn visit<R: Wait>(&mut self, rt: &R) -> Result<(), Fault> {
-        let begun = self.tick();
-        let mut seen = Seen::nothing();
-        self.set.visit(rt, &mut seen);
-        self.note(Call::Visit, "-", begun, seen.answer())
-    }
-
-    fn measure<R: Wait>(&mut self, rt: &R) -> Result<(), Fault> {
-        let begun = self.tick();
-        self.set.measure(rt);
-        self.note(Call::Memory, "-", begun, Answer::Nothing)
+/// What a call on the whole set answers.
+fn ask_set<S: Shared, R: Wait>(rt: &R, set: S, call: Whole) -> Answer {
+    match call {
+        Whole::Sweep => {
+            set.sweep(rt);
+            Answer::Nothing
+        }
+        Whole::Linked => Answer::Linked(set.linked(rt)),
+        Whole::Visit => {
+            let mut seen = Seen::nothing();
+            set.visit(rt, &mut seen);
+            seen.answer()
+        }
+        Whole::Memory => {
+            set.measure(rt);
+            Answer::Nothing
+        }
     }
 }
