@@ -10,38 +10,82 @@ mod scopes;
 use letters::State;
 use scopes::Scopes;
 use std::alloc::Global;
-use std::io::Read;
+use std::io::{Print, Read};
 
-/// The lines that tell of a text's names.
-fn names_of(alloc: Global, text: &str) -> Result<String, anyhow::Error> {
-    let mut scopes = Scopes::new(alloc)?;
-    let (mut state, mut begin, mut line) = (State::Between, 0, 1u64);
-    for (at, letter) in text.char_indices() {
-        let next = state.after(letter);
-        if state == State::Name && next != State::Name {
-            scopes.see(text.get(begin..at).unwrap_or(""), line)?;
+/// A text as far as it was read.
+#[derive(Drop)]
+struct Reader {
+    scopes: Scopes,
+    state: State,
+    /// Where the last name begins.
+    begin: usize,
+    line: u64,
+}
+
+impl Reader {
+    /// Nothing was read.
+    fn new(alloc: Global) -> Result<Self, anyhow::Error> {
+        Ok(Reader {
+            scopes: Scopes::new(alloc)?,
+            state: State::Between,
+            begin: 0,
+            line: 1,
+        })
+    }
+
+    /// Reads the whole text, as a block in which the others are.
+    fn read(&mut self, text: &str) -> Result<(), anyhow::Error> {
+        self.scopes.open(self.line)?;
+        for (at, letter) in text.char_indices() {
+            self.pass(text, at, self.state.after(letter))?;
+            self.mark(letter)?;
         }
-        if state != State::Name && next == State::Name {
-            begin = at;
+        self.pass(text, text.len(), State::Between)?;
+        self.scopes.end(self.line)?;
+        Ok(())
+    }
+
+    /// Reads the whole text, and prints what is told of its names.
+    fn print_names(&mut self, rt: &impl Print, text: &str) -> Result<(), anyhow::Error> {
+        self.read(text)?;
+        print!(rt; "{}", self.scopes.lines())?;
+        Ok(())
+    }
+
+    /// Comes to what is next at this place of the text: a name may begin there, and one that ends there is seen.
+    fn pass(&mut self, text: &str, at: usize, next: State) -> Result<(), anyhow::Error> {
+        let was_name = self.state == State::Name;
+        let is_name = next == State::Name;
+        self.state = next;
+        if is_name && !was_name {
+            self.begin = at;
         }
-        match (next, letter) {
-            (State::Between, '{') => scopes.open(line)?,
-            (State::Between, '}') => scopes.close(line)?,
-            (_, '\n') => line = line.saturating_add(1),
+        if was_name && !is_name {
+            let name = text.get(self.begin..at).unwrap_or("");
+            return self.scopes.see(name, self.line);
+        }
+        Ok(())
+    }
+
+    /// Opens or closes a block, or begins a line, if the letter that was read last says so.
+    fn mark(&mut self, letter: char) -> Result<(), anyhow::Error> {
+        match (self.state, letter) {
+            (State::Between, '{') => self.scopes.open(self.line)?,
+            (State::Between, '}') => self.scopes.close(self.line)?,
+            (_, '\n') => self.line = self.line.saturating_add(1),
             _ => {}
         }
-        state = next;
+        Ok(())
     }
-    if state == State::Name {
-        scopes.see(text.get(begin..).unwrap_or(""), line)?;
-    }
-    scopes.end(line)
+}
+
+/// Prints the lines that tell of a text's names.
+fn print_names(rt: &impl Print, alloc: Global, text: &str) -> Result<(), anyhow::Error> {
+    Reader::new(alloc)?.print_names(rt, text)
 }
 
 fn main(rt: HostRuntime) -> Result<(), anyhow::Error> {
     let mut text = String::new(rt.alloc());
     rt.stdin().read_to_string(&mut text)?;
-    let lines = names_of(rt.alloc(), text.as_str())?;
-    print!(rt; "{lines}")?;
-    Ok(())
+    print_names(&rt, rt.alloc(), text.as_str())
 }

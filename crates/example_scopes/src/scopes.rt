@@ -5,6 +5,7 @@ use indexmap::IndexMap;
 use std::alloc::{AllocError, Global};
 use std::fmt;
 use std::fmt::Write;
+use string_cache_core::Fault;
 use string_cache_core::static_sets::EmptyStaticAtomSet;
 use string_cache_core::table::Table;
 
@@ -47,16 +48,19 @@ pub struct Scopes {
 }
 
 impl Scopes {
-    /// The whole text, as a block that is open.
-    pub fn new(alloc: Global) -> Result<Self, anyhow::Error> {
-        let mut scopes = Scopes {
+    /// No block.
+    pub fn new(alloc: Global) -> Result<Self, Fault> {
+        Ok(Scopes {
             alloc,
             table: Table::new(alloc)?,
             open: Vec::new(alloc),
             lines: String::new(alloc),
-        };
-        scopes.open(1)?;
-        Ok(scopes)
+        })
+    }
+
+    /// What is told of the blocks that ended.
+    pub fn lines(&self) -> &str {
+        self.lines.as_str()
     }
 
     /// A block begins in this line.
@@ -101,14 +105,8 @@ impl Scopes {
         Ok(())
     }
 
-    /// The text ends in this line, and so does each block that is still open. What is told of all.
-    pub fn end(mut self, line: u64) -> Result<String, anyhow::Error> {
-        self.end_all(line)?;
-        Ok(self.lines)
-    }
-
-    /// Tells of the names of each block, the innermost first, and gives them up.
-    fn end_all(&mut self, line: u64) -> fmt::Result {
+    /// The text ends in this line, and so does each block that is still open, the innermost first.
+    pub fn end(&mut self, line: u64) -> fmt::Result {
         for _ in 0..self.open.len() {
             self.end_last(line)?;
         }
