@@ -24,20 +24,20 @@ struct Command {
 }
 
 /// What the words ask for, or `None` where they aren't two numbers.
-fn command_of(workers: &str, rounds: &str) -> Option<Command> {
+fn command_of(words: &[String]) -> Option<Command> {
+    let [workers, rounds] = words else {
+        return None;
+    };
     Some(Command {
-        workers: workers.parse::<usize>().ok()?,
-        rounds: rounds.parse::<u64>().ok()?,
+        workers: workers.as_str().parse::<usize>().ok()?,
+        rounds: rounds.as_str().parse::<u64>().ok()?,
     })
 }
 
 /// `None` where the arguments aren't two numbers.
 fn asked_for(rt: &(impl Env + AllocGlobal)) -> Result<Option<Command>, anyhow::Error> {
     let words: Vec<String> = env::args(rt)?.skip(1).collect(rt.alloc())?;
-    Ok(match words.as_slice() {
-        [workers, rounds] => command_of(workers.as_str(), rounds.as_str()),
-        _ => None,
-    })
+    Ok(command_of(words.as_slice()))
 }
 
 /// What is left of the work.

@@ -22,6 +22,31 @@ struct Kept<'s> {
     case: Case,
 }
 
+impl<'s> Kept<'s> {
+    /// An atom of the same text in this case, or in its own.
+    fn again<R: Wait>(
+        &self,
+        rt: &R,
+        set: &'s Set<EmptyStaticAtomSet>,
+        case: Option<Case>,
+    ) -> Result<Kept<'s>, Fault> {
+        Ok(Kept {
+            atom: match case {
+                None => self.atom.clone_atom(rt)?,
+                Some(Case::Lower) => self.atom.to_ascii_lowercase_in(rt, set)?,
+                Some(Case::Upper) => self.atom.to_ascii_uppercase_in(rt, set)?,
+            },
+            text: self.text,
+            case: case.unwrap_or(self.case),
+        })
+    }
+
+    /// Whether it has its text.
+    fn is_right(&self) -> bool {
+        self.atom.eq_str(self.text.in_case(self.case))
+    }
+}
+
 #[derive(Drop)]
 pub struct Worker<'s, R: Wait> {
     rt: &'s R,
@@ -56,8 +81,11 @@ impl<'s, R: Wait> Worker<'s, R> {
     fn act(&mut self) -> Result<(), Fault> {
         match self.rng.random_range(0..1000u32) {
             0..200 => self.intern(),
-            200..300 => self.copy(),
-            300..400 => self.change_case(),
+            200..300 => self.renew(None),
+            300..400 => {
+                let case = self.any_case();
+                self.renew(Some(case))
+            }
             400..999 => {
                 self.let_go();
                 Ok(())
@@ -86,13 +114,18 @@ impl<'s, R: Wait> Worker<'s, R> {
         Some(self.rng.random_range(0..count))
     }
 
-    /// Keeps an atom while there is room, and sees whether it has its text.
-    fn keep(&mut self, atom: DefaultAtom<'s>, text: Text, case: Case) -> Result<(), Fault> {
-        if !atom.eq_str(text.in_case(case)) {
+    /// Sees whether an atom has its text.
+    fn see(&mut self, kept: &Kept<'s>) {
+        if !kept.is_right() {
             self.wrong = self.wrong.saturating_add(1);
         }
+    }
+
+    /// Keeps an atom while there is room, and sees whether it has its text.
+    fn keep(&mut self, kept: Kept<'s>) -> Result<(), Fault> {
+        self.see(&kept);
         if self.kept.len() < MOST {
-            self.kept.push(Kept { atom, text, case })?;
+            self.kept.push(kept)?;
         }
         Ok(())
     }
@@ -103,34 +136,20 @@ impl<'s, R: Wait> Worker<'s, R> {
             return Ok(());
         };
         let atom = DefaultAtom::from_str_in(self.rt, self.set, text.in_case(case))?;
-        self.keep(atom, *text, case)
-    }
-
-    fn copy(&mut self) -> Result<(), Fault> {
-        let Some(at) = self.any_kept() else {
-            return Ok(());
-        };
-        let Some(Kept { atom, text, case }) = self.kept.get(at) else {
-            return Ok(());
-        };
-        let (atom, text, case) = (atom.clone_atom(self.rt)?, *text, *case);
-        self.keep(atom, text, case)
-    }
-
-    fn change_case(&mut self) -> Result<(), Fault> {
-        let case = self.any_case();
-        let Some(at) = self.any_kept() else {
-            return Ok(());
-        };
-        let Some(Kept { atom, text, .. }) = self.kept.get(at) else {
-            return Ok(());
-        };
         let text = *text;
-        let atom = match case {
-            Case::Lower => atom.to_ascii_lowercase_in(self.rt, self.set)?,
-            Case::Upper => atom.to_ascii_uppercase_in(self.rt, self.set)?,
+        self.keep(Kept { atom, text, case })
+    }
+
+    /// Makes another atom of one that it has: of its text in this case, or a clone.
+    fn renew(&mut self, case: Option<Case>) -> Result<(), Fault> {
+        let Some(at) = self.any_kept() else {
+            return Ok(());
         };
-        self.keep(atom, text, case)
+        let Some(kept) = self.kept.get(at) else {
+            return Ok(());
+        };
+        let again = kept.again(self.rt, self.set, case)?;
+        self.keep(again)
     }
 
     /// Lets one of its atoms go, which has kept its text till then.
@@ -139,10 +158,8 @@ impl<'s, R: Wait> Worker<'s, R> {
             return;
         };
         if at < self.kept.len() {
-            let Kept { atom, text, case } = self.kept.swap_remove(at);
-            if !atom.eq_str(text.in_case(case)) {
-                self.wrong = self.wrong.saturating_add(1);
-            }
+            let kept = self.kept.swap_remove(at);
+            self.see(&kept);
         }
     }
 }
