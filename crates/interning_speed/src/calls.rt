@@ -16,7 +16,7 @@ pub fn intern_all<S: Shared, R: Wait>(
     atoms: &mut Vec<S::Atom>,
 ) -> Result<(), Fault> {
     for text in texts {
-        atoms.push(set.intern(rt, text.as_str())?)?;
+        set.push(rt, text.as_str(), atoms)?;
     }
     Ok(())
 }
@@ -28,7 +28,7 @@ fn clone_all<S: Shared, R: Wait>(
     clones: &mut Vec<S::Atom>,
 ) -> Result<(), Fault> {
     for atom in atoms {
-        clones.push(S::copy(rt, atom)?)?;
+        S::push_clone(rt, atom, clones)?;
     }
     Ok(())
 }

@@ -39,42 +39,32 @@ const TURNED: [&str; 8] = [
     "background-color",
 ];
 
-/// A set whose atoms tell of themselves.
+/// A set whose atoms tell of themselves, and are dropped at once.
 trait Telling: Shared {
-    /// How many bytes an atom's text has.
-    fn length(atom: &Self::Atom) -> usize;
+    /// Interns the texts in turn, so many times, and drops each atom at once. How often that had the text's length.
+    fn intern_all<R: Wait>(self, rt: &R, rounds: usize, texts: &[&str]) -> Result<usize, Fault>;
 
-    /// Whether an atom's text is kept in the set.
-    fn is_dynamic(atom: &Self::Atom) -> bool;
+    /// Whether a clone's text is kept in the set.
+    fn is_clone_dynamic<R: Wait>(rt: &R, atom: &Self::Atom) -> Result<bool, Fault>;
 }
 
 impl<'s, Static: StaticAtomSet> Telling for &'s Set<Static> {
-    #[inline]
-    fn length(atom: &Atom<'s, Static>) -> usize {
-        atom.as_str().len()
-    }
-
-    #[inline]
-    fn is_dynamic(atom: &Atom<'s, Static>) -> bool {
-        atom.is_dynamic()
-    }
-}
-
-/// Interns the texts in turn, so many times, and drops each atom at once. How often that had the text's length.
-fn intern_all<S: Telling, R: Wait>(
-    rt: &R,
-    set: S,
-    rounds: usize,
-    texts: &[&str],
-) -> Result<usize, Fault> {
-    let mut done = 0usize;
-    for _round in 0..rounds {
-        for text in texts {
-            let atom = set.intern(rt, text)?;
-            done = done.wrapping_add(usize::from(S::length(&atom) == text.len()));
+    fn intern_all<R: Wait>(self, rt: &R, rounds: usize, texts: &[&str]) -> Result<usize, Fault> {
+        let mut done = 0usize;
+        for _round in 0..rounds {
+            for text in texts {
+                let atom = Atom::from_str_in(rt, self, text)?;
+                done = done.wrapping_add(usize::from(atom.as_str().len() == text.len()));
+            }
         }
+        Ok(done)
     }
-    Ok(done)
+
+    #[inline]
+    fn is_clone_dynamic<R: Wait>(rt: &R, atom: &Atom<'s, Static>) -> Result<bool, Fault> {
+        let clone = atom.clone_atom(rt)?;
+        Ok(clone.is_dynamic())
+    }
 }
 
 /// Clones the atoms in turn, so many times, and drops each clone at once. How often that was one whose text the set keeps.
@@ -86,8 +76,7 @@ fn clone_all<S: Telling, R: Wait>(
     let mut done = 0usize;
     for _round in 0..rounds {
         for atom in atoms {
-            let clone = S::copy(rt, atom)?;
-            done = done.wrapping_add(usize::from(S::is_dynamic(&clone)));
+            done = done.wrapping_add(usize::from(S::is_clone_dynamic(rt, atom)?));
         }
     }
     Ok(done)
@@ -101,7 +90,7 @@ fn push_atoms<S: Shared, R: Wait>(
     atoms: &mut Vec<S::Atom>,
 ) -> Result<(), Fault> {
     for text in texts {
-        atoms.push(set.intern(rt, text)?)?;
+        set.push(rt, text, atoms)?;
     }
     Ok(())
 }
@@ -133,7 +122,7 @@ impl<'s, S: Telling, R: Wait + Clock> Hot<'s, S, R> {
     /// Interns the texts in turn, and drops each atom at once.
     fn intern(&mut self, name: &'static str, texts: &[&str]) -> Result<(), anyhow::Error> {
         let start = Instant::now(self.rt)?;
-        let done = intern_all(self.rt, self.set, self.rounds, texts)?;
+        let done = self.set.intern_all(self.rt, self.rounds, texts)?;
         self.note(name, texts.len(), done, start)
     }
 

@@ -23,15 +23,18 @@ trait Keyed: Shared {
     /// An atom as a key by its word.
     type Key: Drop + Eq + Hash;
 
-    /// The key that an atom is.
-    fn key_of(atom: Self::Atom) -> Self::Key;
+    /// A clone of an atom, as a key.
+    fn key_of<R: Wait>(rt: &R, atom: &Self::Atom) -> Result<Self::Key, Fault>;
 }
 
 impl<'s, N: SetName> Keyed for &'s NamedSet<EmptyStaticAtomSet, N> {
     type Key = ByWord<'s, EmptyStaticAtomSet, N>;
 
-    fn key_of(atom: NamedAtom<'s, EmptyStaticAtomSet, N>) -> ByWord<'s, EmptyStaticAtomSet, N> {
-        ByWord::new(atom)
+    fn key_of<R: Wait>(
+        rt: &R,
+        atom: &NamedAtom<'s, EmptyStaticAtomSet, N>,
+    ) -> Result<ByWord<'s, EmptyStaticAtomSet, N>, Fault> {
+        Ok(ByWord::new(atom.clone_atom(rt)?))
     }
 }
 
@@ -59,11 +62,6 @@ impl<K: Drop + Eq + Hash> Places<K> {
     }
 }
 
-/// Another atom of the same word, as a key.
-fn key_again<S: Keyed, R: Wait>(rt: &R, atom: &S::Atom) -> Result<S::Key, Fault> {
-    Ok(S::key_of(S::copy(rt, atom)?))
-}
-
 /// Adds the words of the atoms to a map, and to its list.
 fn place_all<S: Keyed, R: Wait>(
     rt: &R,
@@ -71,8 +69,8 @@ fn place_all<S: Keyed, R: Wait>(
     places: &mut Places<S::Key>,
 ) -> Result<(), Fault> {
     for (place, atom) in atoms.iter().enumerate() {
-        places.keys.push(key_again::<S, R>(rt, atom)?)?;
-        places.put(key_again::<S, R>(rt, atom)?, place)?;
+        places.keys.push(S::key_of(rt, atom)?)?;
+        places.put(S::key_of(rt, atom)?, place)?;
     }
     Ok(())
 }
@@ -91,22 +89,29 @@ fn places_of<S: Keyed, R: Wait>(
     Ok(places)
 }
 
-/// The atom of a long text.
-fn long_one<S: Shared, R: Wait>(rt: &R, alloc: Global, set: S) -> Result<S::Atom, Fault> {
+/// Adds the atom of a long text to those.
+fn push_long<S: Shared, R: Wait>(
+    rt: &R,
+    alloc: Global,
+    set: S,
+    atoms: &mut Vec<S::Atom>,
+) -> Result<(), Fault> {
     let text = "interned, ".repeat(alloc, 1000)?;
-    set.intern(rt, text.as_str())
+    set.push(rt, text.as_str(), atoms)
 }
 
-/// Adds so many pairs of clones of an atom.
+/// Adds so many pairs of clones of each of these atoms.
 fn pair_clones<S: Shared, R: Wait>(
     rt: &R,
-    atom: &S::Atom,
+    atoms: &[S::Atom],
     count: usize,
     pairs: &mut Pairs<S::Atom>,
 ) -> Result<(), Fault> {
-    for _pair in 0..count {
-        pairs.lefts.push(S::copy(rt, atom)?)?;
-        pairs.rights.push(S::copy(rt, atom)?)?;
+    for atom in atoms {
+        for _pair in 0..count {
+            S::push_clone(rt, atom, &mut pairs.lefts)?;
+            S::push_clone(rt, atom, &mut pairs.rights)?;
+        }
     }
     Ok(())
 }
@@ -118,9 +123,10 @@ fn long_pairs<S: Shared, R: Wait>(
     set: S,
     count: usize,
 ) -> Result<Pairs<S::Atom>, Fault> {
-    let atom = long_one(rt, alloc, set)?;
+    let mut atoms = Vec::new(alloc);
+    push_long(rt, alloc, set, &mut atoms)?;
     let mut pairs = Pairs::with_capacity(alloc, count)?;
-    pair_clones::<S, R>(rt, &atom, count, &mut pairs)?;
+    pair_clones::<S, R>(rt, &atoms, count, &mut pairs)?;
     Ok(pairs)
 }
 

@@ -11,24 +11,39 @@ pub trait Shared: Copy {
     /// An atom of the set.
     type Atom: Drop + PartialEq;
 
-    /// The atom of a text.
-    fn intern<R: Wait>(self, rt: &R, text: &str) -> Result<Self::Atom, Fault>;
+    /// Adds the atom of a text to those.
+    fn push<R: Wait>(self, rt: &R, text: &str, atoms: &mut Vec<Self::Atom>) -> Result<(), Fault>;
 
-    /// A clone of an atom.
-    fn copy<R: Wait>(rt: &R, atom: &Self::Atom) -> Result<Self::Atom, Fault>;
+    /// Adds a clone of an atom to those.
+    fn push_clone<R: Wait>(
+        rt: &R,
+        atom: &Self::Atom,
+        clones: &mut Vec<Self::Atom>,
+    ) -> Result<(), Fault>;
 }
 
 impl<'s, Static: StaticAtomSet> Shared for &'s Set<Static> {
     type Atom = Atom<'s, Static>;
 
     #[inline]
-    fn intern<R: Wait>(self, rt: &R, text: &str) -> Result<Atom<'s, Static>, Fault> {
-        Atom::from_str_in(rt, self, text)
+    fn push<R: Wait>(
+        self,
+        rt: &R,
+        text: &str,
+        atoms: &mut Vec<Atom<'s, Static>>,
+    ) -> Result<(), Fault> {
+        atoms.push(Atom::from_str_in(rt, self, text)?)?;
+        Ok(())
     }
 
     #[inline]
-    fn copy<R: Wait>(rt: &R, atom: &Atom<'s, Static>) -> Result<Atom<'s, Static>, Fault> {
-        atom.clone_atom(rt)
+    fn push_clone<R: Wait>(
+        rt: &R,
+        atom: &Atom<'s, Static>,
+        clones: &mut Vec<Atom<'s, Static>>,
+    ) -> Result<(), Fault> {
+        clones.push(atom.clone_atom(rt)?)?;
+        Ok(())
     }
 }
 
@@ -36,19 +51,23 @@ impl<'s, N: SetName> Shared for &'s NamedSet<EmptyStaticAtomSet, N> {
     type Atom = NamedAtom<'s, EmptyStaticAtomSet, N>;
 
     #[inline]
-    fn intern<R: Wait>(
+    fn push<R: Wait>(
         self,
         rt: &R,
         text: &str,
-    ) -> Result<NamedAtom<'s, EmptyStaticAtomSet, N>, Fault> {
-        NamedAtom::from_str_in(rt, self, text)
+        atoms: &mut Vec<NamedAtom<'s, EmptyStaticAtomSet, N>>,
+    ) -> Result<(), Fault> {
+        atoms.push(NamedAtom::from_str_in(rt, self, text)?)?;
+        Ok(())
     }
 
     #[inline]
-    fn copy<R: Wait>(
+    fn push_clone<R: Wait>(
         rt: &R,
         atom: &NamedAtom<'s, EmptyStaticAtomSet, N>,
-    ) -> Result<NamedAtom<'s, EmptyStaticAtomSet, N>, Fault> {
-        atom.clone_atom(rt)
+        clones: &mut Vec<NamedAtom<'s, EmptyStaticAtomSet, N>>,
+    ) -> Result<(), Fault> {
+        clones.push(atom.clone_atom(rt)?)?;
+        Ok(())
     }
 }
