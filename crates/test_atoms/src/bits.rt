@@ -2,9 +2,9 @@
 //! bucket times 4.
 
 use crate::samples::{
-    BITS, DefaultSet, buckets_of, check_atom, check_linked, drop_under_locks, intern, one_bucket,
-    word_of,
+    BITS, DefaultSet, buckets_of, check_linked, drop_under_locks, intern, word_of,
 };
+use crate::scenes::{Step, play_in_one_bucket};
 use std::alloc::Global;
 use std::process::Abort;
 use std::sync::Wait;
@@ -87,17 +87,17 @@ fn words_have_the_bits_of_their_set(rt: HostRuntime) {
     }
 }
 
-fn check_tickets<R: Wait + Abort>(rt: &R, set: &DefaultSet) {
-    let first = intern(rt, set, "interned");
-    let second = intern(rt, set, "tokenised");
-    check_atom(rt, &first, "interned", 0x1_0000);
-    check_atom(rt, &second, "tokenised", 0x2_0000);
-    check_linked(rt, set, 2);
-}
+const TICKETS: [Step; 5] = [
+    Step::Intern("interned"),
+    Step::Intern("tokenised"),
+    Step::Is(0, "interned", 0x1_0000),
+    Step::Is(1, "tokenised", 0x2_0000),
+    Step::Linked(2),
+];
 
 #[test]
 fn one_bucket_gives_all_tickets(rt: HostRuntime) {
-    check_tickets(&rt, &one_bucket(&rt, rt.alloc()));
+    play_in_one_bucket(&rt, rt.alloc(), &TICKETS);
 }
 
 /// A text of the bucket, if one of a million has it.
@@ -114,7 +114,7 @@ fn text_of_bucket(alloc: Global, buckets: Buckets, place: usize) -> Option<Strin
 /// Checks that this many entries are linked, also once they die as the atoms are dropped, and that a sweep takes them all.
 fn check_sweep<R: Wait + Abort, A: Drop>(rt: &R, set: &DefaultSet, atoms: A, count: u128) {
     check_linked(rt, set, count);
-    drop_under_locks(rt, set.allocator(), set, atoms).expect(rt, "room");
+    drop_under_locks(rt, set, atoms);
     check_linked(rt, set, count);
     set.sweep(rt);
     check_linked(rt, set, 0);

@@ -1,6 +1,6 @@
 //! One entry in each bucket of a set: held, then dying, then gone.
 
-use crate::samples::{DefaultSet, buckets_of, drop_under_locks, intern};
+use crate::samples::{DefaultSet, buckets_of, drop_under_locks, intern, shown};
 use std::alloc::Global;
 use std::process::Abort;
 use std::sync::Wait;
@@ -87,13 +87,10 @@ fn found<R: Wait + Abort>(rt: &R, set: &DefaultSet, texts: &[String]) -> usize {
     number
 }
 
-/// How many entries a visit shows with as many holders.
-fn visited<R: Wait>(rt: &R, set: &DefaultSet, holders: u64) -> usize {
-    let mut number = 0usize;
-    set.for_each(rt, |_, shown| {
-        number = number.saturating_add(usize::from(shown == holders));
-    });
-    number
+/// Whether a visit shows as many entries, each with as many holders.
+fn visits<R: Wait>(rt: &R, set: &DefaultSet, number: usize, holders: u64) -> bool {
+    let shown = shown(rt, set);
+    shown.entries == number as u64 && shown.fewest == holders && shown.most == holders
 }
 
 /// The bytes of a bucket, and those that an entry of 15 bytes takes with its node.
@@ -104,7 +101,7 @@ const ENTRY: u128 = 48 + 40 + 16;
 /// Whether the set shows as many entries with these holders, of which each has a bucket of its own.
 fn has_entries<R: Wait>(rt: &R, set: &DefaultSet, number: usize, holders: u64) -> bool {
     set.linked(rt) == number as u128
-        && visited(rt, set, holders) == number
+        && visits(rt, set, number, holders)
         && set.memory(rt) == number as u128 * (BUCKET + ENTRY)
 }
 
@@ -122,7 +119,7 @@ fn are_held<R: Wait + Abort>(rt: &R, set: &DefaultSet, texts: &[String]) -> bool
 fn are_found_till_they_die<R: Wait + Abort>(rt: &R, set: &DefaultSet, texts: &[String]) -> bool {
     let atoms = atoms_of(rt, set, texts);
     let are_held = are_held(rt, set, texts);
-    drop_under_locks(rt, set.allocator(), set, atoms).expect(rt, "room");
+    drop_under_locks(rt, set, atoms);
     are_held
 }
 

@@ -35,6 +35,8 @@ mod printed;
 #[cfg(test)]
 mod samples;
 #[cfg(test)]
+mod scenes;
+#[cfg(test)]
 mod single_tries;
 #[cfg(test)]
 mod texts;

@@ -3,9 +3,8 @@
 
 mod unlocked;
 
-use crate::samples::{
-    DefaultSet, check_atom, check_linked, clone_of, default_set, intern, lock_of,
-};
+use crate::samples::{DefaultSet, check_linked, default_set, intern, lock_of, locks_but, shown};
+use crate::scenes::{self, Step, are_free, play_in_new};
 use std::alloc::Global;
 use std::process::Abort;
 use std::sync::atomic::{AtomicBool, Ordering};
@@ -14,34 +13,12 @@ use std::thread::{self, Threads};
 use std::time::{Clock, Duration};
 use string_cache::dynamic_set::{Bucket, Set};
 use string_cache::static_sets::{EmptyStaticAtomSet, StaticTables};
-use string_cache::word::ticket_word;
 use string_cache::{Atom, DefaultAtom};
 use test_calls::{has_word, look_up};
 
-fn is_free(bucket: &Mutex<Bucket<EmptyStaticAtomSet>>) -> bool {
-    bucket.try_lock().is_some()
-}
-
-/// Whether each lock is free but this one's, or each, where there is no such bucket.
-fn are_free(set: &DefaultSet, held: usize) -> bool {
-    for (at, bucket) in set.buckets().iter().enumerate() {
-        if is_free(bucket) == (at == held) {
-            return false;
-        }
-    }
-    true
-}
-
-/// What is done with a new set.
+/// What is done with a new set beside another thread.
 #[derive(Clone, Copy)]
 enum Scene {
-    LastDrop,
-    DyingIsNotFound,
-    DyingGetsNew,
-    HeldStay,
-    SweepReachesEach,
-    OneOfTwoShares,
-    LastDropPrunesItsOwn,
     OneBucket,
     Waits(Call, u128),
     SweepGoesOn,
@@ -51,13 +28,6 @@ enum Scene {
 /// Plays the scene in a set.
 fn play_in<R: Threads + Clock + Wait + Abort + Sync>(rt: &R, set: &DefaultSet, scene: Scene) {
     match scene {
-        Scene::LastDrop => drop_last(rt, set),
-        Scene::DyingIsNotFound => look_up_dying(rt, set),
-        Scene::DyingGetsNew => intern_dying(rt, set),
-        Scene::HeldStay => keep_held(rt, set),
-        Scene::SweepReachesEach => sweep_each(rt, set),
-        Scene::OneOfTwoShares => drop_one_of_two(rt, set),
-        Scene::LastDropPrunesItsOwn => drop_beside_dying(rt, set),
         Scene::OneBucket => intern_beside(rt, set),
         Scene::Waits(call, wanted) => wait_for_last(rt, set, call, wanted),
         Scene::SweepGoesOn => sweep_on(rt, set),
@@ -70,64 +40,61 @@ fn play<R: Threads + Clock + Wait + Abort + Sync>(rt: &R, alloc: Global, scene: 
     play_in(rt, &default_set(rt, alloc), scene);
 }
 
-/// The atoms of two texts.
-pub fn two_atoms<'s, R: Wait + Abort>(
-    rt: &R,
-    set: &'s DefaultSet,
-    first: &str,
-    second: &str,
-) -> (DefaultAtom<'s>, DefaultAtom<'s>) {
-    (intern(rt, set, first), intern(rt, set, second))
-}
+/// The words of "interned", which is the first text, and comes again.
+const INTERNED: u64 = 0x1_0840;
 
-/// Interns a text and drops its atom while its bucket's lock is held, the other buckets' locks being free: the entry dies and stays.
-fn let_die<R: Wait + Abort>(rt: &R, set: &DefaultSet) {
-    let atom = intern(rt, set, "interned");
-    let held = lock_of(rt, set, 0x210);
-    assert!(rt; are_free(set, 0x210));
-    drop(atom);
-    drop(held);
-    check_linked(rt, set, 1);
-}
+const INTERNED_AGAIN: u64 = 0x2_0840;
 
-fn drop_last<R: Wait + Abort>(rt: &R, set: &DefaultSet) {
-    let_die(rt, set);
-    set.sweep(rt);
-    check_linked(rt, set, 0);
-}
+/// A text's atom goes while its bucket's lock is held: the entry dies and stays, till it is swept.
+const LAST_DROP: [Step; 8] = [
+    Step::Intern("interned"),
+    Step::Lock(0x210),
+    Step::FreeBut(0x210),
+    Step::Drop(0),
+    Step::Unlock,
+    Step::Linked(1),
+    Step::Sweep,
+    Step::Linked(0),
+];
 
 /// The other buckets' locks are free meanwhile, and the drop returns.
 #[test]
 fn last_drop_under_a_held_lock(rt: HostRuntime) {
-    play(&rt, rt.alloc(), Scene::LastDrop);
+    play_in_new(&rt, rt.alloc(), &LAST_DROP);
 }
 
-fn look_up_dying<R: Wait + Abort>(rt: &R, set: &DefaultSet) {
-    let_die(rt, set);
-    assert!(rt;
-        look_up(rt, set, "interned")
-            .expect(rt, "an answer")
-            .is_none()
-    );
-    check_linked(rt, set, 0);
-}
+const DYING_LOOKED_UP: [Step; 8] = [
+    Step::Intern("interned"),
+    Step::Lock(0x210),
+    Step::FreeBut(0x210),
+    Step::Drop(0),
+    Step::Unlock,
+    Step::Linked(1),
+    Step::Absent("interned"),
+    Step::Linked(0),
+];
 
 /// What is looked up takes the dying entry out, and finds nothing.
 #[test]
 fn text_of_a_dying_entry_is_not_found(rt: HostRuntime) {
-    play(&rt, rt.alloc(), Scene::DyingIsNotFound);
+    play_in_new(&rt, rt.alloc(), &DYING_LOOKED_UP);
 }
 
-fn intern_dying<R: Wait + Abort>(rt: &R, set: &DefaultSet) {
-    let_die(rt, set);
-    let next = intern(rt, set, "interned");
-    check_atom(rt, &next, "interned", ticket_word(2, 0x210));
-    check_linked(rt, set, 1);
-}
+const DYING_INTERNED: [Step; 9] = [
+    Step::Intern("interned"),
+    Step::Lock(0x210),
+    Step::FreeBut(0x210),
+    Step::Drop(0),
+    Step::Unlock,
+    Step::Linked(1),
+    Step::Intern("interned"),
+    Step::Is(1, "interned", INTERNED_AGAIN),
+    Step::Linked(1),
+];
 
 #[test]
 fn text_of_a_dying_entry_gets_a_new_one(rt: HostRuntime) {
-    play(&rt, rt.alloc(), Scene::DyingGetsNew);
+    play_in_new(&rt, rt.alloc(), &DYING_INTERNED);
 }
 
 /// The words of "forgotten" and "magnitude", where these are the first two texts.
@@ -135,109 +102,102 @@ const FORGOTTEN: u64 = 0x1_1cbc;
 
 const MAGNITUDE: u64 = 0x2_1cbc;
 
-/// Interns a text that is held already.
-fn check_again<R: Wait + Abort>(rt: &R, set: &DefaultSet, text: &str, word: u64) {
-    check_atom(rt, &intern(rt, set, text), text, word);
-}
-
-/// Interns both held texts again, and sweeps: neither goes.
-fn check_held<R: Wait + Abort>(rt: &R, set: &DefaultSet) {
-    for _ in 0..2 {
-        check_again(rt, set, "forgotten", FORGOTTEN);
-        check_again(rt, set, "magnitude", MAGNITUDE);
-        set.sweep(rt);
-        check_linked(rt, set, 2);
-    }
-}
-
-fn keep_held<R: Wait + Abort>(rt: &R, set: &DefaultSet) {
-    let forgotten = intern(rt, set, "forgotten");
-    let magnitude = intern(rt, set, "magnitude");
-    check_atom(rt, &forgotten, "forgotten", FORGOTTEN);
-    check_atom(rt, &magnitude, "magnitude", MAGNITUDE);
-    check_held(rt, set);
-    drop(forgotten);
-    check_linked(rt, set, 1);
-    check_atom(rt, &magnitude, "magnitude", MAGNITUDE);
-}
+/// Both held texts are interned again, and swept: neither goes.
+const HELD_STAY: [Step; 15] = [
+    Step::Intern("forgotten"),
+    Step::Intern("magnitude"),
+    Step::Is(0, "forgotten", FORGOTTEN),
+    Step::Is(1, "magnitude", MAGNITUDE),
+    Step::Word("forgotten", FORGOTTEN),
+    Step::Word("magnitude", MAGNITUDE),
+    Step::Sweep,
+    Step::Linked(2),
+    Step::Word("forgotten", FORGOTTEN),
+    Step::Word("magnitude", MAGNITUDE),
+    Step::Sweep,
+    Step::Linked(2),
+    Step::Drop(0),
+    Step::Linked(1),
+    Step::Is(1, "magnitude", MAGNITUDE),
+];
 
 /// Passes for the other text, interning both again, sweeps and drops that aren't the last leave an entry that has a share.
 #[test]
 fn held_texts_stay_linked(rt: HostRuntime) {
-    play(&rt, rt.alloc(), Scene::HeldStay);
+    play_in_new(&rt, rt.alloc(), &HELD_STAY);
 }
 
-/// Drops atoms while the locks of the first bucket, the last one and one between are held.
-pub fn drop_under_three_locks<R: Wait + Abort, A: Drop>(rt: &R, set: &DefaultSet, atoms: A) {
-    let _first = lock_of(rt, set, 0);
-    let _second = lock_of(rt, set, 0x72f);
-    let _last = lock_of(rt, set, 0xfff);
-    drop(atoms);
-}
-
-fn sweep_each<R: Wait + Abort>(rt: &R, set: &DefaultSet) {
-    let ends = two_atoms(rt, set, "afterwards", "geometric");
-    let between = two_atoms(rt, set, "forgotten", "magnitude");
-    check_linked(rt, set, 4);
-    drop_under_three_locks(rt, set, (ends, between));
-    check_linked(rt, set, 4);
-    set.sweep(rt);
-    check_linked(rt, set, 0);
-}
+/// The locks of the first bucket, the last one and one between are held while the atoms go.
+const SWEEP_EACH: [Step; 13] = [
+    Step::Intern("afterwards"),
+    Step::Intern("geometric"),
+    Step::Intern("forgotten"),
+    Step::Intern("magnitude"),
+    Step::Linked(4),
+    Step::Lock(0),
+    Step::Lock(0x72f),
+    Step::Lock(0xfff),
+    Step::Keep(0),
+    Step::Unlock,
+    Step::Linked(4),
+    Step::Sweep,
+    Step::Linked(0),
+];
 
 /// Entries die under held locks, so that their own drops leave them linked.
 #[test]
 fn sweep_reaches_each_bucket(rt: HostRuntime) {
-    play(&rt, rt.alloc(), Scene::SweepReachesEach);
+    play_in_new(&rt, rt.alloc(), &SWEEP_EACH);
 }
 
-fn drop_one_of_two<R: Wait + Abort>(rt: &R, set: &DefaultSet) {
-    let dying = intern(rt, set, "forgotten");
-    let first = intern(rt, set, "magnitude");
-    let second = clone_of(rt, &first);
-    let held = lock_of(rt, set, 0x72f);
-    drop(dying);
-    drop(held);
-    drop(second);
-    check_linked(rt, set, 2);
-    drop(first);
-    check_linked(rt, set, 0);
-}
+const ONE_OF_TWO_SHARES: [Step; 10] = [
+    Step::Intern("forgotten"),
+    Step::Intern("magnitude"),
+    Step::Make(scenes::Call::Clone(1)),
+    Step::Lock(0x72f),
+    Step::Drop(0),
+    Step::Unlock,
+    Step::Drop(2),
+    Step::Linked(2),
+    Step::Drop(1),
+    Step::Linked(0),
+];
 
 #[test]
 fn drop_of_one_of_two_shares_takes_out_nothing(rt: HostRuntime) {
-    play(&rt, rt.alloc(), Scene::OneOfTwoShares);
+    play_in_new(&rt, rt.alloc(), &ONE_OF_TWO_SHARES);
 }
 
-fn drop_beside_dying<R: Wait + Abort>(rt: &R, set: &DefaultSet) {
-    let atom = intern(rt, set, "interned");
-    drop_under_three_locks(rt, set, two_atoms(rt, set, "afterwards", "geometric"));
-    drop(atom);
-    assert!(rt; are_free(set, usize::MAX));
-    for _ in 0..2 {
-        check_linked(rt, set, 2);
-    }
-}
+const BESIDE_DYING: [Step; 13] = [
+    Step::Intern("interned"),
+    Step::Intern("afterwards"),
+    Step::Intern("geometric"),
+    Step::Lock(0),
+    Step::Lock(0x72f),
+    Step::Lock(0xfff),
+    Step::Drop(1),
+    Step::Drop(2),
+    Step::Unlock,
+    Step::Drop(0),
+    Step::FreeBut(usize::MAX),
+    Step::Linked(2),
+    Step::Linked(2),
+];
 
 /// Entries of other buckets that died under their locks stay linked, and no lock is kept.
 #[test]
 fn last_drop_prunes_its_own_bucket_alone(rt: HostRuntime) {
-    play(&rt, rt.alloc(), Scene::LastDropPrunesItsOwn);
+    play_in_new(&rt, rt.alloc(), &BESIDE_DYING);
 }
 
-/// The locks of all buckets but the one at this place, or of all, where there is no such bucket.
-fn locks_but<'s, R: Wait + Abort, Static: StaticTables>(
+/// The atoms of two texts.
+fn two_atoms<'s, R: Wait + Abort>(
     rt: &R,
-    set: &'s Set<Static>,
-    free: usize,
-) -> Vec<MutexGuard<'s, Bucket<Static>>> {
-    let mut held = Vec::new(set.allocator());
-    for (at, bucket) in set.buckets().iter().enumerate() {
-        if at != free {
-            held.push(bucket.lock(rt)).expect(rt, "room");
-        }
-    }
-    held
+    set: &'s DefaultSet,
+    first: &str,
+    second: &str,
+) -> (DefaultAtom<'s>, DefaultAtom<'s>) {
+    (intern(rt, set, first), intern(rt, set, second))
 }
 
 /// What the call gives, and whether it ended while this thread had the locks. They are let go after `most` milliseconds at the latest.
@@ -285,9 +245,6 @@ fn has_found<R: Wait, Static: StaticTables>(
     }
 }
 
-/// The word of "interned", where it is the first text.
-const INTERNED: u64 = 0x1_0840;
-
 /// Interns a text that is held already, and looks it up.
 fn intern_again<R: Wait + Abort>(rt: &R, set: &DefaultSet) -> bool {
     let second = intern(rt, set, "interned");
@@ -321,18 +278,11 @@ enum Call {
     Sweep,
 }
 
-/// How many holders the visited entries have.
-fn count_holders<R: Wait>(rt: &R, set: &DefaultSet) -> u64 {
-    let mut count = 0u64;
-    set.for_each(rt, |_, holders| count = count.saturating_add(holders));
-    count
-}
-
 /// What the call tells: how many entries are linked, how many holders they have, or the bytes of the set. A sweep tells nothing.
 fn told<R: Wait>(rt: &R, set: &DefaultSet, call: Call) -> u128 {
     match call {
         Call::Linked => set.linked(rt),
-        Call::Visits => u128::from(count_holders(rt, set)),
+        Call::Visits => u128::from(shown(rt, set).holders),
         Call::Memory => set.memory(rt),
         Call::Sweep => {
             set.sweep(rt);

@@ -1,6 +1,6 @@
 //! More holders, entries and serials of one bucket than 16 bits count.
 
-use crate::samples::{DefaultSet, clone_of, intern, lock_of, one_bucket, word_of};
+use crate::samples::{DefaultSet, clone_of, intern, lock_of, one_bucket, shown, word_of};
 use std::alloc::Global;
 use std::process::Abort;
 use std::sync::Wait;
@@ -32,13 +32,8 @@ fn ask<R: Wait + Abort>(rt: &R, alloc: Global, question: Question) {
 
 /// How many entries a visit shows, and how many holders they have together.
 fn visited<R: Wait>(rt: &R, set: &DefaultSet) -> (u64, u64) {
-    let mut number = 0u64;
-    let mut all = 0u64;
-    set.for_each(rt, |_, holders| {
-        number = number.saturating_add(1);
-        all = all.saturating_add(holders);
-    });
-    (number, all)
+    let shown = shown(rt, set);
+    (shown.entries, shown.holders)
 }
 
 /// So many clones of an atom.

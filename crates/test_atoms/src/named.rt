@@ -360,10 +360,15 @@ fn memory_of<N: SetName, R: Wait + Abort>(rt: &R, set: &Named<N>, text: &str) ->
     set.memory(rt).saturating_sub(before)
 }
 
+/// Drops what there is.
+fn end<T: Drop>(last: &mut Option<T>) {
+    *last = None;
+}
+
 /// Drops an atom while a look holds the lock.
 fn drop_in_a_look<N: SetName, R: Wait + Abort>(rt: &R, set: &Named<N>) {
     let mut last = Some(interned(rt, set, "tokenised"));
-    set.for_each(rt, |_, _| last = None);
+    set.for_each(rt, |_, _| end(&mut last));
 }
 
 /// An atom that goes while a look holds the lock leaves its cell linked without a holder, and a sweep takes it out.

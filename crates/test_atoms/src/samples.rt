@@ -1,14 +1,14 @@
 //! What tests of this crate share: sets, atoms and numbers of buckets. They say nothing of what they do, so that each test is proved in a
 //! moment.
 
-use std::alloc::{AllocError, Global};
+use std::alloc::Global;
 use std::process::Abort;
 use std::sync::{MutexGuard, Wait};
+use string_cache::Atom;
 use string_cache::dynamic_set::{Bucket, Set};
 use string_cache::static_sets::{EmptyStaticAtomSet, StaticTables};
 use string_cache::word::Buckets;
-use string_cache::{Atom, DefaultAtom};
-use test_calls::{cloned, interned, limited, locked, made, made_with};
+use test_calls::{cloned, interned, limited, links, locked, made, made_with};
 
 /// A set without static texts.
 pub type DefaultSet = Set<EmptyStaticAtomSet>;
@@ -73,29 +73,58 @@ pub fn lock_of<'s, R: Wait + Abort>(
     locked(rt, set, at).expect(rt, "a bucket")
 }
 
-/// Checks that this many entries are linked.
-pub fn check_linked<R: Wait + Abort>(rt: &R, set: &DefaultSet, count: u128) {
-    assert_eq!(rt; set.linked(rt), count);
+/// What a visit of a set's entries shows: how many there are, how many holders they have together, and how many an entry has at the least
+/// and at the most.
+#[derive(Clone, Copy)]
+pub struct Visit {
+    pub entries: u64,
+    pub holders: u64,
+    pub fewest: u64,
+    pub most: u64,
 }
 
-/// Checks that an atom of a text has this word and the text.
-pub fn check_atom(rt: &impl Abort, atom: &DefaultAtom<'_>, text: &str, word: u64) {
-    assert!(rt; atom.as_str() == text);
-    assert_eq!(rt; atom.unsafe_data(), word);
+impl Visit {
+    fn add(&mut self, holders: u64) {
+        self.entries = self.entries.saturating_add(1);
+        self.holders = self.holders.saturating_add(holders);
+        self.fewest = self.fewest.min(holders);
+        self.most = self.most.max(holders);
+    }
+}
+
+pub fn shown<R: Wait>(rt: &R, set: &DefaultSet) -> Visit {
+    let mut shown = Visit {
+        entries: 0,
+        holders: 0,
+        fewest: u64::MAX,
+        most: 0,
+    };
+    set.for_each(rt, |_, holders| shown.add(holders));
+    shown
+}
+
+/// Checks that this many entries are linked.
+pub fn check_linked<R: Wait + Abort>(rt: &R, set: &DefaultSet, count: u128) {
+    assert!(rt; links(rt, set, count));
+}
+
+/// The locks of all buckets but the one at this place, or of all, where there is no such bucket.
+pub fn locks_but<'s, R: Wait + Abort, Static: StaticTables>(
+    rt: &R,
+    set: &'s Set<Static>,
+    free: usize,
+) -> Vec<MutexGuard<'s, Bucket<Static>>> {
+    let mut held = Vec::new(set.allocator());
+    for (at, bucket) in set.buckets().iter().enumerate() {
+        if at != free {
+            held.push(bucket.lock(rt)).expect(rt, "room");
+        }
+    }
+    held
 }
 
 /// Drops the atoms while all locks of their set are held, so that their entries die and stay linked.
-pub fn drop_under_locks<R: Wait, A: Drop>(
-    rt: &R,
-    alloc: Global,
-    set: &DefaultSet,
-    atoms: A,
-) -> Result<(), AllocError> {
-    let mut held = Vec::with_capacity(alloc, set.buckets().len())?;
-    for bucket in set.buckets() {
-        held.push(bucket.lock(rt))?;
-    }
+pub fn drop_under_locks<R: Wait + Abort, A: Drop>(rt: &R, set: &DefaultSet, atoms: A) {
+    let _held = locks_but(rt, set, usize::MAX);
     drop(atoms);
-    drop(held);
-    Ok(())
 }

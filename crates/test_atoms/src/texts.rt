@@ -400,9 +400,7 @@ fn check_upper<R: Wait + Abort, Static: StaticTables>(
     atom: &Atom<'_, Static>,
 ) {
     let upper = upper_of(rt, set, atom);
-    assert!(rt; has_length(&upper, 300_000));
-    assert!(rt; upper != *atom);
-    assert!(rt; upper.eq_ignore_ascii_case(atom));
+    assert!(rt; has_length(&upper, 300_000) && upper != *atom && upper.eq_ignore_ascii_case(atom));
 }
 
 /// Checks the atom of a long text, its other case, and its copies.

@@ -60,11 +60,10 @@ fn threads_at_work(rt: HostRuntime) {
 }
 
 /// Clones and drops the atom, again and again.
-fn clone_and_drop<R: Wait>(rt: &R, atom: &DefaultAtom) -> Result<(), Fault> {
+fn clone_and_drop<R: Wait + Abort>(rt: &R, atom: &DefaultAtom<'_>) {
     for _ in 0..30_000 {
-        drop(cloned(rt, atom)?);
+        drop(clone_of(rt, atom));
     }
-    Ok(())
 }
 
 fn takes_no_more<R: Wait>(rt: &R, atom: &DefaultAtom<'_>) -> bool {
@@ -79,9 +78,7 @@ fn takes_two_more<R: Wait + Abort>(rt: &R, atom: &DefaultAtom<'_>) -> bool {
 }
 
 fn clone_in_two<R: Threads + Wait + Abort + Sync>(rt: &R, atom: &DefaultAtom<'_>) {
-    let (left, right) = thread::join(rt, || clone_and_drop(rt, atom), || clone_and_drop(rt, atom));
-    left.expect(rt, "an answer");
-    right.expect(rt, "an answer");
+    thread::join(rt, || clone_and_drop(rt, atom), || clone_and_drop(rt, atom));
 }
 
 /// Shares the only atom of a set between two threads.

@@ -2,7 +2,7 @@
 
 use super::{Fake, check_share, link, new_bucket, tickets};
 use crate::crowds::numbered;
-use crate::samples::{DefaultSet, check_atom, check_linked, intern, lock_of, one_bucket};
+use crate::samples::{DefaultSet, check_linked, intern, lock_of, one_bucket};
 use std::alloc::Global;
 use std::process::Abort;
 use std::sync::Wait;
@@ -11,6 +11,7 @@ use string_cache::dynamic_set::{Bucket, Share};
 use string_cache::static_sets::EmptyStaticAtomSet;
 use string_cache::word::{Limits, ticket_word};
 use string_cache::{DefaultAtom, Fault};
+use test_calls::is_of;
 
 /// Links a text, once more where there is no memory: a refused link leaves the bucket as it was.
 fn link_again<R: Abort>(
@@ -143,7 +144,7 @@ fn atom_of<'s, R: Wait + Abort>(
     word: u64,
 ) -> DefaultAtom<'s> {
     let atom = intern(rt, set, text);
-    check_atom(rt, &atom, text, word);
+    assert!(rt; is_of(&atom, word, text));
     atom
 }
 

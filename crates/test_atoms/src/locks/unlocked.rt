@@ -1,7 +1,7 @@
 //! Calls that take no lock.
 
-use super::{beside, has_found, locks_but};
-use crate::samples::{clone_of, intern, new_set};
+use super::{beside, has_found};
+use crate::samples::{clone_of, intern, locks_but, new_set};
 use serde_json::Value;
 use std::process::Abort;
 use std::sync::Wait;

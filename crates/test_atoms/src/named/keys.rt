@@ -4,6 +4,7 @@ use super::calls::{Named, interned, is_of};
 use named_atoms::ByWord;
 use named_set::SetName;
 use std::collections::HashMap;
+use std::hash::Hash;
 use std::process::Abort;
 use std::sync::Wait;
 use test_samples::One;
@@ -33,11 +34,7 @@ fn put<'s, N: SetName, R: Wait + Abort>(
 }
 
 /// Whether this is the place under a key.
-fn has_place<'s, N: SetName>(
-    places: &Places<'s, N>,
-    key: &ByWord<'s, One, N>,
-    place: Option<u32>,
-) -> bool {
+fn has_place<K: Hash + Eq>(places: &HashMap<K, u32>, key: &K, place: Option<u32>) -> bool {
     places.get(key).copied() == place
 }
 

@@ -72,24 +72,23 @@ fn gives<S: StaticTables>(rt: &impl Abort, alloc: Global, text: &str, word: u64)
     interns(&mut new_table::<S>(rt, alloc), text, word)
 }
 
-/// How many texts the table holds once it has this one.
-fn entries_with<S: StaticTables>(table: &mut Table<S>, text: &str) -> Result<usize, Fault> {
-    let _ = table.intern(text)?;
-    Ok(table.entries())
+/// Whether the table holds so many texts once it has this one.
+fn has_then<S: StaticTables>(table: &mut Table<S>, text: &str, number: usize) -> bool {
+    table.intern(text).is_ok() && table.entries() == number
 }
 
-/// How many a table of its own holds then.
-fn held<S: StaticTables>(rt: &impl Abort, alloc: Global, text: &str) -> Result<usize, Fault> {
-    entries_with(&mut new_table::<S>(rt, alloc), text)
+/// Whether a table of its own holds so many then.
+fn holds<S: StaticTables>(rt: &impl Abort, alloc: Global, text: &str, number: usize) -> bool {
+    has_then(&mut new_table::<S>(rt, alloc), text, number)
 }
 
 #[test]
 fn tables_hold_what_is_not_listed(rt: HostRuntime) {
     let alloc = rt.alloc();
     assert!(rt; gives::<Dishes>(&rt, alloc, "味噌汁", static_word(1)));
-    assert!(rt; held::<Dishes>(&rt, alloc, "味噌汁") == Ok(0));
-    assert!(rt; held::<Dishes>(&rt, alloc, "minestrones") == Ok(1));
-    assert!(rt; held::<Misplaced>(&rt, alloc, "sentence") == Ok(1));
+    assert!(rt; holds::<Dishes>(&rt, alloc, "味噌汁", 0));
+    assert!(rt; holds::<Dishes>(&rt, alloc, "minestrones", 1));
+    assert!(rt; holds::<Misplaced>(&rt, alloc, "sentence", 1));
 }
 
 /// What a world replies to a party that would intern the text.
