@@ -6,32 +6,6 @@ use std::alloc::{AllocError, Global};
 use std::rt::Clock;
 use std::sync::Wait;
 use std::time::Instant;
-use string_cache::Fault;
-
-/// Interns the texts, and adds their atoms to those.
-pub fn intern_all<S: Shared, R: Wait>(
-    rt: &R,
-    set: S,
-    texts: &[String],
-    atoms: &mut Vec<S::Atom>,
-) -> Result<(), Fault> {
-    for text in texts {
-        set.push(rt, text.as_str(), atoms)?;
-    }
-    Ok(())
-}
-
-/// Clones the atoms, and adds the clones to those.
-fn clone_all<S: Shared, R: Wait>(
-    rt: &R,
-    atoms: &[S::Atom],
-    clones: &mut Vec<S::Atom>,
-) -> Result<(), Fault> {
-    for atom in atoms {
-        S::push_clone(rt, atom, clones)?;
-    }
-    Ok(())
-}
 
 /// Drops the atoms, the last one first. How many that were, and how long it took.
 pub fn drop_all<T: Drop, R: Clock>(
@@ -103,7 +77,7 @@ impl<'s, S: Shared, R: Wait + Clock> Timed<'s, S, R> {
         atoms: &mut Vec<S::Atom>,
     ) -> Result<(), anyhow::Error> {
         let start = Instant::now(self.rt)?;
-        intern_all(self.rt, self.set, texts, atoms)?;
+        self.set.intern_all(self.rt, texts, atoms)?;
         self.phases
             .note(self.rt, name, texts.len(), atoms.len(), start)
     }
@@ -126,7 +100,7 @@ impl<'s, S: Shared, R: Wait + Clock> Timed<'s, S, R> {
         clones: &mut Vec<S::Atom>,
     ) -> Result<(), anyhow::Error> {
         let start = Instant::now(self.rt)?;
-        clone_all::<S, R>(self.rt, atoms, clones)?;
+        S::clone_all(self.rt, atoms, clones)?;
         self.phases
             .note(self.rt, "clone", atoms.len(), clones.len(), start)
     }

@@ -1,6 +1,5 @@
 //! Interning by several threads at once.
 
-use crate::calls;
 use crate::phases::{Phase, Phases};
 use crate::sets::Shared;
 use crate::texts::Texts;
@@ -28,7 +27,7 @@ fn intern_own<S: Shared, R: Wait>(
         texts.again()
     };
     let mut atoms = Vec::with_capacity(alloc, own.len())?;
-    calls::intern_all(rt, set, own, &mut atoms)?;
+    set.intern_all(rt, own, &mut atoms)?;
     Ok(atoms)
 }
 

@@ -42,14 +42,14 @@ const TURNED: [&str; 8] = [
 /// A set whose atoms tell of themselves, and are dropped at once.
 trait Telling: Shared {
     /// Interns the texts in turn, so many times, and drops each atom at once. How often that had the text's length.
-    fn intern_all<R: Wait>(self, rt: &R, rounds: usize, texts: &[&str]) -> Result<usize, Fault>;
+    fn intern_rounds<R: Wait>(self, rt: &R, rounds: usize, texts: &[&str]) -> Result<usize, Fault>;
 
     /// Whether a clone's text is kept in the set.
     fn is_clone_dynamic<R: Wait>(rt: &R, atom: &Self::Atom) -> Result<bool, Fault>;
 }
 
 impl<'s, Static: StaticAtomSet> Telling for &'s Set<Static> {
-    fn intern_all<R: Wait>(self, rt: &R, rounds: usize, texts: &[&str]) -> Result<usize, Fault> {
+    fn intern_rounds<R: Wait>(self, rt: &R, rounds: usize, texts: &[&str]) -> Result<usize, Fault> {
         let mut done = 0usize;
         for _round in 0..rounds {
             for text in texts {
@@ -122,7 +122,7 @@ impl<'s, S: Telling, R: Wait + Clock> Hot<'s, S, R> {
     /// Interns the texts in turn, and drops each atom at once.
     fn intern(&mut self, name: &'static str, texts: &[&str]) -> Result<(), anyhow::Error> {
         let start = Instant::now(self.rt)?;
-        let done = self.set.intern_all(self.rt, self.rounds, texts)?;
+        let done = self.set.intern_rounds(self.rt, self.rounds, texts)?;
         self.note(name, texts.len(), done, start)
     }
 

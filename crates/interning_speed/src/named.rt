@@ -107,11 +107,9 @@ fn pair_clones<S: Shared, R: Wait>(
     count: usize,
     pairs: &mut Pairs<S::Atom>,
 ) -> Result<(), Fault> {
-    for atom in atoms {
-        for _pair in 0..count {
-            S::push_clone(rt, atom, &mut pairs.lefts)?;
-            S::push_clone(rt, atom, &mut pairs.rights)?;
-        }
+    for _pair in 0..count {
+        S::clone_all(rt, atoms, &mut pairs.lefts)?;
+        S::clone_all(rt, atoms, &mut pairs.rights)?;
     }
     Ok(())
 }

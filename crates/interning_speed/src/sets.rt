@@ -14,10 +14,18 @@ pub trait Shared: Copy {
     /// Adds the atom of a text to those.
     fn push<R: Wait>(self, rt: &R, text: &str, atoms: &mut Vec<Self::Atom>) -> Result<(), Fault>;
 
-    /// Adds a clone of an atom to those.
-    fn push_clone<R: Wait>(
+    /// Interns the texts, and adds their atoms to those.
+    fn intern_all<R: Wait>(
+        self,
         rt: &R,
-        atom: &Self::Atom,
+        texts: &[String],
+        atoms: &mut Vec<Self::Atom>,
+    ) -> Result<(), Fault>;
+
+    /// Clones the atoms, and adds the clones to those.
+    fn clone_all<R: Wait>(
+        rt: &R,
+        atoms: &[Self::Atom],
         clones: &mut Vec<Self::Atom>,
     ) -> Result<(), Fault>;
 }
@@ -25,7 +33,6 @@ pub trait Shared: Copy {
 impl<'s, Static: StaticAtomSet> Shared for &'s Set<Static> {
     type Atom = Atom<'s, Static>;
 
-    #[inline]
     fn push<R: Wait>(
         self,
         rt: &R,
@@ -36,13 +43,26 @@ impl<'s, Static: StaticAtomSet> Shared for &'s Set<Static> {
         Ok(())
     }
 
-    #[inline]
-    fn push_clone<R: Wait>(
+    fn intern_all<R: Wait>(
+        self,
         rt: &R,
-        atom: &Atom<'s, Static>,
+        texts: &[String],
+        atoms: &mut Vec<Atom<'s, Static>>,
+    ) -> Result<(), Fault> {
+        for text in texts {
+            atoms.push(Atom::from_str_in(rt, self, text.as_str())?)?;
+        }
+        Ok(())
+    }
+
+    fn clone_all<R: Wait>(
+        rt: &R,
+        atoms: &[Atom<'s, Static>],
         clones: &mut Vec<Atom<'s, Static>>,
     ) -> Result<(), Fault> {
-        clones.push(atom.clone_atom(rt)?)?;
+        for atom in atoms {
+            clones.push(atom.clone_atom(rt)?)?;
+        }
         Ok(())
     }
 }
@@ -50,7 +70,6 @@ impl<'s, Static: StaticAtomSet> Shared for &'s Set<Static> {
 impl<'s, N: SetName> Shared for &'s NamedSet<EmptyStaticAtomSet, N> {
     type Atom = NamedAtom<'s, EmptyStaticAtomSet, N>;
 
-    #[inline]
     fn push<R: Wait>(
         self,
         rt: &R,
@@ -61,13 +80,26 @@ impl<'s, N: SetName> Shared for &'s NamedSet<EmptyStaticAtomSet, N> {
         Ok(())
     }
 
-    #[inline]
-    fn push_clone<R: Wait>(
+    fn intern_all<R: Wait>(
+        self,
         rt: &R,
-        atom: &NamedAtom<'s, EmptyStaticAtomSet, N>,
+        texts: &[String],
+        atoms: &mut Vec<NamedAtom<'s, EmptyStaticAtomSet, N>>,
+    ) -> Result<(), Fault> {
+        for text in texts {
+            atoms.push(NamedAtom::from_str_in(rt, self, text.as_str())?)?;
+        }
+        Ok(())
+    }
+
+    fn clone_all<R: Wait>(
+        rt: &R,
+        atoms: &[NamedAtom<'s, EmptyStaticAtomSet, N>],
         clones: &mut Vec<NamedAtom<'s, EmptyStaticAtomSet, N>>,
     ) -> Result<(), Fault> {
-        clones.push(atom.clone_atom(rt)?)?;
+        for atom in atoms {
+            clones.push(atom.clone_atom(rt)?)?;
+        }
         Ok(())
     }
 }
