@@ -4,7 +4,7 @@ use crate::calls::{Pairs, compare_all};
 use crate::elements::Elements;
 use crate::phases::Phases;
 use crate::sets::Shared;
-use std::alloc::Global;
+use std::alloc::{AllocError, Global};
 use std::rt::Clock;
 use std::sync::Wait;
 use std::time::Instant;
@@ -82,17 +82,25 @@ fn clone_all<S: Telling, R: Wait>(
     Ok(done)
 }
 
+/// The texts, each in memory of its own.
+fn owned(alloc: Global, texts: &[&str]) -> Result<Vec<String>, AllocError> {
+    let mut strings = Vec::new(alloc);
+    for text in texts {
+        strings.push(String::from_str(alloc, text)?)?;
+    }
+    Ok(strings)
+}
+
 /// Adds the atoms of the texts to those.
 fn push_atoms<S: Shared, R: Wait>(
     rt: &R,
+    alloc: Global,
     set: S,
     texts: &[&str],
     atoms: &mut Vec<S::Atom>,
 ) -> Result<(), Fault> {
-    for text in texts {
-        set.push(rt, text, atoms)?;
-    }
-    Ok(())
+    let texts = owned(alloc, texts)?;
+    set.intern_all(rt, &texts, atoms)
 }
 
 /// A set, and what was timed on it.
@@ -136,7 +144,7 @@ impl<'s, S: Telling, R: Wait + Clock> Hot<'s, S, R> {
     /// Interns texts that are held, and clones their atoms.
     fn intern_and_clone_held(&mut self) -> Result<(), anyhow::Error> {
         let mut held = Vec::new(self.alloc);
-        push_atoms(self.rt, self.set, &DYNAMIC, &mut held)?;
+        push_atoms(self.rt, self.alloc, self.set, &DYNAMIC, &mut held)?;
         self.intern("intern and drop, dynamic and held", &DYNAMIC)?;
         self.clone_all("clone and drop", &held)
     }
@@ -150,8 +158,8 @@ impl<'s, S: Telling, R: Wait + Clock> Hot<'s, S, R> {
         is_equal: bool,
     ) -> Result<(), anyhow::Error> {
         let mut pairs = Pairs::with_capacity(self.alloc, lefts.len())?;
-        push_atoms(self.rt, self.set, lefts, &mut pairs.lefts)?;
-        push_atoms(self.rt, self.set, rights, &mut pairs.rights)?;
+        push_atoms(self.rt, self.alloc, self.set, lefts, &mut pairs.lefts)?;
+        push_atoms(self.rt, self.alloc, self.set, rights, &mut pairs.rights)?;
         self.compare_pairs(name, &pairs, is_equal)
     }
 

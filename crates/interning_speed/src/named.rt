@@ -96,8 +96,9 @@ fn push_long<S: Shared, R: Wait>(
     set: S,
     atoms: &mut Vec<S::Atom>,
 ) -> Result<(), Fault> {
-    let text = "interned, ".repeat(alloc, 1000)?;
-    set.push(rt, text.as_str(), atoms)
+    let mut texts = Vec::new(alloc);
+    texts.push("interned, ".repeat(alloc, 1000)?)?;
+    set.intern_all(rt, &texts, atoms)
 }
 
 /// Adds so many pairs of clones of each of these atoms.

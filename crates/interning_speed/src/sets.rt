@@ -11,9 +11,6 @@ pub trait Shared: Copy {
     /// An atom of the set.
     type Atom: Drop + PartialEq;
 
-    /// Adds the atom of a text to those.
-    fn push<R: Wait>(self, rt: &R, text: &str, atoms: &mut Vec<Self::Atom>) -> Result<(), Fault>;
-
     /// Interns the texts, and adds their atoms to those.
     fn intern_all<R: Wait>(
         self,
@@ -32,16 +29,6 @@ pub trait Shared: Copy {
 
 impl<'s, Static: StaticAtomSet> Shared for &'s Set<Static> {
     type Atom = Atom<'s, Static>;
-
-    fn push<R: Wait>(
-        self,
-        rt: &R,
-        text: &str,
-        atoms: &mut Vec<Atom<'s, Static>>,
-    ) -> Result<(), Fault> {
-        atoms.push(Atom::from_str_in(rt, self, text)?)?;
-        Ok(())
-    }
 
     fn intern_all<R: Wait>(
         self,
@@ -69,16 +56,6 @@ impl<'s, Static: StaticAtomSet> Shared for &'s Set<Static> {
 
 impl<'s, N: SetName> Shared for &'s NamedSet<EmptyStaticAtomSet, N> {
     type Atom = NamedAtom<'s, EmptyStaticAtomSet, N>;
-
-    fn push<R: Wait>(
-        self,
-        rt: &R,
-        text: &str,
-        atoms: &mut Vec<NamedAtom<'s, EmptyStaticAtomSet, N>>,
-    ) -> Result<(), Fault> {
-        atoms.push(NamedAtom::from_str_in(rt, self, text)?)?;
-        Ok(())
-    }
 
     fn intern_all<R: Wait>(
         self,
