@@ -31,6 +31,7 @@ TOLD = re.compile(r"^fn (\S+): (.*)$", re.MULTILINE)
 PROVED = ("proved", "assumed")
 CALLS = re.compile(r"no proof: it calls [^;]*, which (?:is|are) not proved")  # nothing else is missing
 PARTS = ("src", "specs", "proofs")  # what a check reads of a crate
+NOTHING = ("nothing", "//! Nothing.\n")  # a crate that has nothing, and the text of its root
 LEFT = re.compile(r"`search` did not prove ((?:`[^`]*`(?:, (?:and )?| and )?)+)")
 MEASURE = re.compile(r"expected a measure in ")
 GOAL = re.compile(r"`([^`]*)`")
@@ -126,13 +127,28 @@ def copies_of(names, room):
         own, copy = (top / "crates" / name / part for top in (TOP, room))
         if own.is_dir():
             shutil.copytree(own, copy)
+    root = root_of_nothing(room / "crates")
+    root.parent.mkdir(parents=True, exist_ok=True)
+    root.write_text(NOTHING[1], encoding="utf-8")
     return {name: room / "crates" / name for name in names}
 
 
+def root_of_nothing(crates_folder):
+    """The root of the crate that has nothing, beside the crates of a copy."""
+    return crates_folder.parent / NOTHING[0] / "lib.rt"
+
+
 def checker_of(folder):
-    """The words of a check of the crate in this folder of a copy, over the libraries there."""
+    """The words of a check of the crate in this folder of a copy, over the libraries there. A library isn't checked by itself, but below a
+    crate that has nothing: for the crate by itself the checker runs once more, to print what could be written into the proofs of each
+    function that it refuses."""
     words = crates()[folder.name].words(["--jobs", "1"], keeps=False)
     own = [word.replace(f"{TOP}/crates/", f"{folder.parent}/") for word in words]
+    _, name, root, *below = own[: own.index("--links")]
+    if root == "src/lib.rt":
+        used = ",".join(word.partition("=")[0] for option, word in zip(below, below[1:]) if option == "--extern")
+        library = ["--lib", f"{name}:{used}={root}"]
+        own = ["--crate-name", NOTHING[0], str(root_of_nothing(folder.parent)), *library, *below, "--jobs", "1"]
     return [str(kit() / "bin" / "rattle"), "check", *own, "--incremental", "out/incremental"]
 
 
