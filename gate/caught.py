@@ -5,8 +5,8 @@ They are applied to copies of the repository, and the tests are built there with
 side in one build, from which each body gets a program of its own (gate/shared_builds.py). One that changes more than bodies of functions,
 or doesn't compile beside its own, has a build to itself.
 
-- 'test: FUNCTION' has to fail. What threads do wrong may not show at once, so a test that passes is run again until a minute has gone. It
-  has to pass as often in the same build without the body.
+- 'test: FUNCTION' has to fail, or not to end in thirty times as long as it takes without the body. What threads do wrong may not show at
+  once, so a test that passes is run again until a minute has gone. It has to pass as often in the same build without the body.
 - 'refused: FUNCTION', a test of a module `refusals`, has to be found WRONG as gate/refused.py judges it, has to pass where nothing is
   refused, and has to be found right in the same build without the body.
 - 'error: TEXT': the compiler has to say this, where a type alone forbids the body.
@@ -39,24 +39,26 @@ from programs import NotBuilt, build, outcomes
 from refuser import refuser
 from shared_builds import SharedBuild, can_share
 
-SECONDS = 60  # for one run with a wrong body, which may hang, and for all runs of a test that passes
+SECONDS = 60  # at most for one run with a wrong body, which may hang, and for all runs of a test that passes
+LEAST_SECONDS = 10  # for one run with a wrong body
+TIMES = 30  # as long as the same test took without the body, it may take with it
 OWN_SECONDS = 300  # for one run without it, which only other work makes slow
 SAID = 600  # how much is told of what was said
 
 
-def runs_to_fail(program, test):
-    """In which run the test fails, or None where it passes until the time has gone."""
+def runs_to_fail(program, test, seconds):
+    """In which run the test fails, where each may take these seconds, or None where it passes until the time has gone."""
     end = time.monotonic() + SECONDS
     for run in itertools.count(1):
-        if not passes(program, test, SECONDS):
+        if not passes(program, test, seconds):
             return run
         if time.monotonic() >= end:
             return None
 
 
 class Own:
-    """The program of a crate's tests without a wrong body, and what was seen of them: how often each passed, and which were right as requests
-    were refused. Bodies that one test catches need no more of its runs than the one that took most."""
+    """The program of a crate's tests without a wrong body, and what was seen of them: how long each took in each run that passed, and which
+    were right as requests were refused. Bodies that one test catches need no more of its runs than the one that took most."""
 
     def __init__(self, program):
         self.program = program
@@ -65,11 +67,17 @@ class Own:
 
     def passes(self, test, runs):
         """Whether the test passes as often as this."""
-        while self.passed.get(test, 0) < runs:
+        took = self.passed.setdefault(test, [])
+        while len(took) < runs:
+            begun = time.monotonic()
             if not passes(self.program, test, OWN_SECONDS):
                 return False
-            self.passed[test] = self.passed.get(test, 0) + 1
+            took.append(time.monotonic() - begun)
         return True
+
+    def seconds(self, test):
+        """How long a run of the test, which has passed, may take with a wrong body."""
+        return min(SECONDS, max(LEAST_SECONDS, TIMES * max(self.passed[test])))
 
     def is_right(self, test):
         """Whether the test is right as requests are refused."""
@@ -83,7 +91,9 @@ def judge_test(name, wrong, own):
     test = named(tests_of(wrong), name)
     if not test:
         return False, "BAD EDIT: there is no such test"
-    runs = runs_to_fail(wrong, test)
+    if not own.passes(test, 1):
+        return False, f"NOT CAUGHT: {name} fails without the body as well"
+    runs = runs_to_fail(wrong, test, own.seconds(test))
     if not runs:
         return False, f"NOT CAUGHT: {name} passes"
     if not own.passes(test, runs):
