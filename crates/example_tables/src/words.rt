@@ -1,4 +1,4 @@
-//! Words that come and go: interned, shared, handed on, read and given back. Two of these functions have a proof file, the others none.
+//! Words that come and go: interned, shared, handed on, read and given back. Two of these functions need a proof file, the others none.
 
 ghost use Rattle.std.specs.Prelude.{◌≡◌, ◌↔◌, ℕ, List, IfOk, IsSome, IsTrue, MatchOption, OnErr, slice_get};
 ghost use Rattle.string_cache_core.specs.Kept.{map_of};

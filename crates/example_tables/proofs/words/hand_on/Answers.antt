@@ -1,7 +1,13 @@
-use Rattle.std.proofs.Common.{inr, rules}
+use Rattle.std.proofs.Common.{inr, rules, subst}
 use Rattle.string_cache_core.specs.Kept.{map_of}
 use Rattle.string_cache_core.specs.Table.{IsHeld}
 use Rattle.example_tables.proofs.words.hand_on.Goals as goal
+
+-- the next holder's word and the one that is given are both held, so one still is
+pub returns-clause-held : goal.returns-clause-held
+returns-clause-held g c =
+    let both = c.in_ok-next.ensures.both c.args.word c.requires in
+    subst (λ word. IsHeld g.S.StaticTables.tables (map_of c.give.new.self) word) c.in_ok-next.ensures.word (c.give.ensures.left c.in_ok-next.next both)
 
 -- the word is held after both calls, so it keeps what it had before each
 pub returns-clause-text : goal.returns-clause-text
