@@ -1,6 +1,7 @@
-use Rattle.std.proofs.Common.{sym, ◌∙◌}
+use Rattle.std.proofs.Common.{ap, sym, ◌∙◌}
 use Rattle.std.proofs.lemmas.Bool.{false≢true}
-use Rattle.string_cache.proofs.Forms.{static_own, listed_static, not_static}
+use Rattle.string_cache.proofs.Forms.{static_own, static_there, listed_static, not_static}
+use Rattle.named_atoms.specs.NamedAtomValue.{NamedAtomValue}
 use Rattle.named_atoms.proofs.atom.NamedAtom.try_static.Goals as goal
 
 pub of_static-requires : goal.of_static-requires
@@ -15,3 +16,8 @@ pub returns-in-Inline-clause-listed : goal.returns-in-Inline-clause-listed
 returns-in-Inline-clause-listed g c =
     let other = not_static g.Static.StaticTables.tables c.args.text.now c.form_of_text.result c.form_of_text.ensures c.in-Inline.is in
     λ perfect listed long. sym other ∙ listed_static g.Static.StaticTables.tables c.args.text.now perfect listed long
+
+pub returns-in-Static-clause-text : goal.returns-in-Static-clause-text
+returns-in-Static-clause-text g c =
+    ap (λ (atom : NamedAtomValue). atom.text) c.of_static.ensures
+    ∙ static_there g.Static.StaticTables.tables c.args.text.now c.in-Static.index (sym c.in-Static.ensures)
