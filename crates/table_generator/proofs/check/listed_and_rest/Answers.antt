@@ -19,3 +19,15 @@ loop-hash-preserved c =
       small = All-push (λ hash. hash < 2 ^ 64) hashes c.in-Some.hash old.small (search rules);
       one_line = All-push HasNoFeed (texts_of atoms) c.in-Some.atom.now old.one_line c.in-Some.ensures.0;
     })
+
+-- what is left begins with no line of a text
+pub returns : goal.returns
+returns c =
+    let read = c.loop-hash.invariant in
+    record {
+      is = read.is;
+      count = read.count;
+      small = read.small;
+      one_line = read.one_line;
+      ends = c.in_default.ensures;
+    }

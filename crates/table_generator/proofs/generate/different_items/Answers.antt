@@ -1,4 +1,4 @@
-use Rattle.std.proofs.Common.{inl, refl}
+use Rattle.std.proofs.Common.{inl, inr, refl}
 use Rattle.std.proofs.lemmas.List.Sorted.{IsPermutation-sym}
 use Rattle.table_generator.proofs.Doubles.{double_permuted}
 use Rattle.table_generator.proofs.generate.different_items.Goals as goal
@@ -13,3 +13,15 @@ returns-then-has_repeat-clause-fault c =
 pub returns-else-has_repeat-clause-differ : goal.returns-else-has_repeat-clause-differ
 returns-else-has_repeat-clause-differ c = λ double.
     (rw c.deref.ensures.value at c.if-has_repeat.ensures.no) (double_permuted _ _ c.in-Ok.ensures.texts double)
+
+pub returns-else-has_repeat-clause-count : goal.returns-else-has_repeat-clause-count
+returns-else-has_repeat-clause-count c = c.in-Ok.ensures.count
+
+pub returns-else-has_repeat-clause-texts : goal.returns-else-has_repeat-clause-texts
+returns-else-has_repeat-clause-texts c = c.in-Ok.ensures.texts
+
+pub returns-then-has_double-clause-fault : goal.returns-then-has_double-clause-fault
+returns-then-has_double-clause-fault c = inl (refl, c.if-has_double.ensures.yes)
+
+pub returns-else-has_double-clause-fault : goal.returns-else-has_double-clause-fault
+returns-else-has_double-clause-fault c = inr (refl, c.if-has_double.ensures.no)

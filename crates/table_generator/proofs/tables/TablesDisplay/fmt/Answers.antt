@@ -20,10 +20,10 @@ loop-i-preserved g c = λ plain.
       | in-Some+in_ok-writeln-3 w ↦
           let hash = get_or hashes i 0 in
           let text = string_bytes w.in-Some.text.now in
+          let one : HasWritten g.W.Write.write_str_gives c.loop-i.f (codes "atom " ++ (padded_integral (format_spec 32 0 4 16 (2 ^ 64 - 1)) false [] (digits 16 false hash) ++ (codes " " ++ (text ++ codes "\n")))) w.writeln-in-Some.new.self = rw (← w.laid_out.ensures) (search (rules, done.plain)) in
           let small : hash < 2 ^ 64 = search rules in
           let listed : i < length texts = grind (arith, common_steps, w.in-Some.ensures.lookup) in
           let written : text ≡ get_or texts i [] = grind (arith, common_steps, w.in-Some.ensures.lookup) in
-          let one : HasWritten g.W.Write.write_str_gives c.loop-i.f (codes "atom " ++ (padded_integral (format_spec 32 0 4 16 (2 ^ 64 - 1)) false [] (digits 16 false hash) ++ (codes " " ++ (text ++ codes "\n")))) w.writeln-in-Some.new.self = search (rules, done.plain) in
           let line : HasWritten g.W.Write.write_str_gives c.loop-i.f (atom_line hash text) w.writeln-in-Some.new.self = rw (hex_printed hash small) at one in
           let more : atom_lines (take (i + 1) hashes) texts ≡ atom_lines (take i hashes) texts ++ atom_line hash text = rw written (atom_lines_more hashes texts i (rw c.deref-hash-items.ensures.value at c.loop-i-test.true) listed) in
           rw w.f-is (
