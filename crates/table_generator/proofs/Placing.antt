@@ -1,8 +1,8 @@
 -- Texts that are sorted by their places: each stands at its place.
-use Rattle.std.proofs.Common.{◌≡◌, ◌≢◌, ℕ, ◌+◌, ◌-◌, ◌<◌, ◌≤◌, zero, suc, true, ◌^◌, rules, List, [], ◌∷◌, length, map, get_or, sym, refl, ap, ◌∙◌, arith, subst, eq-eqb}
+use Rattle.std.proofs.Common.{◌≡◌, ◌≢◌, ℕ, ◌+◌, ◌-◌, ◌<◌, ◌≤◌, zero, suc, true, ◌^◌, rules, List, [], ◌∷◌, ◌++◌, length, map, get_or, take, sym, refl, ap, ◌∙◌, arith, subst, eq-eqb}
 use Rattle.std.specs.List.{All, AllPairs, IsDistinct}
 use Rattle.std.specs.List.Sorted.{IsNonDecreasing, IsNonDecreasingBy, IsPermutation}
-use Rattle.std.proofs.lemmas.List.{get_or-map, length-map}
+use Rattle.std.proofs.lemmas.List.{get_or-map, length-map, map_push, take_more}
 use Rattle.std.proofs.lemmas.List.Kept.{AllPairs-from_increasing}
 use Rattle.std.proofs.lemmas.List.Sorted.{All-permutation, IsPermutation-map, length_permutation}
 use Rattle.std.proofs.lemmas.Map.Keys.{IsDistinct-IsPermutation, IsStrictlyIncreasing-from_distinct}
@@ -165,3 +165,10 @@ module _ {X Y : Type 0} (key n : ℕ) (disps : List (ℕ × ℕ)) (text : X → 
       assembled key n disps (map text items) atoms numbers (length-map items text ∙ count) some few displaced few_disps perm (apart_texts apart) risen
       (numbers_are ∙ read hash_of_hashes hash' numbers_same ∙ ap (map (λ t. hash_of_hashes (hashes_of t key))) (sym atoms_are))
       (subst (All (λ n. n < 2 ^ 64)) (sym numbers_are) (all_map hash' (λ n. n < 2 ^ 64) after (All-permutation (λ y. hash' y < 2 ^ 64) before after moved small)))
+
+-- ---- one thing told of each, up to a place, and of one more
+
+pub told_one_more : {X Y : Type 0} (f : X → Y) (list : List X) (i : ℕ) (d : X) (told : List Y) (y : Y) → i < length list → told ≡ map f (take i list) → y ≡ f (get_or list i d)
+    → told ++ (y ∷ []) ≡ map f (take (i + 1) list)
+told_one_more f list i d told y below before is =
+    (λ j. before j ++ (is j ∷ [])) ∙ sym (ap (map f) (take_more list i d below) ∙ map_push f (take i list) (get_or list i d))

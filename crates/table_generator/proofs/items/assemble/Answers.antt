@@ -1,8 +1,20 @@
 use Rattle.std.proofs.Common.{◌∙◌, ap, map, length, refl, rules, string_bytes}
-use Rattle.std.proofs.lemmas.List.{take_all}
+use Rattle.std.proofs.lemmas.List.{map_push, take_all}
 use Rattle.std.proofs.lemmas.List.Sorted.{IsNonDecreasingBy-from_sort_by_key}
-use Rattle.table_generator.proofs.Placing.{assembled_items}
+use Rattle.table_generator.proofs.Placing.{assembled_items, told_one_more}
 use Rattle.table_generator.proofs.items.assemble.Goals as goal
+
+-- one text more, and its hash
+pub loop-text-preserved : goal.loop-text-preserved
+loop-text-preserved c =
+    let list = c.deref-text-items.result.now in
+    let at = c.loop-text.text-index in
+    record {
+      texts =
+          ap (map string_bytes) c.in_ok-push.ensures.items ∙ map_push string_bytes c.loop-text.atoms.items c.in_ok-from_str.field-0
+          ∙ told_one_more (λ text. text.text.now) list at _ _ _ c.loop-text-test.true c.loop-text.invariant.texts c.in_ok-from_str.ensures.ok;
+      hashes = c.in_ok-push-2.ensures.items ∙ told_one_more (λ text. text.hash) list at _ _ _ c.loop-text-test.true c.loop-text.invariant.hashes refl;
+    }
 
 pub returns : goal.returns
 returns c =
