@@ -1,8 +1,10 @@
 //! Tables of a list of texts, and checks of table texts: a call that is made again gives what it gives the first time.
 
+use std::alloc::Global;
+use std::process::Abort;
 use table_generator::check::check_tables;
 use table_generator::generate::generate;
-use table_generator::tables::GenFault;
+use table_generator::tables::{GenFault, Tables};
 use test_refusals::at_last;
 
 /// More than five texts: where a search of so few finds no tables, it has to show that there are none.
@@ -16,16 +18,20 @@ const TEXTS: [&str; 7] = [
     "tokens",
 ];
 
+/// The text of tables, which end here.
+fn printed<R: Abort>(rt: &R, alloc: Global, tables: Tables) -> String {
+    format!(in alloc; "{tables}").expect(rt, "a text")
+}
+
 #[test]
 fn tables_are_made(rt: HostRuntime) {
     let alloc = rt.alloc();
     let list = TEXTS.as_slice();
     let tables = at_last(&rt, || generate(alloc, list, 1, 64)).expect(&rt, "an answer");
     let again = generate(alloc, list, 1, 64).expect(&rt, "tables");
-    let printed = format!(in alloc; "{tables}").expect(&rt, "a text");
-    let printed_again = format!(in alloc; "{again}").expect(&rt, "a text");
-    assert!(rt; printed == printed_again);
-    assert!(rt; check_tables(alloc, &printed).expect(&rt, "an answer"));
+    let text = printed(&rt, alloc, tables);
+    assert!(rt; text == printed(&rt, alloc, again));
+    assert!(rt; check_tables(alloc, &text).expect(&rt, "an answer"));
 }
 
 /// Two texts are equal: that is told whatever request is refused.

@@ -14,9 +14,13 @@ type OneBucket = Set<EmptyStaticAtomSet>;
 
 /// Whether each call that adds a holder of the atom's text is refused it.
 fn is_full<R: Wait>(rt: &R, set: &OneBucket, atom: &DefaultAtom<'_>) -> bool {
-    cloned(rt, atom).err() == Some(Fault::FullCount)
-        && interned(rt, set, atom.as_str()).err() == Some(Fault::FullCount)
-        && look_up(rt, set, atom.as_str()).err() == Some(Fault::FullCount)
+    let text = atom.as_str();
+    let refused = [
+        cloned(rt, atom).err(),
+        interned(rt, set, text).err(),
+        look_up(rt, set, text).err(),
+    ];
+    refused == [Some(Fault::FullCount); 3]
 }
 
 /// Whether one entry is left where another text came and went, and after a sweep.
@@ -71,37 +75,72 @@ fn are_one(first: &DefaultAtom<'_>, second: &DefaultAtom<'_>) -> bool {
     first.unsafe_data() == second.unsafe_data() && first.as_str() == second.as_str()
 }
 
-/// Whether the atom has a clone, beside which its text is full, stays and is shown.
-fn is_cloned<R: Wait>(rt: &R, set: &OneBucket, atom: &DefaultAtom<'_>) -> Result<bool, Fault> {
-    let clone = cloned(rt, atom)?;
+/// Whether the text is full, stays and is shown beside both atoms, which are one.
+fn are_held<R: Wait>(
+    rt: &R,
+    set: &OneBucket,
+    atom: &DefaultAtom<'_>,
+    clone: &DefaultAtom<'_>,
+) -> Result<bool, Fault> {
     Ok(
-        are_one(atom, &clone)
+        are_one(atom, clone)
             && is_full(rt, set, atom)
             && stays_alone(rt, set)?
             && is_shown(rt, set, atom.as_str()),
     )
 }
 
+/// Whether the atom has a clone, beside which its text is full, stays and is shown.
+fn is_cloned<R: Wait>(rt: &R, set: &OneBucket, atom: &DefaultAtom<'_>) -> Result<bool, Fault> {
+    let clone = cloned(rt, atom)?;
+    are_held(rt, set, atom, &clone)
+}
+
+/// Whether an atom was found that is one with the other, and whose text is full.
+fn is_second<R: Wait>(
+    rt: &R,
+    set: &OneBucket,
+    atom: &DefaultAtom<'_>,
+    found: Option<&DefaultAtom<'_>>,
+) -> bool {
+    match found {
+        Some(found) => are_one(atom, found) && is_full(rt, set, found),
+        None => false,
+    }
+}
+
 /// Whether the atom's text is found, and is full then.
 fn is_found<R: Wait>(rt: &R, set: &OneBucket, atom: &DefaultAtom<'_>) -> Result<bool, Fault> {
-    match look_up(rt, set, atom.as_str())? {
-        Some(found) => Ok(are_one(atom, &found) && is_full(rt, set, &found)),
-        None => Ok(false),
-    }
+    let found = look_up(rt, set, atom.as_str())?;
+    Ok(is_second(rt, set, atom, found.as_ref()))
+}
+
+/// Whether the atom has this text, is cloned and is found.
+fn is_held<R: Wait>(
+    rt: &R,
+    set: &OneBucket,
+    atom: &DefaultAtom<'_>,
+    text: &str,
+) -> Result<bool, Fault> {
+    Ok(atom.as_str() == text && is_cloned(rt, set, atom)? && is_found(rt, set, atom)?)
 }
 
 /// Whether the text has an atom that is cloned and found.
 fn is_interned<R: Wait>(rt: &R, set: &OneBucket, text: &str) -> Result<bool, Fault> {
     let atom = interned(rt, set, text)?;
-    Ok(atom.as_str() == text && is_cloned(rt, set, &atom)? && is_found(rt, set, &atom)?)
+    is_held(rt, set, &atom, text)
 }
 
-/// Whether all of that is so, and nothing is left in the end.
+/// Whether that is so, and nothing is left in the end.
+fn comes_and_goes<R: Wait>(rt: &R, set: &OneBucket, text: &str) -> Result<bool, Fault> {
+    Ok(is_interned(rt, set, text)? && set.linked(rt) == 0 && set.memory(rt) == EMPTY)
+}
+
+/// Whether all of that is so in a set of its own.
 fn lives<R: Wait>(rt: &R, alloc: Global, limits: Limits, text: &str) -> Result<bool, Fault> {
     let buckets = Buckets::new(0).ok_or(Fault::NotText)?;
     let set = OneBucket::with_buckets(alloc, limits, buckets)?;
-    let is_right = is_interned(rt, &set, text)?;
-    Ok(is_right && set.linked(rt) == 0 && set.memory(rt) == EMPTY)
+    comes_and_goes(rt, &set, text)
 }
 
 /// Checks the life of a text, with each request for memory refused once.

@@ -45,13 +45,6 @@ fn interned_at_last<'s, R: Wait + Print>(
     answer
 }
 
-#[test]
-fn text_is_interned(rt: HostRuntime) {
-    let set = new_set(&rt, rt.alloc());
-    let atom = interned_at_last(&rt, &set, "interned").expect(&rt, "an answer");
-    assert!(rt; is_first(&rt, &set, &atom));
-}
-
 /// Texts that lie in the bucket of one that goes.
 const OTHERS: [&str; 4] = ["tokenised", "sentence", "repeated", "forgotten"];
 
@@ -69,14 +62,22 @@ fn behind_the_oldest<'s, R: Wait + Abort>(
     intern_all(rt, set, &OTHERS)
 }
 
+/// Whether a sixth text has its ticket beside the others.
+fn finds_room<R: Wait + Print + Abort>(
+    rt: &R,
+    set: &Set<EmptyStaticAtomSet>,
+    others: &[DefaultAtom<'_>],
+) -> bool {
+    let atom = interned_at_last(rt, set, "magnitude").expect(rt, "an answer");
+    is_of(&atom, 0x6_0000, "magnitude") && links(rt, set, 5) && others.len() == 4
+}
+
 /// In a set of one bucket: five texts lie in two nodes, and once the oldest is gone the newer node has room for a sixth.
 #[test]
 fn text_finds_room_in_a_node(rt: HostRuntime) {
     let set = set_of_one_bucket(&rt, rt.alloc());
     let others = behind_the_oldest(&rt, &set);
-    let atom = interned_at_last(&rt, &set, "magnitude").expect(&rt, "an answer");
-    assert!(rt; is_of(&atom, 0x6_0000, "magnitude"));
-    assert!(rt; links(&rt, &set, 5) && others.len() == 4);
+    assert!(rt; finds_room(&rt, &set, &others));
 }
 
 fn owned<R: Abort>(rt: &R, alloc: Global, text: &str) -> String {
@@ -98,19 +99,6 @@ fn owned_at_last<'s, R: Wait + Print + Abort>(
     answer
 }
 
-/// Whether this is the first atom of a new set, of "interned".
-fn is_first<R: Wait>(rt: &R, set: &Set<EmptyStaticAtomSet>, atom: &DefaultAtom<'_>) -> bool {
-    atom.unsafe_data() == FIRST && atom.as_str() == "interned" && set.linked(rt) == 1
-}
-
-#[test]
-fn owned_text_is_interned(rt: HostRuntime) {
-    let set = new_set(&rt, rt.alloc());
-    let first = owned(&rt, rt.alloc(), "interned");
-    let atom = owned_at_last(&rt, &set, first, "interned").expect(&rt, "an atom");
-    assert!(rt; is_first(&rt, &set, &atom));
-}
-
 /// The atom of a text that may be owned, made of a borrowed one where the call of the first is refused memory.
 fn cow_at_last<'s, R: Wait + Print>(
     rt: &R,
@@ -124,14 +112,6 @@ fn cow_at_last<'s, R: Wait + Print>(
         return interned_cow(rt, set, CowStr::Borrowed(second));
     }
     answer
-}
-
-#[test]
-fn text_that_may_be_owned_is_interned(rt: HostRuntime) {
-    let set = new_set(&rt, rt.alloc());
-    let first = CowStr::Owned(owned(&rt, rt.alloc(), "interned"));
-    let atom = cow_at_last(&rt, &set, first, "interned").expect(&rt, "an atom");
-    assert!(rt; is_first(&rt, &set, &atom));
 }
 
 /// The atom of the text in capital letters. A call that is refused memory is made again.
@@ -180,16 +160,16 @@ fn json_at_last<R: Print>(rt: &R, alloc: Global, atom: &DefaultAtom<'_>) -> Resu
     answer
 }
 
-fn is_json_of(value: &Value, text: &str) -> bool {
+/// Whether the atom's JSON value is this text.
+fn has_json<R: Print + Abort>(rt: &R, alloc: Global, atom: &DefaultAtom<'_>, text: &str) -> bool {
+    let value = json_at_last(rt, alloc, atom).expect(rt, "an answer");
     value.as_str() == Some(text)
 }
 
 #[test]
 fn json_is_made(rt: HostRuntime) {
     let set = new_set(&rt, rt.alloc());
-    let atom = intern(&rt, &set, "interned");
-    let value = json_at_last(&rt, rt.alloc(), &atom).expect(&rt, "an answer");
-    assert!(rt; is_json_of(&value, "interned"));
+    assert!(rt; has_json(&rt, rt.alloc(), &intern(&rt, &set, "interned"), "interned"));
 }
 
 /// The JSON value of a text, from a set of its own.
@@ -213,10 +193,59 @@ fn read_at_last<'s, R: Wait + Print>(
     answer
 }
 
+/// The forms in which a text is handed in.
+#[derive(Clone, Copy)]
+enum Form {
+    Borrowed,
+    Owned,
+    MayBeOwned,
+    Json,
+}
+
+/// The atom of a text that is handed in so. A call that is refused memory is made again.
+fn atom_at_last<'s, R: Wait + Print + Abort>(
+    rt: &R,
+    alloc: Global,
+    set: &'s Set<EmptyStaticAtomSet>,
+    form: Form,
+    text: &str,
+) -> Result<DefaultAtom<'s>, Fault> {
+    match form {
+        Form::Borrowed => interned_at_last(rt, set, text),
+        Form::Owned => owned_at_last(rt, set, owned(rt, alloc, text), text),
+        Form::MayBeOwned => cow_at_last(rt, set, CowStr::Owned(owned(rt, alloc, text)), text),
+        Form::Json => read_at_last(rt, set, &value_of(rt, alloc, text)),
+    }
+}
+
+/// Whether this is the first atom of a new set, of "interned".
+fn is_first<R: Wait>(rt: &R, set: &Set<EmptyStaticAtomSet>, atom: &DefaultAtom<'_>) -> bool {
+    is_of(atom, FIRST, "interned") && links(rt, set, 1)
+}
+
+/// Checks that "interned", handed in so, is the first atom of a new set.
+fn check_first<R: Wait + Print + Abort>(rt: &R, alloc: Global, form: Form) {
+    let set = new_set(rt, alloc);
+    let atom = atom_at_last(rt, alloc, &set, form, "interned").expect(rt, "an answer");
+    assert!(rt; is_first(rt, &set, &atom));
+}
+
+#[test]
+fn text_is_interned(rt: HostRuntime) {
+    check_first(&rt, rt.alloc(), Form::Borrowed);
+}
+
+#[test]
+fn owned_text_is_interned(rt: HostRuntime) {
+    check_first(&rt, rt.alloc(), Form::Owned);
+}
+
+#[test]
+fn text_that_may_be_owned_is_interned(rt: HostRuntime) {
+    check_first(&rt, rt.alloc(), Form::MayBeOwned);
+}
+
 #[test]
 fn json_text_is_interned(rt: HostRuntime) {
-    let value = value_of(&rt, rt.alloc(), "interned");
-    let set = new_set(&rt, rt.alloc());
-    let atom = read_at_last(&rt, &set, &value).expect(&rt, "an answer");
-    assert!(rt; is_first(&rt, &set, &atom));
+    check_first(&rt, rt.alloc(), Form::Json);
 }

@@ -33,13 +33,6 @@ fn is_new(table: &mut Table<EmptyStaticAtomSet>) -> bool {
     is_empty(table) && word_in(table, "interned") == Ok(FIRST)
 }
 
-#[test]
-fn table_is_made(rt: HostRuntime) {
-    let alloc = rt.alloc();
-    let made: Result<Table<EmptyStaticAtomSet>, Fault> = at_last(&rt, || Table::new(alloc));
-    assert!(rt; is_new(&mut made.expect(&rt, "an answer")));
-}
-
 /// The word of "interned". A refusal may leave room for further texts in the table, and nothing else, and the call is made again.
 fn word_at_last<R: Print + Abort>(
     rt: &R,
@@ -54,23 +47,6 @@ fn word_at_last<R: Print + Abort>(
         return word_in(table, "interned");
     }
     answer
-}
-
-#[test]
-fn text_is_interned_in_a_table(rt: HostRuntime) {
-    let mut table: Table<EmptyStaticAtomSet> = new_table(&rt, rt.alloc());
-    assert!(rt; word_at_last(&rt, &mut table) == Ok(FIRST));
-    assert!(rt; has_alone(&table, FIRST));
-}
-
-#[test]
-fn table_with_room_is_made(rt: HostRuntime) {
-    let alloc = rt.alloc();
-    let made: Result<Table<EmptyStaticAtomSet>, Fault> = at_last(
-        &rt,
-        || Table::with_capacity(alloc, 1000),
-    );
-    assert!(rt; is_empty(&made.expect(&rt, "an answer")));
 }
 
 /// Makes room for a thousand texts.
@@ -100,12 +76,10 @@ fn stays_alone<R: Print>(
     Ok(is_alone)
 }
 
-/// What is held stays, whether the room is refused or not.
-#[test]
-fn room_is_made_in_a_table(rt: HostRuntime) {
-    let mut table: Table<EmptyStaticAtomSet> = new_table(&rt, rt.alloc());
-    let word = word_in(&mut table, "interned").expect(&rt, "a word");
-    assert!(rt; stays_alone(&rt, &mut table, word) == Ok(true));
+/// Whether "interned", which has a word, stays where room is made.
+fn keeps_its_text<R: Print + Abort>(rt: &R, table: &mut Table<EmptyStaticAtomSet>) -> bool {
+    let word = word_in(table, "interned").expect(rt, "a word");
+    stays_alone(rt, table, word) == Ok(true)
 }
 
 /// Interns a text that this number makes.
@@ -131,27 +105,113 @@ fn has_room<R: Print + Abort>(rt: &R, table: &mut Table<EmptyStaticAtomSet>) -> 
     is_refused || answer == Ok(FIRST)
 }
 
-fn table_with_room<R: Abort>(rt: &R, alloc: Global, texts: usize) -> Table<EmptyStaticAtomSet> {
-    Table::with_capacity(alloc, texts).expect(rt, "a table")
+/// Whether "interned" finds room behind so many other texts.
+fn has_room_behind<R: Print + Abort>(
+    rt: &R,
+    alloc: Global,
+    table: &mut Table<EmptyStaticAtomSet>,
+    number: u32,
+) -> bool {
+    fill(rt, alloc, table, number);
+    has_room(rt, table)
+}
+
+/// Whether it finds room where one other text was.
+fn has_room_once_cleared<R: Print + Abort>(
+    rt: &R,
+    alloc: Global,
+    table: &mut Table<EmptyStaticAtomSet>,
+) -> bool {
+    fill(rt, alloc, table, 1);
+    table.clear();
+    has_room(rt, table)
+}
+
+/// What is asked of a table.
+#[derive(Clone, Copy)]
+enum Question {
+    IsNew,
+    IsEmpty,
+    Interns,
+    KeepsItsText,
+    HasRoomBehind(u32),
+    HasRoomOnceCleared,
+}
+
+/// Whether that is so.
+fn passes<R: Print + Abort>(
+    rt: &R,
+    alloc: Global,
+    table: &mut Table<EmptyStaticAtomSet>,
+    question: Question,
+) -> bool {
+    match question {
+        Question::IsNew => is_new(table),
+        Question::IsEmpty => is_empty(table),
+        Question::Interns => word_at_last(rt, table) == Ok(FIRST) && has_alone(table, FIRST),
+        Question::KeepsItsText => keeps_its_text(rt, table),
+        Question::HasRoomBehind(number) => has_room_behind(rt, alloc, table, number),
+        Question::HasRoomOnceCleared => has_room_once_cleared(rt, alloc, table),
+    }
+}
+
+/// Checks what is asked of a table. It ends here, and not in each test: so they are proved in less time.
+fn check<R: Print + Abort>(
+    rt: &R,
+    alloc: Global,
+    made: Result<Table<EmptyStaticAtomSet>, Fault>,
+    question: Question,
+) {
+    let mut table = made.expect(rt, "a table");
+    assert!(rt; passes(rt, alloc, &mut table, question));
+}
+
+#[test]
+fn table_is_made(rt: HostRuntime) {
+    let alloc = rt.alloc();
+    let made = at_last(&rt, || Table::new(alloc));
+    check(&rt, alloc, made, Question::IsNew);
+}
+
+#[test]
+fn table_with_room_is_made(rt: HostRuntime) {
+    let alloc = rt.alloc();
+    let made = at_last(&rt, || Table::with_capacity(alloc, 1000));
+    check(&rt, alloc, made, Question::IsEmpty);
+}
+
+#[test]
+fn text_is_interned_in_a_table(rt: HostRuntime) {
+    check(&rt, rt.alloc(), Table::new(rt.alloc()), Question::Interns);
+}
+
+/// What is held stays, whether the room is refused or not.
+#[test]
+fn room_is_made_in_a_table(rt: HostRuntime) {
+    check(
+        &rt,
+        rt.alloc(),
+        Table::new(rt.alloc()),
+        Question::KeepsItsText,
+    );
 }
 
 /// The last one of as many texts as room was made for. 576 texts fill what a table grows to by itself, so that one more would ask for room.
 #[test]
 fn text_finds_room_in_a_table(rt: HostRuntime) {
-    let alloc = rt.alloc();
-    let mut table = table_with_room(&rt, alloc, 577);
-    fill(&rt, alloc, &mut table, 576);
-    assert!(rt; has_room(&rt, &mut table));
+    let made = Table::with_capacity(rt.alloc(), 577);
+    check(&rt, rt.alloc(), made, Question::HasRoomBehind(576));
 }
 
 /// As many texts find room where others were.
 #[test]
 fn text_finds_room_in_a_cleared_table(rt: HostRuntime) {
-    let alloc = rt.alloc();
-    let mut table: Table<EmptyStaticAtomSet> = new_table(&rt, alloc);
-    fill(&rt, alloc, &mut table, 1);
-    table.clear();
-    assert!(rt; has_room(&rt, &mut table));
+    check(
+        &rt,
+        rt.alloc(),
+        Table::new(rt.alloc()),
+        Question::HasRoomOnceCleared,
+    );
 }
 
 /// Adds a call that interns a text.

@@ -12,7 +12,10 @@ use string_cache::static_sets::{StaticAtomSet, StaticTables};
 use string_cache::table::Table;
 use string_cache::word::{Buckets, Limits};
 use string_cache::{Atom, AtomList, DefaultAtom, EmptyStaticAtomSet, Fault};
-use test_calls::{cloned, cloned_at, copied, interned, links, look_up, lowered, push};
+use test_calls::{
+    cloned, cloned_at, copied, interned, interned_owned, links, look_up, lowered, pop, push,
+    read_json,
+};
 use test_refusals::{End, begin, finish};
 use test_samples::One;
 
@@ -46,8 +49,7 @@ fn check_word<Static: StaticTables, R: Wait + Print + Abort>(
     word: u64,
 ) {
     let set: Set<Static> = new_set(rt, alloc);
-    let mut table: Table<Static> = new_table(rt, alloc);
-    assert!(rt; are_interned(rt, &set, &mut table, text, word));
+    assert!(rt; are_interned(rt, &set, &mut new_table(rt, alloc), text, word));
 }
 
 /// The word of "abcdefg".
@@ -75,9 +77,22 @@ fn value_of<R: Wait + Abort, Static: StaticAtomSet>(
 
 /// The word of the atom of a JSON value.
 fn word_read<R: Wait + Abort>(rt: &R, set: &Set<One>, value: &Value) -> u64 {
-    Atom::from_json_in(rt, set, value)
+    read_json(rt, set, value)
         .expect(rt, "an answer")
         .unsafe_data()
+}
+
+/// The words of the atoms of two JSON values.
+fn words_read<R: Wait + Print + Abort>(
+    rt: &R,
+    set: &Set<One>,
+    short: &Value,
+    long: &Value,
+) -> (u64, u64) {
+    begin(rt);
+    let words = (word_read(rt, set, short), word_read(rt, set, long));
+    finish(rt, End::Given);
+    words
 }
 
 /// The values of a short text and of a static one.
@@ -86,10 +101,7 @@ fn json_is_read(rt: HostRuntime) {
     let set: Set<One> = new_set(&rt, rt.alloc());
     let short = value_of(&rt, &set, "abcdefg");
     let long = value_of(&rt, &set, "sentence");
-    begin(&rt);
-    let words = (word_read(&rt, &set, &short), word_read(&rt, &set, &long));
-    finish(&rt, End::Given);
-    assert!(rt; words == (SHORT, 2));
+    assert!(rt; words_read(&rt, &set, &short, &long) == (SHORT, 2));
 }
 
 /// The word of the atom in small letters.
@@ -145,16 +157,20 @@ fn atoms_are_cloned_compared_and_dropped(rt: HostRuntime) {
     assert!(rt; leaves_alone(&rt, &set, intern(&rt, &set, "interned"), &other));
 }
 
+/// How many entries stay linked where the set is swept.
+fn left_by_sweep<R: Wait>(rt: &R, set: &Set<EmptyStaticAtomSet>) -> u128 {
+    set.sweep(rt);
+    set.linked(rt)
+}
+
 #[test]
 fn sets_are_swept(rt: HostRuntime) {
     let set: Set<EmptyStaticAtomSet> = new_set(&rt, rt.alloc());
     let atom = intern(&rt, &set, "interned");
     begin(&rt);
-    set.sweep(&rt);
-    let held = set.linked(&rt);
+    let held = left_by_sweep(&rt, &set);
     drop(atom);
-    set.sweep(&rt);
-    let left = set.linked(&rt);
+    let left = left_by_sweep(&rt, &set);
     finish(&rt, End::Given);
     assert!(rt; (held, left) == (1, 0));
 }
@@ -166,14 +182,22 @@ fn holders<R: Wait>(rt: &R, set: &Set<EmptyStaticAtomSet>) -> u64 {
     holders
 }
 
+/// Whether the set tells of its one entry, which the atom holds.
+fn is_visited<R: Wait + Print>(
+    rt: &R,
+    set: &Set<EmptyStaticAtomSet>,
+    atom: &DefaultAtom<'_>,
+) -> bool {
+    begin(rt);
+    let (holders, bytes) = (holders(rt, set), set.memory(rt));
+    finish(rt, End::Given);
+    holders == 1 && bytes == 4096 * 32 + 48 + 48 && atom.as_str() == "interned"
+}
+
 #[test]
 fn entries_are_visited(rt: HostRuntime) {
-    let set: Set<EmptyStaticAtomSet> = new_set(&rt, rt.alloc());
-    let atom = intern(&rt, &set, "interned");
-    begin(&rt);
-    let told = (holders(&rt, &set), set.memory(&rt));
-    finish(&rt, End::Given);
-    assert!(rt; told == (1, 4096 * 32 + 48 + 48) && atom.as_str() == "interned");
+    let set = new_set(&rt, rt.alloc());
+    assert!(rt; is_visited(&rt, &set, &intern(&rt, &set, "interned")));
 }
 
 /// A set whose one entry died under the lock of its bucket, which is that of "interned", and is still linked.
@@ -281,9 +305,22 @@ fn refused_thrice<R: Wait>(
 ) -> [Option<Fault>; 3] {
     [
         interned(rt, set, "interned").err(),
-        DefaultAtom::from_string_in(rt, set, text).err(),
-        DefaultAtom::from_json_in(rt, set, value).err(),
+        interned_owned(rt, set, text).err(),
+        read_json(rt, set, value).err(),
     ]
+}
+
+/// Whether that is told without a request, and each is that the tickets are spent.
+fn is_spent<R: Wait + Print>(
+    rt: &R,
+    set: &Set<EmptyStaticAtomSet>,
+    text: String,
+    value: &Value,
+) -> bool {
+    begin(rt);
+    let refused = refused_thrice(rt, set, text, value);
+    finish(rt, End::Given);
+    refused == [Some(Fault::TicketsSpent); 3]
 }
 
 /// Whether or not memory is there.
@@ -291,12 +328,8 @@ fn refused_thrice<R: Wait>(
 fn tickets_of_a_set_are_spent(rt: HostRuntime) {
     let limits = Limits::new(9, 1).expect(&rt, "limits");
     let set: Set<EmptyStaticAtomSet> = Set::with_limits(rt.alloc(), limits).expect(&rt, "a set");
-    let value = value_of(&rt, &set, "interned");
     let text = String::from_str(rt.alloc(), "interned").expect(&rt, "a text");
-    begin(&rt);
-    let refused = refused_thrice(&rt, &set, text, &value);
-    finish(&rt, End::Given);
-    assert!(rt; refused == [Some(Fault::TicketsSpent); 3]);
+    assert!(rt; is_spent(&rt, &set, text, &value_of(&rt, &set, "interned")));
 }
 
 /// A table whose texts may have so many holders, and its buckets so many serials.
@@ -310,13 +343,21 @@ fn limited_table<R: Abort>(
     Table::with_limits(alloc, limits).expect(rt, "a table")
 }
 
+/// Why "interned" is refused once its bucket's one serial is spent.
+fn refused_once_spent<R: Print + Abort>(
+    rt: &R,
+    table: &mut Table<EmptyStaticAtomSet>,
+) -> Option<Fault> {
+    spend(rt, table);
+    begin(rt);
+    let refused = word_in(table, "interned").err();
+    finish(rt, End::Given);
+    refused
+}
+
 #[test]
 fn tickets_of_a_table_are_spent(rt: HostRuntime) {
-    let mut table = limited_table(&rt, rt.alloc(), 9, 1);
-    spend(&rt, &mut table);
-    begin(&rt);
-    let refused = word_in(&mut table, "interned").err();
-    finish(&rt, End::Given);
+    let refused = refused_once_spent(&rt, &mut limited_table(&rt, rt.alloc(), 9, 1));
     assert!(rt; refused == Some(Fault::TicketsSpent));
 }
 
@@ -353,7 +394,8 @@ fn is_told(table: &mut Table<One>, word: u64) -> bool {
 }
 
 /// Whether that is told, and nothing stays but the groups.
-fn is_looked_into<R: Print>(rt: &R, table: &mut Table<One>, word: u64) -> bool {
+fn is_looked_into<R: Print + Abort>(rt: &R, table: &mut Table<One>) -> bool {
+    let word = word_in(table, "interned").expect(rt, "a word");
     begin(rt);
     let is_told = is_told(table, word);
     let bytes = table.memory();
@@ -363,9 +405,7 @@ fn is_looked_into<R: Print>(rt: &R, table: &mut Table<One>, word: u64) -> bool {
 
 #[test]
 fn table_is_looked_into(rt: HostRuntime) {
-    let mut table: Table<One> = new_table(&rt, rt.alloc());
-    let word = word_in(&mut table, "interned").expect(&rt, "a word");
-    assert!(rt; is_looked_into(&rt, &mut table, word));
+    assert!(rt; is_looked_into(&rt, &mut new_table(&rt, rt.alloc())));
 }
 
 /// A list of atoms without static texts.
@@ -381,7 +421,7 @@ fn is_read_and_cleared<R: Wait + Abort>(rt: &R, list: &mut DefaultList<'_>) -> b
     let has_text = list.get(0) == Some("interned") && list.iter().len() == 1;
     let is_cloned = is_cloned(rt, list);
     list.clear();
-    has_text && is_cloned && list.pop().is_none()
+    has_text && is_cloned && pop(list).is_none()
 }
 
 fn new_list_is_empty(set: &Set<EmptyStaticAtomSet>) -> bool {

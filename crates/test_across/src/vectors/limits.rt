@@ -56,12 +56,16 @@ fn is_full<R: Wait + Abort>(rt: &R, set: &Set<EmptyStaticAtomSet>, atom: &Defaul
         && lowered(rt, set, atom).err() == full
 }
 
+/// Whether "interned" has one holder of its first ticket, and no second one.
+fn has_one_holder<R: Wait + Abort>(rt: &R, set: &Set<EmptyStaticAtomSet>) -> bool {
+    let atom = interned(rt, set, FIRST).expect(rt, "an atom");
+    is_full(rt, set, &atom)
+}
+
 #[test]
 fn one_holder_and_one_serial(rt: HostRuntime) {
     let set = limited(&rt, rt.alloc(), 1, 1);
-    let atom = interned(&rt, &set, FIRST).expect(&rt, "an atom");
-    assert!(rt; is_full(&rt, &set, &atom));
-    drop(atom);
+    assert!(rt; has_one_holder(&rt, &set));
     assert!(rt; refused(&rt, &set) == Some(Fault::TicketsSpent));
     assert!(rt; is_of(&intern(&rt, &set, "abc"), 0x6362_6131, "abc"));
 }

@@ -24,13 +24,17 @@ const LONG_TICKET: u64 = 0x1_1134;
 
 const UPPER_TICKET: u64 = 0x1_0aec;
 
+/// Whether the atom has this ticket, this text and this hash.
+fn is_hashed(atom: &DefaultAtom<'_>, word: u64, text: &str, hash: u64) -> bool {
+    is_of(atom, word, text) && atom.get_hash() == hash
+}
+
 #[test]
 fn quarter_of_a_megabyte(rt: HostRuntime) {
-    let set: Set<EmptyStaticAtomSet> = new_set(&rt, rt.alloc());
+    let set = new_set(&rt, rt.alloc());
     let text = "a".repeat(rt.alloc(), 262_144).expect(&rt, "a text");
     let atom = intern(&rt, &set, &text);
-    assert!(rt; is_of(&atom, 0x1_23ac, &text));
-    assert!(rt; atom.get_hash() == 0x4e63_c3f9_5272_f8eb);
+    assert!(rt; is_hashed(&atom, 0x1_23ac, &text, 0x4e63_c3f9_5272_f8eb));
 }
 
 /// Whether the atom of the owned text in a set of its own is equal to this one.
@@ -53,10 +57,9 @@ fn prints_itself<R: Abort>(rt: &R, alloc: Global, atom: &DefaultAtom<'_>) -> boo
 #[test]
 fn long_text_is_an_atom(rt: HostRuntime) {
     let text = long_text(rt.alloc()).expect(&rt, "a text");
-    let set: Set<EmptyStaticAtomSet> = new_set(&rt, rt.alloc());
+    let set = new_set(&rt, rt.alloc());
     let atom = intern(&rt, &set, &text);
-    assert!(rt; is_of(&atom, LONG_TICKET, &text));
-    assert!(rt; atom.get_hash() == 0xcb0c_ec29_045a_244d);
+    assert!(rt; is_hashed(&atom, LONG_TICKET, &text, 0xcb0c_ec29_045a_244d));
     assert!(rt; prints_itself(&rt, rt.alloc(), &atom));
     assert!(rt; is_owned_again(&rt, rt.alloc(), &atom, text));
 }
@@ -76,9 +79,8 @@ fn changes_case<R: Wait + Abort>(
 fn long_text_changes_case(rt: HostRuntime) {
     let text = long_text(rt.alloc()).expect(&rt, "a text");
     let wanted = upper_text(rt.alloc()).expect(&rt, "a text");
-    let set: Set<EmptyStaticAtomSet> = new_set(&rt, rt.alloc());
-    let atom = intern(&rt, &set, &text);
-    assert!(rt; changes_case(&rt, &set, &atom, &wanted));
+    let set = new_set(&rt, rt.alloc());
+    assert!(rt; changes_case(&rt, &set, &intern(&rt, &set, &text), &wanted));
 }
 
 /// Whether the atom of the JSON value in a set of its own has the long text's ticket and is equal to this one.
@@ -97,9 +99,8 @@ fn is_sent<R: Wait + Abort>(rt: &R, alloc: Global, atom: &DefaultAtom<'_>, text:
 #[test]
 fn long_text_is_sent_as_json(rt: HostRuntime) {
     let text = long_text(rt.alloc()).expect(&rt, "a text");
-    let set: Set<EmptyStaticAtomSet> = new_set(&rt, rt.alloc());
-    let atom = intern(&rt, &set, &text);
-    assert!(rt; is_sent(&rt, rt.alloc(), &atom, &text));
+    let set = new_set(&rt, rt.alloc());
+    assert!(rt; is_sent(&rt, rt.alloc(), &intern(&rt, &set, &text), &text));
 }
 
 /// Whether the table holds so many texts, of so many bytes.
@@ -123,6 +124,5 @@ fn comes_and_goes<R: Abort>(rt: &R, table: &mut Table<EmptyStaticAtomSet>, text:
 #[test]
 fn long_text_lies_in_a_table(rt: HostRuntime) {
     let text = long_text(rt.alloc()).expect(&rt, "a text");
-    let mut table: Table<EmptyStaticAtomSet> = new_table(&rt, rt.alloc());
-    assert!(rt; comes_and_goes(&rt, &mut table, &text));
+    assert!(rt; comes_and_goes(&rt, &mut new_table(&rt, rt.alloc()), &text));
 }

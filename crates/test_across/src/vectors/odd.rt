@@ -121,15 +121,20 @@ fn check(
     set.check()
 }
 
+/// Whether the tables of a static type pass it.
+fn is_perfect<S: StaticAtomSet>() -> bool {
+    S::get().check()
+}
+
 #[test]
 fn checked_tables(rt: HostRuntime) {
-    let (disps, atoms) = (One::get().disps, One::get().atoms);
+    let one = One::get();
+    let (disps, atoms, hashes) = (one.disps, one.atoms, one.hashes);
     assert!(rt; !check(disps, atoms, &[]));
-    assert!(rt; !check(disps, &[], One::get().hashes));
-    assert!(rt; !check(&[], atoms, One::get().hashes));
+    assert!(rt; !check(disps, &[], hashes) && !check(&[], atoms, hashes));
     assert!(rt; check(disps, atoms, &[0]));
-    assert!(rt; check(&[(4_294_967_295, 4_294_967_295)], atoms, One::get().hashes));
-    assert!(rt; One::get().check() && Short::get().check() && !Twice::get().check());
+    assert!(rt; check(&[(4_294_967_295, 4_294_967_295)], atoms, hashes));
+    assert!(rt; is_perfect::<One>() && is_perfect::<Short>() && !is_perfect::<Twice>());
 }
 
 /// Whether the static text at this place has this atom.
@@ -149,21 +154,23 @@ fn is_not_static<S: StaticAtomSet>(text: &str) -> bool {
     Atom::<S>::try_static(text).is_none()
 }
 
+/// Whether the atom is that of the static text at the first place, whose hash is 1.
+fn is_at_first<S: StaticAtomSet>(atom: &Atom<'_, S>) -> bool {
+    atom.is_static() && atom.unsafe_data() == 2 && atom.get_hash() == 1 && is_packed(0, atom)
+}
+
 /// By OpenSSL's SipHash f2 of "sentence" is 0x56e93a5c, so its place among two is 0.
 #[test]
 fn text_listed_twice(rt: HostRuntime) {
     let set: Set<Twice> = new_set(&rt, rt.alloc());
-    let atom = intern(&rt, &set, "sentence");
-    assert!(rt; atom.is_static() && atom.unsafe_data() == 2);
-    assert!(rt; atom.get_hash() == 1);
-    assert!(rt; is_packed(0, &atom) && is_no_place::<Twice>(1));
+    assert!(rt; is_at_first(&intern(&rt, &set, "sentence")));
+    assert!(rt; is_no_place::<Twice>(1));
 }
 
 #[test]
 fn short_text_in_tables(rt: HostRuntime) {
     let set: Set<Short> = new_set(&rt, rt.alloc());
-    let atom = intern(&rt, &set, "short");
-    assert!(rt; has_word(&atom, 0x7472_6f68_7351));
+    assert!(rt; has_word(&intern(&rt, &set, "short"), 0x7472_6f68_7351));
     assert!(rt; is_not_static::<Short>("short") && is_no_place::<Short>(0));
 }
 
@@ -185,7 +192,6 @@ fn replies_of_world(alloc: Global) -> Result<usize, Fault> {
 
 #[test]
 fn empty_lists(rt: HostRuntime) {
-    let mut table = new_table(&rt, rt.alloc());
-    assert!(rt; replies_to_none(&mut table) == Some(0));
+    assert!(rt; replies_to_none(&mut new_table(&rt, rt.alloc())) == Some(0));
     assert!(rt; replies_of_world(rt.alloc()) == Ok(0));
 }
