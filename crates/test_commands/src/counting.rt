@@ -3,14 +3,14 @@
 ghost use Rattle.std.specs.Prelude.{◌≤◌};
 
 use crate::gates::{BothLeave, InTurn, Together, Watch};
-use crate::words::set_with;
+use crate::words::{intern, new_set, set_with};
 use std::alloc::Global;
 use std::process::Abort;
 use std::sync::Wait;
 use std::thread::Threads;
 use std::{str, thread};
 use string_cache::dynamic_set::Set;
-use string_cache::{Atom, EmptyStaticAtomSet, Fault};
+use string_cache::{Atom, DefaultAtom, EmptyStaticAtomSet, Fault};
 use test_refusals::are;
 use test_samples::{EXAMPLE, EXAMPLE_COUNTS};
 use text_streams::faults::AppFault;
@@ -18,19 +18,6 @@ use word_counts::count::{Gate, Open, count, sections};
 
 /// A set without static texts.
 type DefaultSet = Set<EmptyStaticAtomSet>;
-
-fn new_set(rt: &impl Abort, alloc: Global) -> DefaultSet {
-    Set::new(alloc).expect(rt, "a set")
-}
-
-/// The atom of a text.
-fn intern<'s, R: Wait + Abort>(
-    rt: &R,
-    set: &'s DefaultSet,
-    text: &str,
-) -> Atom<'s, EmptyStaticAtomSet> {
-    Atom::from_str_in(rt, set, text).expect(rt, "an atom")
-}
 
 /// Whether this many workers count these words through the gate.
 fn are_counted<R: Threads + Wait + Sync, G: Gate>(
@@ -312,16 +299,27 @@ fn every_place_is_interned(rt: HostRuntime) {
     assert!(rt; fault_of(&rt, &set, "interned interned interned", 1, &Open) == FULL);
 }
 
+const SPENT: Option<AppFault> = Some(AppFault::Intern(Fault::TicketsSpent));
+
+/// Whether two workers are refused for a word that is full in the first piece, and for one whose tickets are spent there.
+fn are_refused_in_turn<R: Threads + Wait + Sync>(
+    rt: &R,
+    set: &DefaultSet,
+    held: &DefaultAtom<'_>,
+) -> bool {
+    fault_of(rt, set, "interned tokenised", 2, &Open) == FULL
+        && fault_of(rt, set, "tokenised interned", 2, &Open) == SPENT
+        && set.linked(rt) == 1
+        && held.eq_str("interned")
+}
+
 /// Of two workers that are refused, the fault of the first piece is answered, and no atom stays.
 #[test]
 fn lowest_fault_is_answered(rt: HostRuntime) {
     let set = set_with(&rt, rt.alloc(), 1, 1);
     let held = intern(&rt, &set, "interned");
     drop(intern(&rt, &set, "tokenised"));
-    let spent = Some(AppFault::Intern(Fault::TicketsSpent));
-    assert!(rt; fault_of(&rt, &set, "interned tokenised", 2, &Open) == FULL);
-    assert!(rt; fault_of(&rt, &set, "tokenised interned", 2, &Open) == spent);
-    assert!(rt; set.linked(&rt) == 1 && held.eq_str("interned"));
+    assert!(rt; are_refused_in_turn(&rt, &set, &held));
 }
 
 /// Whether three workers are refused the text, and one entry is left.
@@ -329,14 +327,19 @@ fn let_go<R: Threads + Wait + Sync>(rt: &R, set: &DefaultSet, text: &str) -> boo
     fault_of(rt, set, text, 3, &Open) == FULL && set.linked(rt) == 1
 }
 
+/// Checks that they are refused a text whose first word, or last, is full.
+fn check_let_go<R: Threads + Wait + Sync + Abort>(rt: &R, set: &DefaultSet) {
+    for text in &["interned tokenised repeated", "repeated tokenised interned"] {
+        assert!(rt; let_go(rt, set, text), "of {text:?}");
+    }
+}
+
 /// What other workers interned is gone after a refusal.
 #[test]
 fn refusals_let_go_of_all(rt: HostRuntime) {
     let set = set_with(&rt, rt.alloc(), 1, 9);
     let held = intern(&rt, &set, "interned");
-    for text in ["interned tokenised repeated", "repeated tokenised interned"] {
-        assert!(rt; let_go(&rt, &set, text), "of {text:?}");
-    }
+    check_let_go(&rt, &set);
     assert!(rt; held.eq_str("interned"));
 }
 

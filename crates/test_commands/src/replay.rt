@@ -15,10 +15,9 @@ pub fn replayed(alloc: Global, streams: &Streams) -> Outcome {
     Outcome { answer, page }
 }
 
-/// Scripts with what they print, worked out by hand from the table of steps.
-pub const WORKED: [(&[u8], &[u8]); 9] = [
-    (
-        b"1 intern tokenised
+/// A script with what it prints: an entry dies before another party adds a holder.
+pub const DYING_ENTRY: (&[u8], &[u8]) = (
+    b"1 intern tokenised
 1 link
 1 leave
 2 intern tokenised
@@ -30,7 +29,7 @@ pub const WORKED: [(&[u8], &[u8]); 9] = [
 2 free e1
 2 free e1
 ",
-        b"taken
+    b"taken
 linked e1 serial 1
 left
 taken
@@ -43,9 +42,11 @@ freed
 no
 held e2 1
 ",
-    ),
-    (
-        b"limits 1 1
+);
+
+/// One with limits that are met.
+pub const LIMITS: (&[u8], &[u8]) = (
+    b"limits 1 1
 1 intern tokenised
 1 link
 1 leave
@@ -63,7 +64,7 @@ held e2 1
 2 leave
 2 free e1
 ",
-        b"taken
+    b"taken
 linked e1 serial 1
 left
 full
@@ -80,21 +81,29 @@ unlinked
 left
 freed
 ",
-    ),
-    (
-        b"1 intern interned
+);
+
+/// One whose link finds no room.
+pub const NO_ROOM: (&[u8], &[u8]) = (
+    b"1 intern interned
 1 link noroom
 1 leave
 1 link
 1 intern short
 ",
-        b"taken
+    b"taken
 memory
 left
 no
 no
 ",
-    ),
+);
+
+/// Scripts with what they print, worked out by hand from the table of steps.
+const WORKED: [(&[u8], &[u8]); 9] = [
+    DYING_ENTRY,
+    LIMITS,
+    NO_ROOM,
     (
         b"1 intern interned
 1 link

@@ -10,7 +10,7 @@ use std::sync::Wait;
 use std::{io, str};
 use string_cache::dynamic_set::Set;
 use string_cache::word::Limits;
-use string_cache::{Atom, EmptyStaticAtomSet, Fault};
+use string_cache::{Atom, DefaultAtom, EmptyStaticAtomSet, Fault};
 use test_samples::EXAMPLE;
 use text_streams::faults::AppFault;
 use text_streams::streams::{Io, Sink};
@@ -36,6 +36,11 @@ Seen the word \"of\" 1 times
 Seen the word \"text\" 1 times
 Seen the word \"and\" 2 times
 ";
+
+/// A set of the usual limits.
+pub fn new_set(rt: &impl Abort, alloc: Global) -> Set<EmptyStaticAtomSet> {
+    Set::new(alloc).expect(rt, "a set")
+}
 
 /// What `words` answers and writes over these streams and this set.
 pub fn told_in<R: Wait>(rt: &R, set: &Set<EmptyStaticAtomSet>, streams: &Streams) -> Outcome {
@@ -209,15 +214,22 @@ fn large_text(rt: HostRuntime) {
     let front = "abcdefghijklmnopqrst"
         .repeat(rt.alloc(), 100)
         .expect(&rt, "room");
-    let set = Set::<EmptyStaticAtomSet>::new(rt.alloc()).expect(&rt, "a set");
+    let set = new_set(&rt, rt.alloc());
     assert!(rt; are_large(&rt, &set, &front));
+}
+
+/// The atom of a text.
+pub fn intern<'s, R: Wait + Abort>(
+    rt: &R,
+    set: &'s Set<EmptyStaticAtomSet>,
+    text: &str,
+) -> DefaultAtom<'s> {
+    Atom::from_str_in(rt, set, text).expect(rt, "an atom")
 }
 
 /// Whether the atom of a text is dynamic.
 fn is_dynamic<R: Wait + Abort>(rt: &R, set: &Set<EmptyStaticAtomSet>, text: &str) -> bool {
-    Atom::from_str_in(rt, set, text)
-        .expect(rt, "an atom")
-        .is_dynamic()
+    intern(rt, set, text).is_dynamic()
 }
 
 /// Whether a word of the example is too long for an inline atom.
@@ -227,7 +239,7 @@ fn is_long(word: &str) -> bool {
 
 #[test]
 fn dynamic_words_of_the_example(rt: HostRuntime) {
-    let set = Set::<EmptyStaticAtomSet>::new(rt.alloc()).expect(&rt, "a set");
+    let set = new_set(&rt, rt.alloc());
     let text = str::from_utf8(EXAMPLE).expect(&rt, "a text");
     for word in text.split_whitespace() {
         assert!(rt; is_dynamic(&rt, &set, word) == is_long(word), "of {word:?}");
@@ -285,7 +297,7 @@ fn are_held<R: Wait>(rt: &R, set: &Set<EmptyStaticAtomSet>, text: &str, linked: 
 /// Each dynamic word is linked once while the lines are written, and goes with the last of its atoms.
 #[test]
 fn words_are_held_to_the_end(rt: HostRuntime) {
-    let set = Set::<EmptyStaticAtomSet>::new(rt.alloc()).expect(&rt, "a set");
+    let set = new_set(&rt, rt.alloc());
     assert!(rt; are_held(&rt, &set, "interned tokenised interned short", 2));
     let many = numbered(&rt, rt.alloc(), "word", 3000, IN_TEXT);
     assert!(rt; are_held(&rt, &set, &many, 3000));

@@ -6,8 +6,8 @@ use crate::memory::{Bytes, Lost, Outcome, Streams};
 use crate::program::{
     Answer, COUNT_LINE, COUNT_WORDS, NO_MEMORY, answer_of, are_words, arguments_of, words_of_line,
 };
-use crate::replay::{WORKED, replayed};
-use crate::words::{EXAMPLE_LINES, told_alone, told_in};
+use crate::replay::{DYING_ENTRY, LIMITS, NO_ROOM, replayed};
+use crate::words::{EXAMPLE_LINES, new_set, told_alone, told_in};
 use commands::words::words_alone;
 use std::alloc::Global;
 use std::io::Print;
@@ -15,12 +15,12 @@ use std::process::Abort;
 use std::str;
 use std::sync::Wait;
 use std::thread::Threads;
+use string_cache::EmptyStaticAtomSet;
 use string_cache::dynamic_set::Set;
-use string_cache::{Atom, EmptyStaticAtomSet};
 use test_refusals::{End, are, at_last, begin, finish};
 use test_samples::{EXAMPLE, EXAMPLE_COUNTS};
 use text_streams::faults::AppFault;
-use word_counts::count::{Open, count};
+use word_counts::count::{Open, WordCounts, count};
 
 /// Whether a call wrote its output, or a beginning of these lines till it was refused.
 fn is_right(first: &Outcome, lines: &[u8], output: &[u8]) -> bool {
@@ -43,8 +43,7 @@ fn are_told_in<R: Wait + Print>(rt: &R, set: &Set<EmptyStaticAtomSet>) -> bool {
 
 #[test]
 fn words_in_a_set(rt: HostRuntime) {
-    let set = Set::<EmptyStaticAtomSet>::new(rt.alloc()).expect(&rt, "a set");
-    assert!(rt; are_told_in(&rt, &set));
+    assert!(rt; are_told_in(&rt, &new_set(&rt, rt.alloc())));
 }
 
 /// Whether they are told in a table, in a watched call and in another.
@@ -62,23 +61,26 @@ fn words_in_a_table(rt: HostRuntime) {
     assert!(rt; are_told_alone(&rt, rt.alloc()));
 }
 
-/// 100 different words of eight bytes.
-fn hundred_words<R: Abort>(rt: &R, alloc: Global) -> String {
+/// So many words of eight bytes, of which the first 1,024 are different and come again in turn.
+pub fn numbered_words<R: Abort>(rt: &R, alloc: Global, count: u32) -> String {
     let mut text = String::new(alloc);
-    for n in 0..100 {
-        write!(text, "word{n:04} ").expect(rt, "room");
+    for n in 0..count {
+        write!(text, "word{:04} ", n % 1_024).expect(rt, "room");
     }
     text
+}
+
+/// Tells the words of a text in a table, and keeps no line.
+fn tell_alone(alloc: Global, text: &str) -> Result<(), AppFault> {
+    words_alone(alloc, &mut Bytes::whole(text.as_bytes()), &mut Lost)
 }
 
 /// 100 different words of eight bytes, each of which the table holds with bytes of its own.
 #[test]
 fn many_words_in_a_table(rt: HostRuntime) {
     let alloc = rt.alloc();
-    let text = hundred_words(&rt, alloc);
-    let answer = at_last(&rt, || {
-        words_alone(alloc, &mut Bytes::whole(text.as_bytes()), &mut Lost)
-    });
+    let text = numbered_words(&rt, alloc, 100);
+    let answer = at_last(&rt, || tell_alone(alloc, &text));
     assert!(rt; answer == Ok(()));
 }
 
@@ -93,17 +95,17 @@ fn is_replayed(rt: &impl Print, alloc: Global, (script, output): (&[u8], &[u8]))
 
 #[test]
 fn script_with_a_dying_entry_is_replayed(rt: HostRuntime) {
-    assert!(rt; is_replayed(&rt, rt.alloc(), WORKED[0]));
+    assert!(rt; is_replayed(&rt, rt.alloc(), DYING_ENTRY));
 }
 
 #[test]
 fn script_with_limits_is_replayed(rt: HostRuntime) {
-    assert!(rt; is_replayed(&rt, rt.alloc(), WORKED[1]));
+    assert!(rt; is_replayed(&rt, rt.alloc(), LIMITS));
 }
 
 #[test]
 fn script_without_room_is_replayed(rt: HostRuntime) {
-    assert!(rt; is_replayed(&rt, rt.alloc(), WORKED[2]));
+    assert!(rt; is_replayed(&rt, rt.alloc(), NO_ROOM));
 }
 
 /// Whether the example has its counts by this many workers.
@@ -156,8 +158,7 @@ pub fn example_is_counted<R: Threads + Wait + Sync + Print + Abort>(
     requires low { 1 ≤ n }
     requires high { n ≤ 64 }
 {
-    let set = Set::<EmptyStaticAtomSet>::new(alloc).expect(rt, "a set");
-    example_is_counted_in(rt, &set, n)
+    example_is_counted_in(rt, &new_set(rt, alloc), n)
 }
 
 #[test]
@@ -199,7 +200,7 @@ fn text_of_many<R: Abort>(rt: &R, alloc: Global) -> String {
 }
 
 /// Whether these are the counts of that text.
-fn are_many(counts: &[(Atom<'_, EmptyStaticAtomSet>, u64)]) -> bool {
+fn are_many(counts: &WordCounts<'_, EmptyStaticAtomSet>) -> bool {
     match counts.last() {
         Some((atom, n)) => counts.len() == 1_025 && *n == 3_072 && atom.eq_str("a"),
         None => false,
@@ -220,6 +221,23 @@ fn many_are_right<R: Threads + Wait + Sync>(
     Ok(are_many(&counts))
 }
 
+/// Counts that text over the set, and answers the fault that came.
+fn many_are_counted_in<R: Threads + Wait + Sync + Print + Abort>(
+    rt: &R,
+    set: &Set<EmptyStaticAtomSet>,
+    text: &str,
+    n: u32,
+) -> Option<AppFault>
+    requires low { 1 ≤ n }
+    requires high { n ≤ 64 }
+{
+    begin(rt);
+    let answer = many_are_right(rt, set, text, n);
+    finish(rt, End::of(&answer));
+    assert!(rt; is_yes(&answer));
+    answer.err()
+}
+
 /// Counts a text of so many words that lists of them are worth a thread, by this many workers, and answers the fault that came.
 pub fn many_are_counted<R: Threads + Wait + Sync + Print + Abort>(
     rt: &R,
@@ -229,13 +247,8 @@ pub fn many_are_counted<R: Threads + Wait + Sync + Print + Abort>(
     requires low { 1 ≤ n }
     requires high { n ≤ 64 }
 {
-    let set = Set::<EmptyStaticAtomSet>::new(alloc).expect(rt, "a set");
-    let text = text_of_many(rt, alloc);
-    begin(rt);
-    let answer = many_are_right(rt, &set, &text, n);
-    finish(rt, End::of(&answer));
-    assert!(rt; is_yes(&answer));
-    answer.err()
+    let set = new_set(rt, alloc);
+    many_are_counted_in(rt, &set, &text_of_many(rt, alloc), n)
 }
 
 #[test]
@@ -252,21 +265,40 @@ fn is_answer(answer: &Answer, output: &[u8], refusal: &[u8]) -> bool {
     }
 }
 
+/// How the program ended.
+fn end_of(answer: &Answer) -> End {
+    if answer.status == 1 {
+        End::Refused
+    } else {
+        End::Given
+    }
+}
+
+/// Whether that is the answer of a watched call.
+fn is_answered<R: Threads + Wait + Sync + Print>(
+    rt: &R,
+    alloc: Global,
+    args: Vec<String>,
+    (input, output): (&[u8], &[u8]),
+    refusal: &[u8],
+) -> bool {
+    let streams = Streams::ample(input);
+    begin(rt);
+    let answer = answer_of(rt, alloc, args, &streams);
+    finish(rt, end_of(&answer));
+    is_answer(&answer, output, refusal)
+}
+
 /// The whole program over a line of arguments, an input and the output that it has. Where it is refused, this line tells the fault.
 pub fn line_is_run<R: Threads + Wait + Sync + Print + Abort>(
     rt: &R,
     alloc: Global,
     line: &str,
-    (input, output): (&[u8], &[u8]),
+    texts: (&[u8], &[u8]),
     refusal: &[u8],
 ) {
     let args = words_of_line(rt, alloc, line);
-    let streams = Streams::ample(input);
-    begin(rt);
-    let answer = answer_of(rt, alloc, args, &streams);
-    let is_refused = answer.status == 1;
-    finish(rt, if is_refused { End::Refused } else { End::Given });
-    assert!(rt; is_answer(&answer, output, refusal));
+    assert!(rt; is_answered(rt, alloc, args, texts, refusal));
 }
 
 #[test]

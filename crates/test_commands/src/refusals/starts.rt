@@ -4,13 +4,13 @@
 
 use super::programs::{example_is_counted, line_is_run, many_are_counted};
 use crate::program::{EXAMPLE_COUNTS, NO_WORKER};
-use crate::words::set_with;
+use crate::words::{intern, set_with};
 use std::io::Print;
 use std::sync::Wait;
 use std::sync::atomic::{AtomicU64, Ordering};
 use std::thread::Threads;
 use string_cache::dynamic_set::Set;
-use string_cache::{Atom, EmptyStaticAtomSet, Fault};
+use string_cache::{DefaultAtom, EmptyStaticAtomSet, Fault};
 use test_refusals::{End, begin, finish};
 use test_samples::EXAMPLE;
 use text_streams::faults::AppFault;
@@ -130,21 +130,18 @@ fn is_lower_fault<R: Threads + Wait + Sync + Print>(
     fault == Some(wanted)
 }
 
-/// Whether that is so where the first worker's word has its only holder, which alone stays linked.
+/// Whether that is so, and the atom of "interned" alone stays linked.
 fn lower_fault_is_told<R: Threads + Wait + Sync + Print>(
     rt: &R,
     set: &Set<EmptyStaticAtomSet>,
+    held: &DefaultAtom<'_>,
 ) -> bool {
-    let Ok(held) = Atom::from_str_in(rt, set, "interned") else {
-        return false;
-    };
-    let is_lower = is_lower_fault(rt, set, &Entries::new());
-    is_lower && set.linked(rt) == 1 && held.eq_str("interned")
+    is_lower_fault(rt, set, &Entries::new()) && set.linked(rt) == 1 && held.eq_str("interned")
 }
 
-/// The first worker is refused a holder. Its fault is answered where it was started, whether or not the second was.
+/// The first worker is refused a holder, since its word has its only one. Its fault is answered where it was started, whether or not the second was.
 #[test]
 fn lower_fault_is_answered(rt: HostRuntime) {
     let set = set_with(&rt, rt.alloc(), 1, 9);
-    assert!(rt; lower_fault_is_told(&rt, &set));
+    assert!(rt; lower_fault_is_told(&rt, &set, &intern(&rt, &set, "interned")));
 }

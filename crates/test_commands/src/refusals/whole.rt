@@ -1,23 +1,14 @@
 //! Calls over 1,024 different dynamic words, each of which comes twice: `gate/refused.py` sees that no block is left of what they took.
 
+use super::programs::numbered_words;
 use crate::memory::{Bytes, Lost};
 use commands::count::count_command;
 use commands::words::words_command;
 use std::alloc::Global;
 use std::io::Print;
-use std::process::Abort;
 use std::sync::Wait;
 use std::thread::Threads;
 use test_refusals::{End, begin, finish};
-
-/// The words, one after another, and once more.
-fn text_of_words<R: Abort>(rt: &R, alloc: Global) -> String {
-    let mut text = String::new(alloc);
-    for n in 0..2_048u32 {
-        write!(text, "word{:04} ", n % 1_024).expect(rt, "room");
-    }
-    text
-}
 
 /// Whether a watched call tells the words of the text.
 fn are_told<R: Wait + Print>(rt: &R, alloc: Global, text: &str) -> bool {
@@ -29,7 +20,7 @@ fn are_told<R: Wait + Print>(rt: &R, alloc: Global, text: &str) -> bool {
 
 #[test]
 fn words_are_told(rt: HostRuntime) {
-    let text = text_of_words(&rt, rt.alloc());
+    let text = numbered_words(&rt, rt.alloc(), 2_048);
     assert!(rt; are_told(&rt, rt.alloc(), &text));
 }
 
@@ -43,6 +34,6 @@ fn are_counted<R: Threads + Wait + Sync + Print>(rt: &R, alloc: Global, text: &s
 
 #[test]
 fn words_are_counted(rt: HostRuntime) {
-    let text = text_of_words(&rt, rt.alloc());
+    let text = numbered_words(&rt, rt.alloc(), 2_048);
     assert!(rt; are_counted(&rt, rt.alloc(), &text));
 }
