@@ -43,6 +43,24 @@ fn count_of<T: Drop>(held: &[Result<Vec<T>, Fault>]) -> Result<usize, Fault> {
     Ok(count)
 }
 
+/// Notes this number of calls since then, by the atoms that all threads hold.
+fn note_held<T: Drop, R: Clock>(
+    rt: &R,
+    phases: &mut Phases,
+    calls: usize,
+    held: &[Result<Vec<T>, Fault>],
+    start: Instant,
+) -> Result<(), anyhow::Error> {
+    let time = start.elapsed(rt)?;
+    let done = count_of(held)?;
+    phases.add(Phase {
+        name: "intern and hold, by all threads",
+        calls,
+        done,
+        time,
+    })
+}
+
 /// The atoms of all threads in this set.
 fn held_by_all<S: Shared + Sync, R: Threads + Wait + Sync>(
     rt: &R,
@@ -76,13 +94,13 @@ where
 {
     let start = Instant::now(rt)?;
     let held = held_by_all(rt, alloc, set, texts, workers)?;
-    let time = start.elapsed(rt)?;
-    phases.add(Phase {
-        name: "intern and hold, by all threads",
-        calls: texts.len().saturating_mul(workers),
-        done: count_of(&held)?,
-        time,
-    })
+    note_held(
+        rt,
+        phases,
+        texts.len().saturating_mul(workers),
+        &held,
+        start,
+    )
 }
 
 /// Times this number of threads, each of which interns all texts and holds their atoms until all have ended. Every other one goes

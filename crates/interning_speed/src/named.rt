@@ -34,7 +34,7 @@ impl<'s, N: SetName> Keyed for &'s NamedSet<EmptyStaticAtomSet, N> {
         rt: &R,
         atom: &NamedAtom<'s, EmptyStaticAtomSet, N>,
     ) -> Result<ByWord<'s, EmptyStaticAtomSet, N>, Fault> {
-        Ok(ByWord::new(atom.clone_atom(rt)?))
+        atom.clone_atom(rt).map(ByWord::new)
     }
 }
 
@@ -46,6 +46,14 @@ struct Places<K: Drop + Eq + Hash> {
 }
 
 impl<K: Drop + Eq + Hash> Places<K> {
+    /// No words.
+    fn new(alloc: Global) -> Places<K> {
+        Places {
+            keys: Vec::new(alloc),
+            places: HashMap::new(alloc),
+        }
+    }
+
     /// Adds a word to the map.
     fn put(&mut self, key: K, place: usize) -> Result<(), AllocError> {
         self.places.insert(key, place)?;
@@ -62,31 +70,29 @@ impl<K: Drop + Eq + Hash> Places<K> {
     }
 }
 
-/// Adds the words of the atoms to a map, and to its list.
+/// Adds the words of the atoms to the list.
+fn list_all<S: Keyed, R: Wait>(
+    rt: &R,
+    atoms: &[S::Atom],
+    keys: &mut Vec<S::Key>,
+) -> Result<(), Fault> {
+    keys.reserve(atoms.len())?;
+    for atom in atoms {
+        keys.push(S::key_of(rt, atom)?)?;
+    }
+    Ok(())
+}
+
+/// Adds the words of the atoms to the map.
 fn place_all<S: Keyed, R: Wait>(
     rt: &R,
     atoms: &[S::Atom],
     places: &mut Places<S::Key>,
 ) -> Result<(), Fault> {
     for (place, atom) in atoms.iter().enumerate() {
-        places.keys.push(S::key_of(rt, atom)?)?;
         places.put(S::key_of(rt, atom)?, place)?;
     }
     Ok(())
-}
-
-/// A map of the words of the atoms.
-fn places_of<S: Keyed, R: Wait>(
-    rt: &R,
-    alloc: Global,
-    atoms: &[S::Atom],
-) -> Result<Places<S::Key>, Fault> {
-    let mut places = Places {
-        keys: Vec::with_capacity(alloc, atoms.len())?,
-        places: HashMap::new(alloc),
-    };
-    place_all::<S, R>(rt, atoms, &mut places)?;
-    Ok(places)
 }
 
 /// Adds the atom of a long text to those.
@@ -174,19 +180,28 @@ impl<'s, S: Keyed, R: Wait + Clock> Timed<'s, S, R> {
         self.drop_all("drop of a clone", clones)
     }
 
-    /// Looks each word up in this map, which has them all.
-    fn look_up_in(&mut self, places: &Places<S::Key>) -> Result<(), anyhow::Error> {
+    /// Looks the words of the atoms up in this map, which has none yet.
+    fn look_up_in(
+        &mut self,
+        atoms: &[S::Atom],
+        places: &mut Places<S::Key>,
+    ) -> Result<(), anyhow::Error> {
+        list_all::<S, R>(self.rt, atoms, &mut places.keys)?;
+        place_all::<S, R>(self.rt, atoms, places)?;
         let start = Instant::now(self.rt)?;
         let done = places.found();
-        let calls = places.keys.len();
-        self.phases
-            .note(self.rt, "look-up in a map by words", calls, done, start)
+        self.phases.note(
+            self.rt,
+            "look-up in a map by words",
+            atoms.len(),
+            done,
+            start,
+        )
     }
 
     /// Looks the words of the atoms up in a map that has them all.
     fn look_up(&mut self, atoms: &[S::Atom]) -> Result<(), anyhow::Error> {
-        let places = places_of::<S, R>(self.rt, self.alloc, atoms)?;
-        self.look_up_in(&places)
+        self.look_up_in(atoms, &mut Places::new(self.alloc))
     }
 
     /// Times each kind of call.
