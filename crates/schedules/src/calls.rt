@@ -1,8 +1,9 @@
 //! The calls that a thread makes, and what they answer.
 
 use crate::texts::{Case, Word};
+use string_cache::Fault;
 
-/// A call. `Clone`, `Drop` and `ToCase` are made on the newest atom that the thread has.
+/// A call. `Again` and `Drop` are made on the newest atom that the thread has.
 #[derive(Clone, Copy)]
 pub enum Call {
     Intern(Word),
@@ -10,9 +11,9 @@ pub enum Call {
     Read(Word),
     /// Looks a text up.
     Find(Word),
-    Clone,
+    /// Makes an atom of its text in this case, or a clone.
+    Again(Option<Case>),
     Drop,
-    ToCase(Case),
     /// A call on the whole set.
     Whole(Whole),
 }
@@ -35,10 +36,10 @@ impl Call {
             b'0'..=b'7' => Some(Call::Intern(Word::of_number(letter - b'0')?)),
             b'A'..=b'H' => Some(Call::Read(Word::of_number(letter - b'A')?)),
             b'I'..=b'P' => Some(Call::Find(Word::of_number(letter - b'I')?)),
-            b'c' => Some(Call::Clone),
+            b'c' => Some(Call::Again(None)),
             b'd' => Some(Call::Drop),
-            b'u' => Some(Call::ToCase(Case::Upper)),
-            b'w' => Some(Call::ToCase(Case::Lower)),
+            b'u' => Some(Call::Again(Some(Case::Upper))),
+            b'w' => Some(Call::Again(Some(Case::Lower))),
             b's' => Some(Call::Whole(Whole::Sweep)),
             b'l' => Some(Call::Whole(Whole::Linked)),
             b'v' => Some(Call::Whole(Whole::Visit)),
@@ -76,7 +77,7 @@ pub enum Answer {
     Ticket(u64),
     /// An atom of another text.
     OtherText(u64),
-    Fault(u64),
+    Fault(Fault),
     /// No atom, since nobody holds the text.
     Absent,
     Linked(u128),
@@ -93,7 +94,7 @@ impl Answer {
             Answer::Nothing => ("nothing", 0),
             Answer::Ticket(ticket) => ("ticket", u128::from(*ticket)),
             Answer::OtherText(ticket) => ("other-text", u128::from(*ticket)),
-            Answer::Fault(number) => ("fault", u128::from(*number)),
+            Answer::Fault(fault) => ("fault", u128::from(fault.number())),
             Answer::Absent => ("absent", 0),
             Answer::Linked(number) => ("linked", *number),
             Answer::Visited(number) => ("visited", u128::from(*number)),

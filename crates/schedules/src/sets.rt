@@ -21,14 +21,16 @@ pub trait Shared: Copy {
 
     fn find<R: Wait>(self, rt: &R, text: &str) -> Result<Option<Self::Atom>, Fault>;
 
-    fn copy<R: Wait>(rt: &R, atom: &Self::Atom) -> Result<Self::Atom, Fault>;
+    /// The atom of the other one's text in this case, or a clone of it.
+    fn again<R: Wait>(
+        self,
+        rt: &R,
+        atom: &Self::Atom,
+        case: Option<Case>,
+    ) -> Result<Self::Atom, Fault>;
 
-    /// The atom of its text in this case.
-    fn in_case<R: Wait>(self, rt: &R, atom: &Self::Atom, case: Case) -> Result<Self::Atom, Fault>;
-
-    fn ticket(atom: &Self::Atom) -> u64;
-
-    fn is_of(atom: &Self::Atom, text: &str) -> bool;
+    /// An atom's ticket, and whether it has this text.
+    fn ticket(atom: &Self::Atom, text: &str) -> (u64, bool);
 
     fn sweep<R: Wait>(self, rt: &R);
 
@@ -55,28 +57,21 @@ impl<'s> Shared for &'s Set<EmptyStaticAtomSet> {
         DefaultAtom::get_in(rt, self, text)
     }
 
-    fn copy<R: Wait>(rt: &R, atom: &DefaultAtom<'s>) -> Result<DefaultAtom<'s>, Fault> {
-        atom.clone_atom(rt)
-    }
-
-    fn in_case<R: Wait>(
+    fn again<R: Wait>(
         self,
         rt: &R,
         atom: &DefaultAtom<'s>,
-        case: Case,
+        case: Option<Case>,
     ) -> Result<DefaultAtom<'s>, Fault> {
         match case {
-            Case::Lower => atom.to_ascii_lowercase_in(rt, self),
-            Case::Upper => atom.to_ascii_uppercase_in(rt, self),
+            None => atom.clone_atom(rt),
+            Some(Case::Lower) => atom.to_ascii_lowercase_in(rt, self),
+            Some(Case::Upper) => atom.to_ascii_uppercase_in(rt, self),
         }
     }
 
-    fn ticket(atom: &DefaultAtom<'s>) -> u64 {
-        atom.unsafe_data()
-    }
-
-    fn is_of(atom: &DefaultAtom<'s>, text: &str) -> bool {
-        atom.eq_str(text)
+    fn ticket(atom: &DefaultAtom<'s>, text: &str) -> (u64, bool) {
+        (atom.unsafe_data(), atom.eq_str(text))
     }
 
     fn sweep<R: Wait>(self, rt: &R) {
@@ -123,31 +118,21 @@ impl<'s, N: SetName> Shared for &'s NamedSet<EmptyStaticAtomSet, N> {
         NamedAtom::get_in(rt, self, text)
     }
 
-    fn copy<R: Wait>(
-        rt: &R,
-        atom: &NamedAtom<'s, EmptyStaticAtomSet, N>,
-    ) -> Result<NamedAtom<'s, EmptyStaticAtomSet, N>, Fault> {
-        atom.clone_atom(rt)
-    }
-
-    fn in_case<R: Wait>(
+    fn again<R: Wait>(
         self,
         rt: &R,
         atom: &NamedAtom<'s, EmptyStaticAtomSet, N>,
-        case: Case,
+        case: Option<Case>,
     ) -> Result<NamedAtom<'s, EmptyStaticAtomSet, N>, Fault> {
         match case {
-            Case::Lower => atom.to_ascii_lowercase_in(rt, self),
-            Case::Upper => atom.to_ascii_uppercase_in(rt, self),
+            None => atom.clone_atom(rt),
+            Some(Case::Lower) => atom.to_ascii_lowercase_in(rt, self),
+            Some(Case::Upper) => atom.to_ascii_uppercase_in(rt, self),
         }
     }
 
-    fn ticket(atom: &NamedAtom<'s, EmptyStaticAtomSet, N>) -> u64 {
-        atom.unsafe_data()
-    }
-
-    fn is_of(atom: &NamedAtom<'s, EmptyStaticAtomSet, N>, text: &str) -> bool {
-        atom.eq_str(text)
+    fn ticket(atom: &NamedAtom<'s, EmptyStaticAtomSet, N>, text: &str) -> (u64, bool) {
+        (atom.unsafe_data(), atom.eq_str(text))
     }
 
     fn sweep<R: Wait>(self, rt: &R) {

@@ -7,16 +7,6 @@ pub enum Case {
     Upper,
 }
 
-impl Case {
-    /// The name of the call that puts an atom into it.
-    pub fn name(&self) -> &'static str {
-        match self {
-            Case::Lower => "lower",
-            Case::Upper => "upper",
-        }
-    }
-}
-
 /// A text in both cases.
 #[derive(Clone, Copy)]
 struct Text {
@@ -79,11 +69,11 @@ impl Word {
         })
     }
 
-    /// The same text in this case.
-    pub fn in_case(&self, case: Case) -> Word {
+    /// The same text in this case, or in its own.
+    pub fn again(&self, case: Option<Case>) -> Word {
         Word {
             text: self.text,
-            case,
+            case: case.unwrap_or(self.case),
         }
     }
 }

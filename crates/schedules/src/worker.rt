@@ -23,8 +23,8 @@ struct Kept<S: Shared> {
 impl<S: Shared> Kept<S> {
     /// Its ticket, and whether it has its text.
     fn answer(&self) -> Answer {
-        let ticket = S::ticket(&self.atom);
-        if S::is_of(&self.atom, self.word.as_str()) {
+        let (ticket, is_right) = S::ticket(&self.atom, self.word.as_str());
+        if is_right {
             Answer::Ticket(ticket)
         } else {
             Answer::OtherText(ticket)
@@ -92,9 +92,8 @@ impl<'c, S: Shared> Worker<'c, S> {
             Call::Intern(word) => self.intern(rt, word),
             Call::Read(word) => self.read(rt, word),
             Call::Find(word) => self.find(rt, word),
-            Call::Clone => self.copy(rt),
+            Call::Again(case) => self.renew(rt, case),
             Call::Drop => self.let_go(),
-            Call::ToCase(case) => self.change_case(rt, case),
             Call::Whole(call) => self.ask(rt, call),
         }
     }
@@ -134,7 +133,7 @@ impl<'c, S: Shared> Worker<'c, S> {
     ) -> Result<(), Fault> {
         match given {
             Ok(atom) => self.keep_atom(begun, Kept { atom, word }),
-            Err(fault) => self.end(begun, Answer::Fault(u64::from(fault.number()))),
+            Err(fault) => self.end(begun, Answer::Fault(fault)),
         }
     }
 
@@ -167,29 +166,20 @@ impl<'c, S: Shared> Worker<'c, S> {
         let begun = self.begin("find", word.as_str());
         match self.set.find(rt, begun.text) {
             Ok(None) => self.end(begun, Answer::Absent),
-            Ok(Some(atom)) => self.keep(begun, word, Ok(atom)),
-            Err(fault) => self.keep(begun, word, Err(fault)),
+            Ok(Some(atom)) => self.keep_atom(begun, Kept { atom, word }),
+            Err(fault) => self.end(begun, Answer::Fault(fault)),
         }
     }
 
-    fn copy<R: Wait>(&mut self, rt: &R) -> Result<(), Fault> {
+    /// Makes another atom of the newest one: of its text in this case, or a clone.
+    fn renew<R: Wait>(&mut self, rt: &R, case: Option<Case>) -> Result<(), Fault> {
         let Some(Kept { atom, word }) = self.atoms.last() else {
             return Ok(());
         };
         let word = *word;
-        let begun = self.begin("clone", word.as_str());
-        let given = S::copy(rt, atom);
-        self.keep(begun, word, given)
-    }
-
-    fn change_case<R: Wait>(&mut self, rt: &R, case: Case) -> Result<(), Fault> {
-        let Some(Kept { atom, word }) = self.atoms.last() else {
-            return Ok(());
-        };
-        let word = *word;
-        let begun = self.begin(case.name(), word.as_str());
-        let given = self.set.in_case(rt, atom, case);
-        self.keep(begun, word.in_case(case), given)
+        let begun = self.begin(name_of(case), word.as_str());
+        let given = self.set.again(rt, atom, case);
+        self.keep(begun, word.again(case), given)
     }
 
     fn let_go(&mut self) -> Result<(), Fault> {
@@ -207,6 +197,15 @@ impl<'c, S: Shared> Worker<'c, S> {
         let begun = self.begin(call.name(), "-");
         let answer = ask_set(rt, self.set, call);
         self.end(begun, answer)
+    }
+}
+
+/// The name of the call that makes an atom of another one's text in this case, or a clone of it.
+fn name_of(case: Option<Case>) -> &'static str {
+    match case {
+        None => "clone",
+        Some(Case::Lower) => "lower",
+        Some(Case::Upper) => "upper",
     }
 }
 
