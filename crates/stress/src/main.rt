@@ -11,8 +11,8 @@ use std::rt::Env;
 use std::sync::Wait;
 use std::thread::Threads;
 use std::{env, thread};
-use string_cache::EmptyStaticAtomSet;
 use string_cache::dynamic_set::Set;
+use string_cache::{EmptyStaticAtomSet, Fault};
 use worker::Worker;
 
 /// What the arguments ask for.
@@ -48,25 +48,43 @@ struct Outcome {
     left: u128,
 }
 
-/// Has this number of workers at work in a set, each in a thread of its own, and sweeps the set once.
-fn work<R: Threads + Wait + Sync>(
+/// The sum of what the workers counted.
+fn sum_of(counts: &[Result<u64, Fault>]) -> Result<u64, Fault> {
+    let mut sum = 0u64;
+    for count in counts {
+        match count {
+            Ok(count) => sum = sum.saturating_add(*count),
+            Err(fault) => return Err(*fault),
+        }
+    }
+    Ok(sum)
+}
+
+/// Has this number of workers at work in the set, each in a thread of its own. How many atoms had another text than theirs.
+fn count_wrong<R: Threads + Wait + Sync>(
     rt: &R,
     alloc: Global,
+    set: &Set<EmptyStaticAtomSet>,
     command: Command,
-) -> Result<Outcome, anyhow::Error> {
-    let set = Set::<EmptyStaticAtomSet>::new(alloc)?;
-    let shared = &set;
+) -> Result<u64, Fault> {
     let rounds = command.rounds;
     let counts = thread::map_indices(
         rt,
         alloc,
         command.workers,
-        &|n| { Worker::new(rt, shared, n as u64).work(rounds) },
+        &|n| { Worker::new(rt, set, n as u64).work(rounds) },
     )?;
-    let mut wrong = 0u64;
-    for count in counts {
-        wrong = wrong.saturating_add(count?);
-    }
+    sum_of(&counts)
+}
+
+/// Has the workers at work in a set, and sweeps that once.
+fn work<R: Threads + Wait + Sync>(
+    rt: &R,
+    alloc: Global,
+    command: Command,
+) -> Result<Outcome, Fault> {
+    let set = Set::<EmptyStaticAtomSet>::new(alloc)?;
+    let wrong = count_wrong(rt, alloc, &set, command)?;
     set.sweep(rt);
     Ok(Outcome {
         wrong,

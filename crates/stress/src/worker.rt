@@ -30,12 +30,13 @@ impl<'s> Kept<'s> {
         set: &'s Set<EmptyStaticAtomSet>,
         case: Option<Case>,
     ) -> Result<Kept<'s>, Fault> {
+        let atom = match case {
+            None => self.atom.clone_atom(rt),
+            Some(Case::Lower) => self.atom.to_ascii_lowercase_in(rt, set),
+            Some(Case::Upper) => self.atom.to_ascii_uppercase_in(rt, set),
+        };
         Ok(Kept {
-            atom: match case {
-                None => self.atom.clone_atom(rt)?,
-                Some(Case::Lower) => self.atom.to_ascii_lowercase_in(rt, set)?,
-                Some(Case::Upper) => self.atom.to_ascii_uppercase_in(rt, set)?,
-            },
+            atom: atom?,
             text: self.text,
             case: case.unwrap_or(self.case),
         })
