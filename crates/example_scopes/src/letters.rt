@@ -1,7 +1,7 @@
 //! What the letters of a program in C are part of.
 
 /// What was read last.
-#[derive(Clone, Copy, PartialEq, Eq)]
+#[derive(Clone, Copy)]
 pub enum State {
     /// White space, a sign, or the end of a text or of a comment.
     Between,
@@ -70,5 +70,5 @@ const KEYWORDS: [&str; 34] = [
 
 /// Whether a name is a word of the language.
 pub fn is_keyword(name: &str) -> bool {
-    KEYWORDS.iter().any(|keyword| *keyword == name)
+    KEYWORDS.contains(&name)
 }

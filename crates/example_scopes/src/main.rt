@@ -54,8 +54,8 @@ impl Reader {
 
     /// Comes to what is next at this place of the text: a name may begin there, and one that ends there is seen.
     fn pass(&mut self, text: &str, at: usize, next: State) -> Result<(), anyhow::Error> {
-        let was_name = self.state == State::Name;
-        let is_name = next == State::Name;
+        let was_name = matches!(self.state, State::Name);
+        let is_name = matches!(next, State::Name);
         self.state = next;
         if is_name && !was_name {
             self.begin = at;
@@ -81,7 +81,8 @@ impl Reader {
 
 /// Prints the lines that tell of a text's names.
 fn print_names(rt: &impl Print, alloc: Global, text: &str) -> Result<(), anyhow::Error> {
-    Reader::new(alloc)?.print_names(rt, text)
+    let mut reader = Reader::new(alloc)?;
+    reader.print_names(rt, text)
 }
 
 fn main(rt: HostRuntime) -> Result<(), anyhow::Error> {
