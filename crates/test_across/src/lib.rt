@@ -9,3 +9,15 @@ mod names;
 mod refusals;
 #[cfg(test)]
 mod vectors;
+
+/// Ends the test unless this is so: one call, where `assert!` writes its message and its ways out into the function that asks.
+#[cfg(test)]
+fn assert_that(rt: &impl std::process::Abort, is_so: bool) {
+    assert!(rt; is_so);
+}
+
+/// Ends the test unless this is so for a value, which it tells.
+#[cfg(test)]
+fn assert_for<T: std::fmt::Debug>(rt: &impl std::process::Abort, is_so: bool, value: &T) {
+    assert!(rt; is_so, "of {value:?}");
+}

@@ -2,6 +2,7 @@
 
 mod static_names;
 
+use crate::{assert_for, assert_that};
 use static_names::{Name, Names};
 use string_cache::{Atom, StaticAtomSet};
 use test_samples::NAMES;
@@ -28,12 +29,12 @@ fn long_names_are_static(rt: HostRuntime) {
     let mut long = 0usize;
     for name in NAMES.lines() {
         let is_found = is_static::<Names>(name);
-        assert!(rt; is_found == (name.len() > 7), "of {name}");
+        assert_for(&rt, is_found == (name.len() > 7), &name);
         if is_found && long < usize::MAX {
             long += 1;
         }
     }
-    assert!(rt; count_of::<Names>() == long);
+    assert_that(&rt, count_of::<Names>() == long);
 }
 
 /// What languages have a name for.
@@ -67,6 +68,6 @@ fn words_tell_names_apart(rt: HostRuntime) {
         ("background-color", Some(Kind::Other)),
         ("blockquotes", None),
     ] {
-        assert!(rt; kind_of_text(text) == *kind, "of {text}");
+        assert_for(&rt, kind_of_text(text) == *kind, text);
     }
 }

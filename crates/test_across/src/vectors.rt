@@ -4,6 +4,7 @@ mod limits;
 mod long;
 mod odd;
 
+use crate::assert_for;
 use crate::begun::new_set;
 use std::alloc::Global;
 use std::sync::Wait;
@@ -183,6 +184,6 @@ fn vectors(rt: HostRuntime) {
             Tables::Empty => vector.is_told(&rt, &empty),
             Tables::One => vector.is_told(&rt, &one),
         };
-        assert!(rt; is_told, "of {:?}", vector.text);
+        assert_for(&rt, is_told, &vector.text);
     }
 }

@@ -1,6 +1,7 @@
 //! What no contract says: words and texts that come from outside, and sets that threads share.
 
 use crate::samples::{DefaultSet, intern, new_set};
+use crate::{assert_for, assert_that};
 use std::process::Abort;
 use std::sync::Wait;
 use std::thread::{self, Threads};
@@ -41,9 +42,9 @@ const INLINE: [(&str, u64); 6] = [
 fn inline_atoms(rt: HostRuntime) {
     let set = new_set(&rt, rt.alloc());
     for (text, word) in &INLINE {
-        assert!(rt; has_inline_word(&rt, &set, text, *word), "of {text:?}");
+        assert_for(&rt, has_inline_word(&rt, &set, text, *word), text);
     }
-    assert!(rt; !are_equal(&rt, (&set, "\0"), (&set, "")));
+    assert_that(&rt, !are_equal(&rt, (&set, "\0"), (&set, "")));
 }
 
 /// Whether the text is dynamic, with this word and its own text.
@@ -66,7 +67,7 @@ fn dynamic_atoms(rt: HostRuntime) {
     // Held to the end, so that its entry is found again.
     let _held = intern(&rt, &set, "abcdefgh");
     for (text, ticket) in &DYNAMIC {
-        assert!(rt; has_ticket(&rt, &set, text, *ticket), "of {text:?}");
+        assert_for(&rt, has_ticket(&rt, &set, text, *ticket), text);
     }
 }
 
@@ -74,8 +75,14 @@ fn dynamic_atoms(rt: HostRuntime) {
 fn atoms_of_two_sets(rt: HostRuntime) {
     let one = new_set(&rt, rt.alloc());
     let other = new_set(&rt, rt.alloc());
-    assert!(rt; are_equal(&rt, (&one, "abcdefgh"), (&other, "abcdefgh")));
-    assert!(rt; !are_equal(&rt, (&one, "abcdefgh"), (&other, "interned")));
+    assert_that(
+        &rt,
+        are_equal(&rt, (&one, "abcdefgh"), (&other, "abcdefgh")),
+    );
+    assert_that(
+        &rt,
+        !are_equal(&rt, (&one, "abcdefgh"), (&other, "interned")),
+    );
 }
 
 /// Whether the number and the length make the atom of this text.
@@ -109,10 +116,10 @@ const NOT_PACKED: [(u64, u8); 6] = [
 #[test]
 fn packed_inline(rt: HostRuntime) {
     for (n, len, text) in &PACKED {
-        assert!(rt; is_packed(*n, *len, text), "of {text:?}");
+        assert_for(&rt, is_packed(*n, *len, text), text);
     }
     for (n, len) in &NOT_PACKED {
-        assert!(rt; is_not_packed(*n, *len), "of {n:#x} and {len}");
+        assert_for(&rt, is_not_packed(*n, *len), &(n, len));
     }
 }
 
@@ -136,16 +143,16 @@ fn is_dynamic<R: Wait + Abort>(rt: &R, set: &Set<One>, text: &str) -> bool {
 #[test]
 fn static_atoms(rt: HostRuntime) {
     let set = new_set(&rt, rt.alloc());
-    assert!(rt; are_sentences(&rt, &set));
-    assert!(rt; is_dynamic(&rt, &set, "sentencf"));
+    assert_that(&rt, are_sentences(&rt, &set));
+    assert_that(&rt, is_dynamic(&rt, &set, "sentencf"));
 }
 
 #[test]
 fn not_static(rt: HostRuntime) {
-    assert!(rt; DefaultAtom::try_static("").is_none());
-    assert!(rt; DefaultAtom::pack_static(0).is_none());
-    assert!(rt; Atom::<One>::try_static("sentencf").is_none());
-    assert!(rt; Atom::<One>::pack_static(1).is_none());
+    assert_that(&rt, DefaultAtom::try_static("").is_none());
+    assert_that(&rt, DefaultAtom::pack_static(0).is_none());
+    assert_that(&rt, Atom::<One>::try_static("sentencf").is_none());
+    assert_that(&rt, Atom::<One>::pack_static(1).is_none());
 }
 
 /// An atom of a text that all threads intern, and one of a text of a thread's own.
@@ -182,5 +189,5 @@ fn share<R: Threads + Wait + Abort + Sync>(rt: &R, set: &DefaultSet) -> bool {
 #[test]
 fn shared_by_threads(rt: HostRuntime) {
     let set = new_set(&rt, rt.alloc());
-    assert!(rt; share(&rt, &set));
+    assert_that(&rt, share(&rt, &set));
 }

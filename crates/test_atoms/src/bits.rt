@@ -1,6 +1,7 @@
 //! Sets of each number of buckets. The low bits of the hash of "interned" are 0x7210, and a word is its serial times 0x10000 and its
 //! bucket times 4.
 
+use crate::assert_that;
 use crate::samples::{
     BITS, DefaultSet, buckets_of, check_linked, drop_under_locks, intern, word_of,
 };
@@ -37,14 +38,20 @@ fn is_found<R: Wait>(rt: &R, set: &DefaultSet, word: u64) -> bool {
 /// Checks that the text's first word is this one, and that it is the only one.
 fn check_first<R: Wait + Abort>(rt: &R, set: &DefaultSet, number: usize, place: usize, first: u64) {
     let atom = intern(rt, set, "interned");
-    assert!(rt; has_word(&atom, first));
-    assert!(rt; has_one_entry(rt, set, number, place) && is_found(rt, set, first));
+    assert_that(rt, has_word(&atom, first));
+    assert_that(
+        rt,
+        has_one_entry(rt, set, number, place) && is_found(rt, set, first),
+    );
 }
 
 /// And that the next one has the next serial.
 fn check_words<R: Wait + Abort>(rt: &R, set: &DefaultSet, number: usize, place: usize, first: u64) {
     check_first(rt, set, number, place, first);
-    assert!(rt; word_of(rt, set, "interned").wrapping_sub(first) == 0x1_0000);
+    assert_that(
+        rt,
+        word_of(rt, set, "interned").wrapping_sub(first) == 0x1_0000,
+    );
 }
 
 /// Checks them in a set of so many bits.

@@ -2,6 +2,7 @@
 
 mod links;
 
+use crate::assert_that;
 use std::alloc::Global;
 use std::process::Abort;
 use std::sync::Wait;
@@ -137,10 +138,10 @@ fn pass_over_three<R: Wait + Abort>(rt: &R, alloc: Global, fake: Fake) -> (u64, 
     let one = link_as(rt, &mut bucket, FIRST);
     let two = link_as(rt, &mut bucket, SECOND);
     let three = link_as(rt, &mut bucket, THIRD);
-    assert!(rt; tickets(&mut bucket) == [THIRD, SECOND, FIRST]);
+    assert_that(rt, tickets(&mut bucket) == [THIRD, SECOND, FIRST]);
     let finds = finds(rt, &mut bucket, fake);
     let left = tickets(&mut bucket);
-    assert!(rt; stay(&one, &two, &three));
+    assert_that(rt, stay(&one, &two, &three));
     (finds, left)
 }
 
@@ -162,7 +163,7 @@ const PASSES: [(u64, u64, u64, u64, [u64; 3]); 3] = [
 fn passes(rt: HostRuntime) {
     for (added, full, gone, finds, left) in &PASSES {
         let found = pass_over_three(&rt, rt.alloc(), Fake::new(*added, *full, *gone));
-        assert!(rt; found == (*finds, *left));
+        assert_that(&rt, found == (*finds, *left));
     }
 }
 
@@ -178,7 +179,7 @@ fn intern<R: Wait>(
 
 /// Checks that the share is of the text, under the ticket.
 fn check_share(rt: &impl Abort, share: &Share, text: &str, ticket: u64) {
-    assert!(rt; is_share(share, text, ticket));
+    assert_that(rt, is_share(share, text, ticket));
 }
 
 /// A share of a text, whose entry is linked where there is none.
@@ -203,8 +204,8 @@ fn is_full<R: Wait>(rt: &R, bucket: &mut Bucket<EmptyStaticAtomSet>, limits: &Li
 fn hold_by_two<R: Wait + Abort>(rt: &R, bucket: &mut Bucket<EmptyStaticAtomSet>, limits: &Limits) {
     let one = share_of(rt, bucket, "tokenised", limits);
     let two = share_of(rt, bucket, "tokenised", limits);
-    assert!(rt; one.ticket() == two.ticket());
-    assert!(rt; is_full(rt, bucket, limits));
+    assert_that(rt, one.ticket() == two.ticket());
+    assert_that(rt, is_full(rt, bucket, limits));
 }
 
 #[test]
@@ -215,7 +216,7 @@ fn shares_of_a_bucket(rt: HostRuntime) {
     // The entry is dying, and goes with the pass that links the next.
     let next = share_of(&rt, &mut bucket, "tokenised", &limits);
     check_share(&rt, &next, "tokenised", SECOND);
-    assert!(rt; tickets(&mut bucket) == [SECOND, 0, 0]);
+    assert_that(&rt, tickets(&mut bucket) == [SECOND, 0, 0]);
 }
 
 /// A share that outlives its bucket keeps its text, as does one whose entry made-up counts took out.
@@ -223,8 +224,8 @@ fn shares_of_a_bucket(rt: HostRuntime) {
 fn share_outlives_its_bucket(rt: HostRuntime) {
     let mut bucket = new_bucket(rt.alloc());
     let taken_out = link_as(&rt, &mut bucket, FIRST);
-    assert!(rt; finds(&rt, &mut bucket, Fake::new(0, 0, 0)) == 0);
-    assert!(rt; tickets(&mut bucket) == [0, 0, 0]);
+    assert_that(&rt, finds(&rt, &mut bucket, Fake::new(0, 0, 0)) == 0);
+    assert_that(&rt, tickets(&mut bucket) == [0, 0, 0]);
     let linked = link_as(&rt, &mut bucket, SECOND);
     drop(bucket);
     check_share(&rt, &linked, "tokenised", SECOND);
@@ -242,7 +243,7 @@ fn spent_tickets(rt: HostRuntime) {
     let mut bucket = new_bucket(rt.alloc());
     drop(link_within(&rt, &mut bucket, &limits, FIRST));
     drop(link_within(&rt, &mut bucket, &limits, SECOND));
-    assert!(rt; is_spent(&mut bucket, &limits));
+    assert_that(&rt, is_spent(&mut bucket, &limits));
 }
 
 /// A bucket asks for a text's hash alone: g and f1 of this one, which is inline, are 0x7f1a22d084b2f283 by OpenSSL's SipHash.
@@ -251,7 +252,7 @@ fn short_text_of_a_bucket(rt: HostRuntime) {
     let limits = Limits::greatest();
     let mut bucket = new_bucket(rt.alloc());
     let share = share_of(&rt, &mut bucket, "foo", &limits);
-    assert!(rt; share.ticket() == ticket_word(1, 0x283));
+    assert_that(&rt, share.ticket() == ticket_word(1, 0x283));
     let again = share_of(&rt, &mut bucket, "foo", &limits);
     check_share(&rt, &again, "foo", share.ticket());
 }

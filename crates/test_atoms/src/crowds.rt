@@ -1,6 +1,7 @@
 //! Texts of one bucket, and many workers at them.
 
 use crate::samples::{BITS, DefaultSet, buckets_of, check_linked, clone_of, default_set, intern};
+use crate::{assert_for, assert_that};
 use std::alloc::Global;
 use std::process::Abort;
 use std::sync::Wait;
@@ -85,16 +86,16 @@ fn cloned_apart<'s, R: Wait + Abort>(
 ) -> (DefaultAtom<'s>, DefaultAtom<'s>) {
     let one = intern(rt, set, first);
     let two = intern(rt, set, second);
-    assert!(rt; are_apart(&one, &two));
+    assert_that(rt, are_apart(&one, &two));
     (clone_of(rt, &one), clone_of(rt, &two))
 }
 
 /// Interns both texts in a set, and goes on with clones.
 fn check_apart_in_a_set<R: Wait + Abort>(rt: &R, set: &DefaultSet, first: &str, second: &str) {
     let (one, two) = cloned_apart(rt, set, first, second);
-    assert!(rt; has_text(&one, first) && has_text(&two, second));
+    assert_that(rt, has_text(&one, first) && has_text(&two, second));
     drop(one);
-    assert!(rt; has_text(&two, second));
+    assert_that(rt, has_text(&two, second));
     check_linked(rt, set, 1);
     drop(two);
     check_linked(rt, set, 0);
@@ -105,15 +106,15 @@ fn check_apart_in_a_set<R: Wait + Abort>(rt: &R, set: &DefaultSet, first: &str, 
 /// The word of a text, which is held twice.
 fn hold_twice(rt: &impl Abort, table: &mut Table<EmptyStaticAtomSet>, text: &str) -> u64 {
     let word = table.intern(text).expect(rt, "a word");
-    assert!(rt; table.holds(word));
+    assert_that(rt, table.holds(word));
     let clone = table.clone_word(word).expect(rt, "a word");
-    assert!(rt; clone == word);
+    assert_that(rt, clone == word);
     word
 }
 
 /// Gives a word that has to be held.
 fn give(rt: &impl Abort, table: &mut Table<EmptyStaticAtomSet>, word: u64) {
-    assert!(rt; table.holds(word));
+    assert_that(rt, table.holds(word));
     table.give(word);
 }
 
@@ -138,14 +139,17 @@ fn check_apart_in_a_table(
 ) {
     let one = hold_twice(rt, table, first);
     let two = hold_twice(rt, table, second);
-    assert!(rt; one != two);
+    assert_that(rt, one != two);
     give(rt, table, one);
     give(rt, table, two);
-    assert!(rt; is_text_of(table, one, first) && is_text_of(table, two, second));
+    assert_that(
+        rt,
+        is_text_of(table, one, first) && is_text_of(table, two, second),
+    );
     give(rt, table, one);
-    assert!(rt; is_text_of(table, two, second) && has_entries(table, 1));
+    assert_that(rt, is_text_of(table, two, second) && has_entries(table, 1));
     give(rt, table, two);
-    assert!(rt; has_entries(table, 0));
+    assert_that(rt, has_entries(table, 0));
 }
 
 /// Checks two texts in a set of this many buckets.
@@ -172,8 +176,11 @@ fn check_apart<R: Wait + Abort>(
     first: &str,
     second: &str,
 ) {
-    assert!(rt; first != second);
-    assert!(rt; bucket_of_text(buckets, first) == bucket_of_text(buckets, second));
+    assert_that(rt, first != second);
+    assert_that(
+        rt,
+        bucket_of_text(buckets, first) == bucket_of_text(buckets, second),
+    );
     check_set(rt, alloc, buckets, first, second);
     check_table(rt, alloc, buckets, first, second);
 }
@@ -192,7 +199,7 @@ fn first_mates(
 
 /// Checks two texts, which these are.
 fn check_both<R: Wait + Abort>(rt: &R, alloc: Global, buckets: Buckets, mates: &[String]) {
-    assert!(rt; mates.len() == 2);
+    assert_that(rt, mates.len() == 2);
     if let [first, second] = mates {
         check_apart(rt, alloc, buckets, first, second);
     }
@@ -249,8 +256,8 @@ fn work_together<R: Threads + Wait + Abort + Sync>(
 }
 
 fn check_eleven<R: Threads + Wait + Abort + Sync>(rt: &R, set: &DefaultSet, texts: &[String]) {
-    assert!(rt; texts.len() == 11);
-    assert!(rt; work_together(rt, set, texts));
+    assert_that(rt, texts.len() == 11);
+    assert_that(rt, work_together(rt, set, texts));
 }
 
 /// Workers at eleven texts of one bucket, in a set of 2 to the power of `bits` buckets. As ten texts for each bucket would be fewer, some
@@ -283,9 +290,12 @@ fn comes_and_goes<R: Wait + Abort>(rt: &R, set: &DefaultSet, text: &str) -> bool
 
 fn come_and_go<R: Wait + Abort>(rt: &R, set: &DefaultSet) {
     for n in 0..10_000 {
-        assert!(rt; comes_and_goes(rt, set, &numbered(rt, set.allocator(), n)));
+        assert_that(
+            rt,
+            comes_and_goes(rt, set, &numbered(rt, set.allocator(), n)),
+        );
         if n % 1000 == 999 {
-            assert!(rt; links(rt, set, 0), "after {n}");
+            assert_for(rt, links(rt, set, 0), &n);
         }
     }
 }

@@ -1,5 +1,6 @@
 //! One entry in each bucket of a set: held, then dying, then gone.
 
+use crate::assert_that;
 use crate::samples::{DefaultSet, buckets_of, drop_under_locks, intern, shown};
 use std::alloc::Global;
 use std::process::Abort;
@@ -139,9 +140,9 @@ fn go_alone<R: Wait + Abort>(rt: &R, set: &DefaultSet, texts: &[String]) -> bool
 
 /// Checks a set of these buckets, of which each has one of the texts.
 fn check_set<R: Wait + Abort>(rt: &R, set: &DefaultSet, buckets: Buckets, texts: &[String]) {
-    assert!(rt; texts.len() == buckets.number());
-    assert!(rt; are_swept(rt, set, texts));
-    assert!(rt; go_alone(rt, set, texts));
+    assert_that(rt, texts.len() == buckets.number());
+    assert_that(rt, are_swept(rt, set, texts));
+    assert_that(rt, go_alone(rt, set, texts));
 }
 
 /// Checks a set with as many bits of buckets.

@@ -3,6 +3,7 @@
 
 use crate::samples::new_set;
 use crate::scenes::{Call, Step, play_in_new, play_in_one_bucket, play_within};
+use crate::{assert_for, assert_that};
 use std::sync::Wait;
 use string_cache::Fault;
 use string_cache::dynamic_set::Set;
@@ -24,9 +25,9 @@ const FIXED: [(&str, u64); 4] = [("", 1), ("\0", 0x11), ("foo", 0x6f6f_6631), ("
 fn fixed_texts_are_found(rt: HostRuntime) {
     let set = new_set::<One>(&rt, rt.alloc());
     for (text, word) in &FIXED {
-        assert!(rt; is_found(&rt, &set, text, *word), "of {text:?}");
+        assert_for(&rt, is_found(&rt, &set, text, *word), text);
     }
-    assert!(rt; links(&rt, &set, 0));
+    assert_that(&rt, links(&rt, &set, 0));
 }
 
 /// "forgotten" has an atom, where another text of its bucket and one of another bucket have none. What is found holds its text after the atom

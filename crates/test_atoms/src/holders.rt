@@ -1,6 +1,7 @@
 //! Holders up to their limit, and what is left of them. By OpenSSL's SipHash the bucket of "interned" is 0x210, so that its first two tickets
 //! are 0x1_0840 and 0x2_0840.
 
+use crate::assert_that;
 use crate::samples::{limited_set, new_set};
 use crate::scenes::{Call, Step, play_in_new, play_within};
 use std::process::Abort;
@@ -56,9 +57,9 @@ fn one_serial(rt: HostRuntime) {
 #[test]
 fn limits_of_a_set(rt: HostRuntime) {
     let set = new_set::<EmptyStaticAtomSet>(&rt, rt.alloc());
-    assert!(rt; set.limits() == Limits::greatest());
+    assert_that(&rt, set.limits() == Limits::greatest());
     let set = limited_set(&rt, rt.alloc(), 2, 9);
-    assert!(rt; set.limits() == limits_of(&rt, 2, 9));
+    assert_that(&rt, set.limits() == limits_of(&rt, 2, 9));
 }
 
 /// A text of two thousand holders and one more, interned and cloned in turn, of which the first is left.

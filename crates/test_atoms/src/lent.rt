@@ -1,5 +1,6 @@
 //! Atoms where any text or any bytes are asked for, and atoms in structs that are written as JSON.
 
+use crate::assert_for;
 use crate::samples::{intern, new_set};
 use serde::Serialize;
 use std::convert::{AsSlice, AsStr};
@@ -29,7 +30,7 @@ const TEXTS: [&str; 4] = ["", "été", "sentence", "tokenised"];
 fn texts_are_lent(rt: HostRuntime) {
     let set = new_set::<One>(&rt, rt.alloc());
     for text in &TEXTS {
-        assert!(rt; lends(&intern(&rt, &set, text), text), "of {text:?}");
+        assert_for(&rt, lends(&intern(&rt, &set, text), text), text);
     }
 }
 
@@ -81,6 +82,6 @@ const PRICES: [(&str, &str, &str); 3] = [
 fn prices_are_written(rt: HostRuntime) {
     let set = new_set::<One>(&rt, rt.alloc());
     for (name, kind, json) in &PRICES {
-        assert!(rt; is_written(&rt, &set, name, kind, json), "of {name:?}");
+        assert_for(&rt, is_written(&rt, &set, name, kind, json), name);
     }
 }

@@ -1,6 +1,7 @@
 //! Lists of atoms of one set: what they hold, and that what goes from them is given back.
 
 use crate::samples::{DefaultSet, default_set, intern, limited_set, lock_of, new_set, one_bucket};
+use crate::{assert_for, assert_that};
 use std::alloc::Global;
 use std::process::Abort;
 use std::sync::Wait;
@@ -47,7 +48,7 @@ fn act<R: Threads + Wait + Abort + Sync>(rt: &R, set: &DefaultSet, scene: Scene)
 /// Plays the scene in a set, which has no entry afterwards.
 fn play<R: Threads + Wait + Abort + Sync>(rt: &R, set: DefaultSet, scene: Scene) {
     act(rt, &set, scene);
-    assert!(rt; links(rt, &set, 0));
+    assert_that(rt, links(rt, &set, 0));
 }
 
 /// A list of these texts.
@@ -135,21 +136,22 @@ const FORMS: [&str; 5] = ["é", "sentence", "interned", "", "Überfluß"];
 
 /// A list of each form lends the atoms of its texts, and none behind them.
 fn lend_each_form<R: Wait + Abort>(rt: &R, set: &Set<One>, list: &AtomList<'_, One>) {
-    assert!(rt; holds(rt, set, list, &FORMS, 2));
+    assert_that(rt, holds(rt, set, list, &FORMS, 2));
     for (at, text) in FORMS.iter().enumerate() {
-        assert!(rt;
+        assert_for(
+            rt,
             lends_own_atom(rt, list, at, &intern(rt, set, text), text),
-            "at {at}"
+            &at,
         );
     }
-    assert!(rt; lends_none(rt, list, 5));
+    assert_that(rt, lends_none(rt, list, 5));
 }
 
 #[test]
 fn list_of_each_form(rt: HostRuntime) {
     let set = new_set::<One>(&rt, rt.alloc());
     lend_each_form(&rt, &set, &list_of(&rt, &set, &FORMS));
-    assert!(rt; links(&rt, &set, 0));
+    assert_that(&rt, links(&rt, &set, 0));
 }
 
 /// Whether the last place is of this word and text, and the set then has so many entries with what the list has left.
@@ -176,13 +178,19 @@ const FOUR: [&str; 4] = ["interned", "a", "interned", "geometric"];
 
 /// Takes and cuts off the places of a list of the four, till it has none.
 fn take_places<R: Wait + Abort>(rt: &R, set: &DefaultSet, list: &mut DefaultList<'_>) {
-    assert!(rt; pops(rt, set, list, (ticket_word(1, 0xfff), "geometric"), 1));
+    assert_that(
+        rt,
+        pops(rt, set, list, (ticket_word(1, 0xfff), "geometric"), 1),
+    );
     list.truncate(9);
-    assert!(rt; holds(rt, set, list, &["interned", "a", "interned"], 1));
+    assert_that(rt, holds(rt, set, list, &["interned", "a", "interned"], 1));
     list.truncate(1);
-    assert!(rt; holds(rt, set, list, &["interned"], 1));
-    assert!(rt; pops(rt, set, list, (ticket_word(1, 0x210), "interned"), 0));
-    assert!(rt; !has_last(list) && holds(rt, set, list, &[], 0));
+    assert_that(rt, holds(rt, set, list, &["interned"], 1));
+    assert_that(
+        rt,
+        pops(rt, set, list, (ticket_word(1, 0x210), "interned"), 0),
+    );
+    assert_that(rt, !has_last(list) && holds(rt, set, list, &[], 0));
 }
 
 /// By OpenSSL's SipHash "interned" is in bucket 0x210 and "geometric" in 0xfff.
@@ -196,9 +204,9 @@ const THREE: [&str; 3] = ["interned", "Überfluß", "ab"];
 
 fn fill_again<R: Wait + Abort>(rt: &R, set: &DefaultSet, list: &mut DefaultList<'_>) {
     list.clear();
-    assert!(rt; holds(rt, set, list, &[], 0));
+    assert_that(rt, holds(rt, set, list, &[], 0));
     push(rt, list, "tokenised").expect(rt, "a place");
-    assert!(rt; holds(rt, set, list, &["tokenised"], 1));
+    assert_that(rt, holds(rt, set, list, &["tokenised"], 1));
 }
 
 #[test]
@@ -217,11 +225,11 @@ fn is_full<R: Wait>(rt: &R, list: &mut DefaultList<'_>) -> bool {
 }
 
 fn fill_narrow_set<R: Wait + Abort>(rt: &R, set: &DefaultSet, list: &mut DefaultList<'_>) {
-    assert!(rt; is_full(rt, list) && is_full(rt, list));
+    assert_that(rt, is_full(rt, list) && is_full(rt, list));
     list.clear();
-    assert!(rt; links(rt, set, 0));
-    assert!(rt; push(rt, list, "interned") == Err(Fault::TicketsSpent));
-    assert!(rt; list.is_empty());
+    assert_that(rt, links(rt, set, 0));
+    assert_that(rt, push(rt, list, "interned") == Err(Fault::TicketsSpent));
+    assert_that(rt, list.is_empty());
 }
 
 /// In a set whose entries may have two holders, and whose buckets have one serial each, a refused place leaves no share behind.
@@ -262,9 +270,9 @@ fn long_list<'s, R: Wait + Abort>(rt: &R, set: &'s DefaultSet) -> DefaultList<'s
 
 /// A list of many texts has the last of them and one between.
 fn find_in_long_list<R: Wait + Abort>(rt: &R, set: &DefaultSet, list: &DefaultList<'_>) {
-    assert!(rt; list.len() == 70_001 && links(rt, set, 70_001));
-    assert!(rt; has_at(list, 65_536, "Nummer für 65536"));
-    assert!(rt; list.iter().last() == Some("Nummer für 70000"));
+    assert_that(rt, list.len() == 70_001 && links(rt, set, 70_001));
+    assert_that(rt, has_at(list, 65_536, "Nummer für 65536"));
+    assert_that(rt, list.iter().last() == Some("Nummer für 70000"));
 }
 
 #[test]
@@ -274,7 +282,7 @@ fn long_list_gives_all_back(rt: HostRuntime) {
 
 fn clear_long_list<R: Wait + Abort>(rt: &R, set: &DefaultSet, list: &mut DefaultList<'_>) {
     list.clear();
-    assert!(rt; list.is_empty() && links(rt, set, 0));
+    assert_that(rt, list.is_empty() && links(rt, set, 0));
 }
 
 #[test]
@@ -288,7 +296,7 @@ fn hold_long_text<R: Wait + Abort>(rt: &R, set: &DefaultSet) {
         .repeat(set.allocator(), 30_000)
         .expect(rt, "a text");
     let list = list_of(rt, set, &[text.as_str()]);
-    assert!(rt; has_at(&list, 0, &text) && links(rt, set, 1));
+    assert_that(rt, has_at(&list, 0, &text) && links(rt, set, 1));
 }
 
 #[test]
@@ -301,7 +309,7 @@ fn end_under_lock<R: Wait + Abort>(rt: &R, set: &DefaultSet) {
     let held = lock_of(rt, set, 0x210);
     drop(list);
     drop(held);
-    assert!(rt; links(rt, set, 1));
+    assert_that(rt, links(rt, set, 1));
     set.sweep(rt);
 }
 
@@ -314,7 +322,7 @@ fn list_ends_under_a_held_lock(rt: HostRuntime) {
 /// Gives inline and static texts places, and takes them out.
 fn fill_with_fixed<R: Wait + Abort>(rt: &R, set: &Set<One>) {
     let mut list = list_of(rt, set, &["é", "sentence"]);
-    assert!(rt; !lends_none(rt, &list, 1) && has_last(&mut list));
+    assert_that(rt, !lends_none(rt, &list, 1) && has_last(&mut list));
     list.clear();
 }
 
@@ -362,7 +370,7 @@ fn two_fill<R: Threads + Wait + Sync>(rt: &R, set: &DefaultSet) -> bool {
 }
 
 fn fill_in_two<R: Threads + Wait + Abort + Sync>(rt: &R, set: &DefaultSet) {
-    assert!(rt; two_fill(rt, set));
+    assert_that(rt, two_fill(rt, set));
     set.sweep(rt);
 }
 

@@ -3,6 +3,7 @@
 
 mod unlocked;
 
+use crate::assert_that;
 use crate::samples::{DefaultSet, check_linked, default_set, intern, lock_of, locks_but, shown};
 use crate::scenes::{self, Step, are_free, play_in_new};
 use std::alloc::Global;
@@ -260,7 +261,7 @@ fn intern_twice<R: Wait + Abort>(rt: &R, set: &DefaultSet) -> bool {
 fn intern_beside<R: Threads + Clock + Wait + Abort + Sync>(rt: &R, set: &DefaultSet) {
     let held = locks_but(rt, set, 0x210);
     let (is_first, ended) = beside(rt, 10_000, held, || intern_twice(rt, set));
-    assert!(rt; ended && is_first);
+    assert_that(rt, ended && is_first);
     check_linked(rt, set, 0);
 }
 
@@ -311,7 +312,7 @@ fn wait_for_last<R: Threads + Clock + Wait + Abort + Sync>(
     wanted: u128,
 ) {
     let _held = two_atoms(rt, set, "afterwards", "geometric");
-    assert!(rt; waits_for_last(rt, set, call, wanted));
+    assert_that(rt, waits_for_last(rt, set, call, wanted));
 }
 
 #[test]
@@ -369,7 +370,7 @@ fn sweep_on<R: Threads + Clock + Wait + Abort + Sync>(rt: &R, set: &DefaultSet) 
             is_swept
         },
     );
-    assert!(rt; is_first_swept);
+    assert_that(rt, is_first_swept);
     check_linked(rt, set, 0);
 }
 
@@ -406,10 +407,10 @@ fn waits_alone<R: Threads + Clock + Wait + Abort + Sync>(
 }
 
 fn hold_one<R: Threads + Clock + Wait + Abort + Sync>(rt: &R, set: &DefaultSet) {
-    assert!(rt; waits_alone(rt, set, Call::Sweep));
-    assert!(rt; waits_alone(rt, set, Call::Linked));
-    assert!(rt; waits_alone(rt, set, Call::Memory));
-    assert!(rt; waits_alone(rt, set, Call::Visits));
+    assert_that(rt, waits_alone(rt, set, Call::Sweep));
+    assert_that(rt, waits_alone(rt, set, Call::Linked));
+    assert_that(rt, waits_alone(rt, set, Call::Memory));
+    assert_that(rt, waits_alone(rt, set, Call::Visits));
 }
 
 #[test]

@@ -1,6 +1,7 @@
 //! More holders, entries and serials of one bucket than 16 bits count.
 
 use crate::samples::{DefaultSet, clone_of, intern, lock_of, one_bucket, shown, word_of};
+use crate::{assert_for, assert_that};
 use std::alloc::Global;
 use std::process::Abort;
 use std::sync::Wait;
@@ -56,9 +57,9 @@ fn atoms_of<'s, R: Wait + Abort>(rt: &R, set: &'s DefaultSet, text: &str) -> Vec
 
 fn hold_by_many<R: Wait + Abort>(rt: &R, set: &DefaultSet) {
     let clones = atoms_of(rt, set, "interned");
-    assert!(rt; visited(rt, set) == (1, 70_000));
+    assert_that(rt, visited(rt, set) == (1, 70_000));
     drop(clones);
-    assert!(rt; visited(rt, set) == (0, 0));
+    assert_that(rt, visited(rt, set) == (0, 0));
 }
 
 #[test]
@@ -105,11 +106,11 @@ fn shows_many<R: Wait>(rt: &R, set: &DefaultSet) -> bool {
 
 fn link_many<R: Wait + Abort>(rt: &R, set: &DefaultSet) {
     let shares = linked_in(rt, set.allocator(), &mut lock_of(rt, set, 0));
-    assert!(rt; shows_many(rt, set));
+    assert_that(rt, shows_many(rt, set));
     drop(shares);
-    assert!(rt; links(rt, set, 70_000));
+    assert_that(rt, links(rt, set, 70_000));
     set.sweep(rt);
-    assert!(rt; links(rt, set, 0));
+    assert_that(rt, links(rt, set, 0));
 }
 
 #[test]
@@ -120,7 +121,7 @@ fn one_bucket_has_many_entries(rt: HostRuntime) {
 fn come_many_times<R: Wait + Abort>(rt: &R, set: &DefaultSet) {
     for n in 0..MANY {
         let word = word_of(rt, set, "interned");
-        assert!(rt; word >> 16 == u64::from(n) + 1, "at {n}");
+        assert_for(rt, word >> 16 == u64::from(n) + 1, &n);
     }
 }
 

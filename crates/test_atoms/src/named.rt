@@ -5,6 +5,7 @@ ghost use Rattle.std.specs.Prelude.{◌≡◌};
 mod calls;
 mod keys;
 
+use crate::{assert_for, assert_that};
 use calls::{
     Named, Word, are_equal, are_one, cloned, copied, found, interned, interned_cow, interned_owned,
     is_of, json_copy, lowered, raised, stands_behind,
@@ -77,7 +78,7 @@ fn answers<R: Threads + Wait + Abort + Sync>(rt: &R, alloc: Global, question: Qu
 }
 
 fn check<R: Threads + Wait + Abort + Sync>(rt: &R, alloc: Global, question: Question) {
-    assert!(rt; answers(rt, alloc, question));
+    assert_that(rt, answers(rt, alloc, question));
 }
 
 /// Whether two atoms are one, and of this text.
@@ -174,9 +175,9 @@ fn is_all_of_long<N: SetName, R: Wait + Abort>(rt: &R, set: &Named<N>, long: &st
 
 fn asks<N: SetName, R: Wait + Abort>(rt: &R, set: &Named<N>) -> bool {
     for text in &TEXTS {
-        assert!(rt; is_all(rt, set, text), "of {text:?}");
+        assert_for(rt, is_all(rt, set, text), text);
     }
-    assert!(rt; is_in_cases(rt, set, "SENTENCE", "sentence"));
+    assert_that(rt, is_in_cases(rt, set, "SENTENCE", "sentence"));
     is_all_of_long(rt, set, &long_text(rt, set.allocator()))
 }
 
@@ -303,16 +304,19 @@ fn dynamic_tells<N: SetName, R: Wait + Abort>(rt: &R, set: &Named<N>) -> bool {
 }
 
 fn tells<N: SetName, R: Wait + Abort>(rt: &R, set: &Named<N>) -> bool {
-    assert!(rt; default_tells::<N>(rt, set.allocator()));
-    assert!(rt; is_listed::<N>(rt) && static_tells::<N>(rt, set.allocator()));
-    assert!(rt; inline_tells::<N>(rt));
+    assert_that(rt, default_tells::<N>(rt, set.allocator()));
+    assert_that(
+        rt,
+        is_listed::<N>(rt) && static_tells::<N>(rt, set.allocator()),
+    );
+    assert_that(rt, inline_tells::<N>(rt));
     dynamic_tells(rt, set)
 }
 
 #[test]
 fn atoms_tell_what_they_are(rt: HostRuntime) {
     check(&rt, rt.alloc(), Question::Atoms);
-    assert!(rt; size_of::<NamedAtom<'_, One, Brand>>() == 32);
+    assert_that(&rt, size_of::<NamedAtom<'_, One, Brand>>() == 32);
 }
 
 /// What a look at a set's cells tells of one text.
@@ -410,8 +414,8 @@ fn are_seen<N: SetName, R: Wait + Abort>(rt: &R, set: &Named<N>) -> bool {
 }
 
 fn looks<N: SetName, R: Wait + Abort>(rt: &R, set: &Named<N>) -> bool {
-    assert!(rt; are_kept(rt, set) && are_seen(rt, set));
-    assert!(rt; set.limits().holders() == Limits::greatest().holders());
+    assert_that(rt, are_kept(rt, set) && are_seen(rt, set));
+    assert_that(rt, set.limits().holders() == Limits::greatest().holders());
     is_counted(rt, set)
 }
 

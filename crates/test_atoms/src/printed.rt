@@ -1,6 +1,7 @@
 //! What atoms tell and print, with values that come from outside, and atoms of JSON texts.
 
 use crate::samples::{intern, new_set};
+use crate::{assert_for, assert_that};
 use serde_json::Value;
 use std::alloc::Global;
 use std::borrow::CowStr;
@@ -146,7 +147,7 @@ fn check_json<R: Wait + Abort>(rt: &R, set: &Set<One>, text: &str, json: &str) {
     check_text(rt, &json_text(rt, set.allocator(), &atom), json);
     let again = atom_of_json(rt, set, json);
     check_equal(rt, &again, &atom);
-    assert!(rt; are_one(&again, &atom));
+    assert_that(rt, are_one(&again, &atom));
 }
 
 /// Texts, and the JSON texts of their atoms.
@@ -173,7 +174,7 @@ fn check_interned<R: Wait + Abort>(
     atom: Result<DefaultAtom<'_>, Fault>,
 ) {
     let atom = atom.expect(rt, "an atom");
-    assert!(rt; atom.is_dynamic());
+    assert_that(rt, atom.is_dynamic());
     check_equal(rt, &atom, &intern(rt, set, "interned"));
 }
 
@@ -216,6 +217,6 @@ const NO_TEXTS: [&str; 6] = ["null", "true", "7", "[]", "{}", "[\"interned\"]"];
 fn json_without_text(rt: HostRuntime) {
     let set = new_set(&rt, rt.alloc());
     for json in &NO_TEXTS {
-        assert!(rt; is_refused(&rt, &set, json), "of {json}");
+        assert_for(&rt, is_refused(&rt, &set, json), json);
     }
 }

@@ -1,6 +1,7 @@
 //! What tests of this crate share: sets, atoms and numbers of buckets. They say nothing of what they do, so that each test is proved in a
 //! moment.
 
+use crate::assert_that;
 use std::alloc::Global;
 use std::process::Abort;
 use std::sync::{MutexGuard, Wait};
@@ -105,7 +106,7 @@ pub fn shown<R: Wait>(rt: &R, set: &DefaultSet) -> Visit {
 
 /// Checks that this many entries are linked.
 pub fn check_linked<R: Wait + Abort>(rt: &R, set: &DefaultSet, count: u128) {
-    assert!(rt; links(rt, set, count));
+    assert_that(rt, links(rt, set, count));
 }
 
 /// The locks of all buckets but the one at this place, or of all, where there is no such bucket.

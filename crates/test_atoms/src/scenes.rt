@@ -1,6 +1,7 @@
 //! Scenes over one set as data: what is done there, and what has to be so then. One function plays them, and keeps the atoms and the locks,
 //! so that a test has none of its own.
 
+use crate::assert_for;
 use crate::samples::{DefaultSet, default_set, limited_set, one_bucket};
 use std::alloc::Global;
 use std::process::Abort;
@@ -271,7 +272,7 @@ fn is_taken<'s, R: Wait + Abort>(
 fn play<R: Wait + Abort>(rt: &R, set: &DefaultSet, steps: &[Step]) {
     let mut kept = nothing(set.allocator());
     for (at, step) in steps.iter().enumerate() {
-        assert!(rt; is_taken(rt, set, &mut kept, step), "at step {at}");
+        assert_for(rt, is_taken(rt, set, &mut kept, step), &at);
     }
 }
 

@@ -1,5 +1,6 @@
 //! Shares with their set that are cloned by a single try.
 
+use crate::assert_that;
 use crate::samples::{DefaultSet, limited_set};
 use std::process::Abort;
 use std::sync::Wait;
@@ -47,8 +48,8 @@ fn tries_long<R: Wait + Abort>(rt: &R, set: &DefaultSet) -> bool {
 #[test]
 fn single_tries_of_held_shares(rt: HostRuntime) {
     let set = limited_set(&rt, rt.alloc(), 3, 10);
-    assert!(rt; tries(&rt, &set, "interned"));
-    assert!(rt; tries(&rt, &set, "tokenised ü"));
-    assert!(rt; tries_long(&rt, &set));
-    assert!(rt; links(&rt, &set, 0));
+    assert_that(&rt, tries(&rt, &set, "interned"));
+    assert_that(&rt, tries(&rt, &set, "tokenised ü"));
+    assert_that(&rt, tries_long(&rt, &set));
+    assert_that(&rt, links(&rt, &set, 0));
 }

@@ -3,6 +3,7 @@
 mod keys;
 
 use crate::samples::{clone_of, intern, new_set};
+use crate::{assert_for, assert_that};
 use std::alloc::Global;
 use std::borrow::CowStr;
 use std::cmp::Ordering;
@@ -65,8 +66,8 @@ fn ask_one<R: Wait + Abort>(rt: &R, alloc: Global, question: Question) {
 #[test]
 fn default_atom(rt: HostRuntime) {
     let atom = DefaultAtom::default();
-    assert!(rt; atom.unsafe_data() == 1);
-    assert!(rt; atom.as_str().is_empty());
+    assert_that(&rt, atom.unsafe_data() == 1);
+    assert_that(&rt, atom.as_str().is_empty());
 }
 
 fn hash_of_text<R: Wait + Abort, Static: StaticTables>(
@@ -87,7 +88,7 @@ const HASHES: [(&str, u64); 4] = [
 
 fn check_hashes<R: Wait + Abort, Static: StaticTables>(rt: &R, set: &Set<Static>) {
     for (text, number) in &HASHES {
-        assert!(rt; hash_of_text(rt, set, text) == *number, "of {text:?}");
+        assert_for(rt, hash_of_text(rt, set, text) == *number, text);
     }
 }
 
@@ -119,10 +120,7 @@ const ORDERS: [(&str, &str, Ordering); 6] = [
 
 fn check_orders<R: Wait + Abort, Static: StaticTables>(rt: &R, set: &Set<Static>) {
     for (left, right, wanted) in &ORDERS {
-        assert!(rt;
-            order(rt, set, left, right) == *wanted,
-            "of {left:?} and {right:?}"
-        );
+        assert_for(rt, order(rt, set, left, right) == *wanted, &(left, right));
     }
 }
 
@@ -164,7 +162,10 @@ const EQUALITIES: [(&str, &str, bool, bool); 5] = [
 
 fn check_equalities<R: Wait + Abort, Static: StaticTables>(rt: &R, set: &Set<Static>) {
     for (left, right, equal, without_case) in &EQUALITIES {
-        assert!(rt; have_equalities(rt, set, left, right, (*equal, *without_case)));
+        assert_that(
+            rt,
+            have_equalities(rt, set, left, right, (*equal, *without_case)),
+        );
     }
 }
 
@@ -183,10 +184,7 @@ const EQUAL_TEXTS: [(&str, bool, bool); 4] = [
 
 fn check_equal_texts<Static: StaticTables>(rt: &impl Abort, atom: &Atom<'_, Static>) {
     for (text, equal, without_case) in &EQUAL_TEXTS {
-        assert!(rt;
-            equals_text(atom, text, *equal, *without_case),
-            "of {text:?}"
-        );
+        assert_for(rt, equals_text(atom, text, *equal, *without_case), text);
     }
 }
 
@@ -216,7 +214,7 @@ const CLONED: [&str; 3] = ["foo", "sentence", "interned"];
 
 fn check_clones<R: Wait + Abort, Static: StaticTables>(rt: &R, set: &Set<Static>) {
     for text in &CLONED {
-        assert!(rt; is_cloned(rt, set, text), "of {text:?}");
+        assert_for(rt, is_cloned(rt, set, text), text);
     }
 }
 
@@ -277,7 +275,7 @@ fn check_owners<R: Wait + Abort, Static: StaticTables>(
     set: &Set<Static>,
     atom: &Atom<'_, Static>,
 ) {
-    assert!(rt; is_of_each_owner(rt, set, atom, "interned"));
+    assert_that(rt, is_of_each_owner(rt, set, atom, "interned"));
 }
 
 #[test]
@@ -339,10 +337,10 @@ const CASES: [(&str, &str, &str); 5] = [
 
 fn check_cases<R: Wait + Abort, Static: StaticTables>(rt: &R, set: &Set<Static>) {
     for (text, upper, lower) in &CASES {
-        assert!(rt; has_cases(rt, set, text, upper, lower));
+        assert_that(rt, has_cases(rt, set, text, upper, lower));
     }
-    assert!(rt; has_long_cases(rt, set, 64));
-    assert!(rt; has_long_cases(rt, set, 65));
+    assert_that(rt, has_long_cases(rt, set, 64));
+    assert_that(rt, has_long_cases(rt, set, 65));
 }
 
 #[test]
@@ -366,7 +364,7 @@ fn has_static_lower<R: Wait + Abort, Static: StaticTables>(
 
 fn check_static_cases<R: Wait + Abort, Static: StaticTables>(rt: &R, set: &Set<Static>) {
     let upper = upper_of(rt, set, &intern(rt, set, "sentence"));
-    assert!(rt; has_static_lower(rt, set, &upper));
+    assert_that(rt, has_static_lower(rt, set, &upper));
 }
 
 #[test]
@@ -400,7 +398,10 @@ fn check_upper<R: Wait + Abort, Static: StaticTables>(
     atom: &Atom<'_, Static>,
 ) {
     let upper = upper_of(rt, set, atom);
-    assert!(rt; has_length(&upper, 300_000) && upper != *atom && upper.eq_ignore_ascii_case(atom));
+    assert_that(
+        rt,
+        has_length(&upper, 300_000) && upper != *atom && upper.eq_ignore_ascii_case(atom),
+    );
 }
 
 /// Checks the atom of a long text, its other case, and its copies.
@@ -410,9 +411,9 @@ fn check_long_atom<R: Wait + Abort, Static: StaticTables>(
     atom: &Atom<'_, Static>,
     text: &str,
 ) {
-    assert!(rt; has_length(atom, 300_000));
-    assert!(rt; is_same(atom, json_copy(rt, set, atom)));
-    assert!(rt; is_owned(rt, set, atom, text));
+    assert_that(rt, has_length(atom, 300_000));
+    assert_that(rt, is_same(atom, json_copy(rt, set, atom)));
+    assert_that(rt, is_owned(rt, set, atom, text));
     check_upper(rt, set, atom);
 }
 

@@ -1,5 +1,6 @@
 //! Threads at work on one set, and on one atom.
 
+use crate::assert_that;
 use crate::samples::{DefaultSet, check_linked, clone_of, default_set, intern, limited_set};
 use std::process::Abort;
 use std::sync::Wait;
@@ -50,7 +51,7 @@ fn turn_over<R: Wait + Abort>(rt: &R, set: &DefaultSet) -> bool {
 
 fn work_in_two<R: Threads + Wait + Abort + Sync>(rt: &R, set: &DefaultSet) {
     let (left, right) = thread::join(rt, || turn_over(rt, set), || turn_over(rt, set));
-    assert!(rt; left && right);
+    assert_that(rt, left && right);
     set.sweep(rt);
 }
 
@@ -85,8 +86,8 @@ fn clone_in_two<R: Threads + Wait + Abort + Sync>(rt: &R, atom: &DefaultAtom<'_>
 fn share<R: Threads + Wait + Abort + Sync>(rt: &R, set: &DefaultSet, atom: &DefaultAtom<'_>) {
     clone_in_two(rt, atom);
     check_linked(rt, set, 1);
-    assert!(rt; has_text(atom, "interned"));
-    assert!(rt; takes_two_more(rt, atom));
+    assert_that(rt, has_text(atom, "interned"));
+    assert_that(rt, takes_two_more(rt, atom));
 }
 
 fn share_one_atom<R: Threads + Wait + Abort + Sync>(rt: &R, set: &DefaultSet) {
@@ -156,7 +157,7 @@ fn intern_in_two<R: Threads + Wait + Abort + Sync>(rt: &R, set: &DefaultSet, at:
         || intern_beside(rt, set, &at.gate, &at.one, &at.two),
         || intern_beside(rt, set, &at.gate, &at.two, &at.one),
     );
-    assert!(rt; left == 2_000 && right == 2_000);
+    assert_that(rt, left == 2_000 && right == 2_000);
     set.sweep(rt);
 }
 

@@ -3,6 +3,7 @@
 ghost use Rattle.std.specs.Prelude.{◌≤◌, ◌<◌, ◌^◌};
 
 use crate::receipts::first_receipt;
+use crate::{assert_for, assert_that};
 use counted_cell::{AtLimit, CellShare, Ending, Label, Owner, ShareReply};
 use linked_list_allocator::LocalHeap;
 use std::alloc::{AllocError, Allocator, Global};
@@ -137,13 +138,19 @@ fn frees<A: Allocator>(owner: Owner<A>) -> bool {
 fn one_life<R: Wait + Abort>(rt: &R, alloc: Global, text: &str) -> Result<(), AllocError> {
     let (owner, first) = make(alloc, 2, text)?;
     let second = one_more(rt, &owner);
-    assert!(rt; owner.text() == text && first.has_text(text) && second.has_text(text));
-    assert!(rt; owner.label().hash == 8 && first.share.label().ticket == 7);
-    assert!(rt; second.share.label().limit == 2);
-    assert!(rt; !first.gives_last());
-    assert!(rt; second.has_text(text));
-    assert!(rt; second.gives_last());
-    assert!(rt; frees(owner));
+    assert_that(
+        rt,
+        owner.text() == text && first.has_text(text) && second.has_text(text),
+    );
+    assert_that(
+        rt,
+        owner.label().hash == 8 && first.share.label().ticket == 7,
+    );
+    assert_that(rt, second.share.label().limit == 2);
+    assert_that(rt, !first.gives_last());
+    assert_that(rt, second.has_text(text));
+    assert_that(rt, second.gives_last());
+    assert_that(rt, frees(owner));
     Ok(())
 }
 
@@ -166,16 +173,16 @@ fn stays_over<A: Allocator, R: Wait>(rt: &R, owner: &Owner<A>) -> bool {
 #[test]
 fn replies(rt: HostRuntime) {
     let (owner, first) = made(&rt, rt.alloc());
-    assert!(rt; !is_dying(&owner));
+    assert_that(&rt, !is_dying(&owner));
     let second = first.one_more(&rt);
-    assert!(rt; is_full(&rt, &owner) && first.is_full(&rt));
-    assert!(rt; !first.gives_last());
+    assert_that(&rt, is_full(&rt, &owner) && first.is_full(&rt));
+    assert_that(&rt, !first.gives_last());
     let third = one_more(&rt, &owner);
-    assert!(rt; !second.gives_last());
-    assert!(rt; !is_dying(&owner));
-    assert!(rt; third.gives_last());
-    assert!(rt; stays_over(&rt, &owner));
-    assert!(rt; frees(owner));
+    assert_that(&rt, !second.gives_last());
+    assert_that(&rt, !is_dying(&owner));
+    assert_that(&rt, third.gives_last());
+    assert_that(&rt, stays_over(&rt, &owner));
+    assert_that(&rt, frees(owner));
 }
 
 /// A share more by a single try.
@@ -188,14 +195,14 @@ fn tried(share: &CellShare) -> Option<ShareGuard> {
 fn tries<R: Wait + Abort>(rt: &R, alloc: Global, text: &str) -> Result<(), AllocError> {
     let (owner, first) = make(alloc, 3, text)?;
     let second = tried(&first.share).expect(rt, "a share");
-    assert!(rt; second.has_text(text));
+    assert_that(rt, second.has_text(text));
     let third = tried(&second.share).expect(rt, "a share");
-    assert!(rt; tried(&first.share).is_none());
-    assert!(rt; is_full(rt, &owner));
-    assert!(rt; !first.gives_last());
-    assert!(rt; !third.gives_last());
-    assert!(rt; second.gives_last());
-    assert!(rt; frees(owner));
+    assert_that(rt, tried(&first.share).is_none());
+    assert_that(rt, is_full(rt, &owner));
+    assert_that(rt, !first.gives_last());
+    assert_that(rt, !third.gives_last());
+    assert_that(rt, second.gives_last());
+    assert_that(rt, frees(owner));
     Ok(())
 }
 
@@ -225,11 +232,11 @@ fn has_no_try<A: Allocator>(owner: &Owner<A>) -> bool {
 fn single_tries_of_an_owner(rt: HostRuntime) {
     let (owner, first) = made(&rt, rt.alloc());
     let second = owner_tried(&owner).expect(&rt, "a share");
-    assert!(rt; second.has_text("interned") && has_no_try(&owner));
-    assert!(rt; !first.gives_last());
-    assert!(rt; second.gives_last());
-    assert!(rt; has_no_try(&owner));
-    assert!(rt; frees(owner));
+    assert_that(&rt, second.has_text("interned") && has_no_try(&owner));
+    assert_that(&rt, !first.gives_last());
+    assert_that(&rt, second.gives_last());
+    assert_that(&rt, has_no_try(&owner));
+    assert_that(&rt, frees(owner));
 }
 
 /// No share is left once both were given back.
@@ -237,10 +244,10 @@ fn single_tries_of_an_owner(rt: HostRuntime) {
 fn both_are_given_back(rt: HostRuntime) {
     let (owner, first) = made(&rt, rt.alloc());
     let second = one_more(&rt, &owner);
-    assert!(rt; !is_dying(&owner));
+    assert_that(&rt, !is_dying(&owner));
     drop(first_receipt(first.into_share(), second.into_share()));
-    assert!(rt; is_dying(&owner));
-    assert!(rt; frees(owner));
+    assert_that(&rt, is_dying(&owner));
+    assert_that(&rt, frees(owner));
 }
 
 /// Adds a share and gives it back, again and again. How many were refused.
@@ -267,14 +274,14 @@ fn refused_at_once<R: Threads + Wait + Sync>(rt: &R, share: &CellShare) -> (u64,
 #[test]
 fn one_count_in_two_threads(rt: HostRuntime) {
     let (owner, first) = make(rt.alloc(), 3, "interned").expect(&rt, "an answer");
-    assert!(rt; refused_at_once(&rt, &first.share) == (0, 0));
+    assert_that(&rt, refused_at_once(&rt, &first.share) == (0, 0));
     let second = first.one_more(&rt);
     let third = one_more(&rt, &owner);
-    assert!(rt; is_full(&rt, &owner));
-    assert!(rt; !first.gives_last());
-    assert!(rt; !third.gives_last());
-    assert!(rt; second.gives_last());
-    assert!(rt; frees(owner));
+    assert_that(&rt, is_full(&rt, &owner));
+    assert_that(&rt, !first.gives_last());
+    assert_that(&rt, !third.gives_last());
+    assert_that(&rt, second.gives_last());
+    assert_that(&rt, frees(owner));
 }
 
 /// Of two threads that each give a share back, exactly one gave the last.
@@ -283,8 +290,8 @@ fn one_of_two_is_the_last(rt: HostRuntime) {
     let (owner, first) = made(&rt, rt.alloc());
     let second = first.one_more(&rt);
     let last = thread::join(&rt, || first.gives_last(), || second.gives_last());
-    assert!(rt; last.0 != last.1);
-    assert!(rt; frees(owner));
+    assert_that(&rt, last.0 != last.1);
+    assert_that(&rt, frees(owner));
 }
 
 /// How many bytes of the heap are taken once a cell of the text has ended at its owner's `finish`, or at its drop.
@@ -332,9 +339,12 @@ fn the_end_frees_what_is_not_held(rt: HostRuntime) {
     let long = "a".repeat(rt.alloc(), 300_000).expect(&rt, "an answer");
     for text in &["", "interned", long.as_str()] {
         let is_freed = leaves_nothing(&heap, text).expect(&rt, "an answer");
-        assert!(rt; is_freed, "of {} bytes", text.len());
+        assert_for(&rt, is_freed, &text.len());
     }
-    assert!(rt; is_left_behind(&heap, "left behind", 64).expect(&rt, "an answer"));
+    assert_that(
+        &rt,
+        is_left_behind(&heap, "left behind", 64).expect(&rt, "an answer"),
+    );
 }
 
 /// Texts, the bytes of a cell's block, and those that a heap which gives out sixteens says are in use.
@@ -366,7 +376,7 @@ fn a_cell_tells_the_bytes_of_its_block(rt: HostRuntime) {
     let heap = LocalHeap::new(rt.alloc(), 4_096).expect(&rt, "an answer");
     for (text, size, used) in &BLOCKS {
         let is_told = tells_its_size(&heap, text, *size, *used).expect(&rt, "an answer");
-        assert!(rt; is_told, "of {text:?}");
+        assert_for(&rt, is_told, text);
     }
 }
 
@@ -374,12 +384,12 @@ fn a_cell_tells_the_bytes_of_its_block(rt: HostRuntime) {
 #[test]
 fn the_count_is_read(rt: HostRuntime) {
     let (owner, first) = made(&rt, rt.alloc());
-    assert!(rt; has_shares(&owner, 1));
+    assert_that(&rt, has_shares(&owner, 1));
     let second = one_more(&rt, &owner);
-    assert!(rt; has_shares(&owner, 2));
-    assert!(rt; !first.gives_last() && has_shares(&owner, 1));
-    assert!(rt; second.gives_last() && has_shares(&owner, 0));
-    assert!(rt; frees(owner));
+    assert_that(&rt, has_shares(&owner, 2));
+    assert_that(&rt, !first.gives_last() && has_shares(&owner, 1));
+    assert_that(&rt, second.gives_last() && has_shares(&owner, 0));
+    assert_that(&rt, frees(owner));
 }
 
 /// Whether a cell of the text finds no room in the heap, and nothing is lost.
@@ -394,7 +404,7 @@ fn without_memory_nothing_is_made(rt: HostRuntime) {
     let heap = LocalHeap::new(rt.alloc(), 128).expect(&rt, "an answer");
     let (owner, share) = make(&heap, 1, "interned").expect(&rt, "an answer");
     let long = "a text that finds no room in this heap, since it is longer than what is left of it";
-    assert!(rt; finds_no_room(&heap, long));
-    assert!(rt; share.gives_last());
-    assert!(rt; frees(owner));
+    assert_that(&rt, finds_no_room(&heap, long));
+    assert_that(&rt, share.gives_last());
+    assert_that(&rt, frees(owner));
 }

@@ -3,6 +3,7 @@
 
 mod packs;
 
+use crate::{assert_for, assert_that};
 use node_chain::NodeChain;
 use std::alloc::Global;
 use std::process::Abort;
@@ -53,9 +54,9 @@ fn add<'a>(
     let (number, so_far) = (digits(chain), ended.load(Ordering::SeqCst));
     chain.rewind();
     if let Err(refused) = chain.add_head(Mark { ended, digit }) {
-        assert!(rt; refused.value.digit == digit);
-        assert!(rt; digits(chain) == number);
-        assert!(rt; ended.load(Ordering::SeqCst) == so_far);
+        assert_that(rt, refused.value.digit == digit);
+        assert_that(rt, digits(chain) == number);
+        assert_that(rt, ended.load(Ordering::SeqCst) == so_far);
         chain.rewind();
         chain.add_head(refused.value)?;
     }
@@ -69,11 +70,11 @@ fn five<'a>(
     ended: &'a AtomicU64,
 ) -> Result<NodeChain<Mark<'a>>, Fail> {
     let mut chain = NodeChain::new(alloc);
-    assert!(rt; chain.look().is_none());
+    assert_that(rt, chain.look().is_none());
     for digit in 1..6u64 {
         add(rt, &mut chain, ended, digit)?;
     }
-    assert!(rt; digits(&mut chain) == 54321);
+    assert_that(rt, digits(&mut chain) == 54321);
     Ok(chain)
 }
 
@@ -131,7 +132,7 @@ const TAKEN: [(&[u64], u64, u64); 10] = [
 fn items_are_taken_out_anywhere(rt: HostRuntime) -> Result<(), Fail> {
     for (out, stay, ends) in &TAKEN {
         let is_right = are_taken_out(&rt, rt.alloc(), out, *stay, *ends)?;
-        assert!(rt; is_right, "of {out:?}");
+        assert_for(&rt, is_right, out);
     }
     Ok(())
 }
@@ -154,9 +155,9 @@ fn items_that_were_passed_end_as_well(rt: HostRuntime) -> Result<(), Fail> {
     let mut chain = five(&rt, rt.alloc(), &ended)?;
     pass(&mut chain);
     pass(&mut chain);
-    assert!(rt; stands_at(&chain, 3, 3));
+    assert_that(&rt, stands_at(&chain, 3, 3));
     drop(chain);
-    assert!(rt; ended.load(Ordering::SeqCst) == 54321);
+    assert_that(&rt, ended.load(Ordering::SeqCst) == 54321);
     Ok(())
 }
 
@@ -171,7 +172,7 @@ fn a_long_chain_ends(rt: HostRuntime) -> Result<(), Fail> {
             chain.add_head(refused.value)?;
         }
     }
-    assert!(rt; chain.remaining() == 200_000);
+    assert_that(&rt, chain.remaining() == 200_000);
     drop(chain);
     Ok(())
 }

@@ -2,6 +2,7 @@
 //! out, and when the limits refuse.
 ghost use Rattle.std.specs.Prelude.{◌≡◌};
 
+use crate::assert_that;
 use crate::calls::{are_one, cloned, found, interned, is_found_as, links};
 use named_set::callers::of_two;
 use named_set::{FreshName, Held, NamedSet, SetName};
@@ -226,13 +227,13 @@ fn asks_of<N: SetName, R: Wait + Abort>(
     set: &Named<N>,
 ) -> Result<bool, Fault> {
     let long = long_text(alloc)?;
-    assert!(rt; tells_apart(rt, set, "interned", "intern"));
-    assert!(rt; tells_apart(rt, set, long.as_str(), ""));
-    assert!(rt; is_found(rt, set, "interned", "intern"));
-    assert!(rt; is_found(rt, set, long.as_str(), "long"));
-    assert!(rt; goes_with_the_last(rt, set, "interned"));
-    assert!(rt; goes_with_the_last(rt, set, long.as_str()));
-    assert!(rt; is_full_at_two(rt, set, "interned"));
+    assert_that(rt, tells_apart(rt, set, "interned", "intern"));
+    assert_that(rt, tells_apart(rt, set, long.as_str(), ""));
+    assert_that(rt, is_found(rt, set, "interned", "intern"));
+    assert_that(rt, is_found(rt, set, long.as_str(), "long"));
+    assert_that(rt, goes_with_the_last(rt, set, "interned"));
+    assert_that(rt, goes_with_the_last(rt, set, long.as_str()));
+    assert_that(rt, is_full_at_two(rt, set, "interned"));
     Ok(true)
 }
 
@@ -240,7 +241,10 @@ fn asks_of<N: SetName, R: Wait + Abort>(
 #[test]
 fn words_are_those_of_texts(rt: HostRuntime) {
     let name = small_name(rt.alloc()).expect(&rt, "a name");
-    assert!(rt; asks::<Brand, _>(&rt, rt.alloc(), name).expect(&rt, "answers"));
+    assert_that(
+        &rt,
+        asks::<Brand, _>(&rt, rt.alloc(), name).expect(&rt, "answers"),
+    );
 }
 
 fn spends<N: SetName, R: Wait>(rt: &R, alloc: Global, name: FreshName) -> Result<u64, Fault>
@@ -254,7 +258,10 @@ fn spends<N: SetName, R: Wait>(rt: &R, alloc: Global, name: FreshName) -> Result
 #[test]
 fn tickets_are_spent_at_the_limit(rt: HostRuntime) {
     let name = small_name(rt.alloc()).expect(&rt, "a name");
-    assert!(rt; spends::<Brand, _>(&rt, rt.alloc(), name).expect(&rt, "an answer") == 20);
+    assert_that(
+        &rt,
+        spends::<Brand, _>(&rt, rt.alloc(), name).expect(&rt, "an answer") == 20,
+    );
 }
 
 /// Threads are given one word for one text, and two for two.
@@ -262,6 +269,12 @@ fn tickets_are_spent_at_the_limit(rt: HostRuntime) {
 fn threads_agree(rt: HostRuntime) {
     let long = long_text(rt.alloc()).expect(&rt, "a text");
     let short = String::from_str(rt.alloc(), "Größe").expect(&rt, "a text");
-    assert!(rt; of_two(&rt, rt.alloc(), &long, &long).expect(&rt, "an answer"));
-    assert!(rt; !of_two(&rt, rt.alloc(), &long, &short).expect(&rt, "an answer"));
+    assert_that(
+        &rt,
+        of_two(&rt, rt.alloc(), &long, &long).expect(&rt, "an answer"),
+    );
+    assert_that(
+        &rt,
+        !of_two(&rt, rt.alloc(), &long, &short).expect(&rt, "an answer"),
+    );
 }

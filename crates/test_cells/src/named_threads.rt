@@ -3,6 +3,7 @@
 ghost use Rattle.std.specs.Prelude.{◌≡◌};
 
 use crate::calls::{cloned, has_text, interned, is_found_as, links};
+use crate::{assert_for, assert_that};
 use named_set::{FreshName, Held, NamedSet, SetName};
 use std::alloc::Global;
 use std::marker::Brand;
@@ -134,7 +135,10 @@ fn two_at_one_text<N: SetName + Send + Sync, R: Threads + Wait + Sync>(
 /// Of two threads that find a text absent one links it, and the other is given the same word.
 #[test]
 fn two_threads_at_one_new_text(rt: HostRuntime) {
-    assert!(rt; is_won(&rt, rt.alloc(), 12, Race::OneText).expect(&rt, "an answer"));
+    assert_that(
+        &rt,
+        is_won(&rt, rt.alloc(), 12, Race::OneText).expect(&rt, "an answer"),
+    );
 }
 
 /// Whether the text is one of the first bucket.
@@ -222,6 +226,6 @@ fn many_at_one_bucket<N: SetName + Send + Sync, R: Threads + Wait + Sync>(
 fn many_workers_at_one_bucket(rt: HostRuntime) {
     for bits in [0, 12] {
         let won = is_won(&rt, rt.alloc(), bits, Race::OneBucket);
-        assert!(rt; won.expect(&rt, "an answer"), "with {bits} bits");
+        assert_for(&rt, won.expect(&rt, "an answer"), &bits);
     }
 }

@@ -1,5 +1,6 @@
 //! How many buckets a text gets.
 
+use crate::assert_for;
 use commands::buckets::buckets_for;
 
 /// At each step of the choice, and on both sides of it.
@@ -17,6 +18,6 @@ const BITS: [(usize, u8); 8] = [
 #[test]
 fn buckets_for_a_text(rt: HostRuntime) {
     for (bytes, bits) in &BITS {
-        assert!(rt; buckets_for(*bytes).bits() == *bits, "of {bytes}");
+        assert_for(&rt, buckets_for(*bytes).bits() == *bits, bytes);
     }
 }

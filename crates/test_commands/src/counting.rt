@@ -4,6 +4,7 @@ ghost use Rattle.std.specs.Prelude.{◌≤◌};
 
 use crate::gates::{BothLeave, InTurn, Together, Watch};
 use crate::words::{intern, new_set, set_with};
+use crate::{assert_for, assert_that};
 use std::alloc::Global;
 use std::process::Abort;
 use std::sync::Wait;
@@ -57,9 +58,9 @@ fn counts_of_the_example(rt: HostRuntime) {
     let text = str::from_utf8(EXAMPLE).expect(&rt, "a text");
     for n in [1, 2, 3, 64] {
         let are_right = are_counted(&rt, &set, text, n, &Open, &EXAMPLE_COUNTS);
-        assert!(rt; are_right, "by {n}");
+        assert_for(&rt, are_right, &n);
     }
-    assert!(rt; set.linked(&rt) == 0);
+    assert_that(&rt, set.linked(&rt) == 0);
 }
 
 /// Whether four workers count both words of the long text, the longer of which is linked meanwhile.
@@ -79,7 +80,7 @@ fn counts_of_a_long_text(rt: HostRuntime) {
         .repeat(rt.alloc(), 20_000)
         .expect(&rt, "room");
     let set = new_set(&rt, rt.alloc());
-    assert!(rt; is_long_counted(&rt, &set, &text));
+    assert_that(&rt, is_long_counted(&rt, &set, &text));
 }
 
 /// Whether this many workers count so many words in the set, each twice.
@@ -120,7 +121,7 @@ fn halves_of_lists_are_merged(rt: HostRuntime) {
     let words = words_before(&rt, rt.alloc(), 8_192, 8, ' ');
     let text = words.repeat(rt.alloc(), 2).expect(&rt, "room");
     for n in [4, 5, 6, 7, 8] {
-        assert!(rt; come_twice(&rt, rt.alloc(), &text, 8_192, n), "by {n}");
+        assert_for(&rt, come_twice(&rt, rt.alloc(), &text, 8_192, n), &n);
     }
 }
 
@@ -137,24 +138,24 @@ fn meet<R: Threads + Wait + Sync + Abort>(rt: &R, alloc: Global, n: u32) -> bool
 
 #[test]
 fn workers_run_at_once(rt: HostRuntime) {
-    assert!(rt; meet(&rt, rt.alloc(), 2));
+    assert_that(&rt, meet(&rt, rt.alloc(), 2));
 }
 
 #[test]
 fn eight_workers_run_at_once(rt: HostRuntime) {
-    assert!(rt; meet(&rt, rt.alloc(), 8));
+    assert_that(&rt, meet(&rt, rt.alloc(), 8));
 }
 
 /// The most that there may be, of which some have no word.
 #[test]
 fn sixty_four_workers_run_at_once(rt: HostRuntime) {
-    assert!(rt; meet(&rt, rt.alloc(), 64));
+    assert_that(&rt, meet(&rt, rt.alloc(), 64));
 }
 
 /// One worker holds a word that came twice, till the counts are dropped.
 #[test]
 fn repeated_word_goes_with_its_counts(rt: HostRuntime) {
-    assert!(rt; come_twice(&rt, rt.alloc(), "interned interned", 1, 1));
+    assert_that(&rt, come_twice(&rt, rt.alloc(), "interned interned", 1, 1));
 }
 
 /// So many different words, each of `long` letters or more and before this white space.
@@ -206,21 +207,27 @@ fn end_at<R: Threads + Wait + Sync + Abort>(
 fn pieces_of_twenty_words(rt: HostRuntime) {
     let text = words_before(&rt, rt.alloc(), 20, 8, ' ');
     let wanted = [2, 5, 7, 10, 12, 15, 17, 20];
-    assert!(rt; end_at(&rt, rt.alloc(), &text, 20, 8, &wanted));
+    assert_that(&rt, end_at(&rt, rt.alloc(), &text, 20, 8, &wanted));
 }
 
 /// Of 402 different words, over several sections of the text, piece i of 4 ends at word 402 * i / 4.
 #[test]
 fn pieces_of_a_long_text(rt: HostRuntime) {
     let text = words_before(&rt, rt.alloc(), 402, 1_000, ' ');
-    assert!(rt; end_at(&rt, rt.alloc(), &text, 402, 4, &[100, 201, 301, 402]));
+    assert_that(
+        &rt,
+        end_at(&rt, rt.alloc(), &text, 402, 4, &[100, 201, 301, 402]),
+    );
 }
 
 /// Of 402 different words behind tabs, over several sections of the text, piece i of 4 ends at word 402 * i / 4.
 #[test]
 fn pieces_of_a_text_with_tabs(rt: HostRuntime) {
     let text = words_before(&rt, rt.alloc(), 402, 1_000, '\t');
-    assert!(rt; end_at(&rt, rt.alloc(), &text, 402, 4, &[100, 201, 301, 402]));
+    assert_that(
+        &rt,
+        end_at(&rt, rt.alloc(), &text, 402, 4, &[100, 201, 301, 402]),
+    );
 }
 
 /// How many sections a text has, unless memory is refused.
@@ -236,10 +243,7 @@ fn sections_of(alloc: Global, text: &str) -> Option<usize> {
 fn sections_are_cut_at_all_white_space(rt: HostRuntime) {
     for white in [' ', '\t', '\n', '\x0c', '\r'] {
         let text = words_before(&rt, rt.alloc(), 132, 1_000, white);
-        assert!(rt;
-            sections_of(rt.alloc(), &text) == Some(3),
-            "cut at {white:?}"
-        );
+        assert_for(&rt, sections_of(rt.alloc(), &text) == Some(3), &white);
     }
 }
 
@@ -258,8 +262,8 @@ fn come_and_go<R: Threads + Wait + Sync>(rt: &R, set: &DefaultSet) -> bool {
 #[test]
 fn empty_pieces(rt: HostRuntime) {
     let set = new_set(&rt, rt.alloc());
-    assert!(rt; meet_over_one_word(&rt, &set));
-    assert!(rt; come_and_go(&rt, &set));
+    assert_that(&rt, meet_over_one_word(&rt, &set));
+    assert_that(&rt, come_and_go(&rt, &set));
 }
 
 /// Two workers that hold the same text hold one entry, past `leave`.
@@ -267,8 +271,11 @@ fn empty_pieces(rt: HostRuntime) {
 fn workers_share_entries(rt: HostRuntime) {
     let set = new_set(&rt, rt.alloc());
     let gate = BothLeave::new(&set);
-    assert!(rt; are_counted(&rt, &set, "interned interned", 2, &gate, &[("interned", 2)]));
-    assert!(rt; !gate.was_missed() && gate.linked() == 1);
+    assert_that(
+        &rt,
+        are_counted(&rt, &set, "interned interned", 2, &gate, &[("interned", 2)]),
+    );
+    assert_that(&rt, !gate.was_missed() && gate.linked() == 1);
 }
 
 /// A worker interns between `enter` and `leave`, and still holds its atoms in `leave`.
@@ -276,8 +283,11 @@ fn workers_share_entries(rt: HostRuntime) {
 fn workers_intern_between_the_calls(rt: HostRuntime) {
     let set = new_set(&rt, rt.alloc());
     let watch = Watch::new(&set);
-    assert!(rt; are_counted(&rt, &set, "interned", 1, &watch, &[("interned", 1)]));
-    assert!(rt; watch.linked() == (0, 1));
+    assert_that(
+        &rt,
+        are_counted(&rt, &set, "interned", 1, &watch, &[("interned", 1)]),
+    );
+    assert_that(&rt, watch.linked() == (0, 1));
 }
 
 const FULL: Option<AppFault> = Some(AppFault::Intern(Fault::FullCount));
@@ -287,16 +297,25 @@ const FULL: Option<AppFault> = Some(AppFault::Intern(Fault::FullCount));
 fn refused_workers_hold_their_atoms(rt: HostRuntime) {
     let set = set_with(&rt, rt.alloc(), 2, 9);
     let watch = Watch::new(&set);
-    assert!(rt; fault_of(&rt, &set, "interned interned interned", 1, &watch) == FULL);
-    assert!(rt; watch.linked() == (0, 1) && set.linked(&rt) == 0);
+    assert_that(
+        &rt,
+        fault_of(&rt, &set, "interned interned interned", 1, &watch) == FULL,
+    );
+    assert_that(&rt, watch.linked() == (0, 1) && set.linked(&rt) == 0);
 }
 
 /// Each place is a holder, also of a word that came before.
 #[test]
 fn every_place_is_interned(rt: HostRuntime) {
     let set = set_with(&rt, rt.alloc(), 2, 9);
-    assert!(rt; are_counted(&rt, &set, "interned interned", 1, &Open, &[("interned", 2)]));
-    assert!(rt; fault_of(&rt, &set, "interned interned interned", 1, &Open) == FULL);
+    assert_that(
+        &rt,
+        are_counted(&rt, &set, "interned interned", 1, &Open, &[("interned", 2)]),
+    );
+    assert_that(
+        &rt,
+        fault_of(&rt, &set, "interned interned interned", 1, &Open) == FULL,
+    );
 }
 
 const SPENT: Option<AppFault> = Some(AppFault::Intern(Fault::TicketsSpent));
@@ -319,7 +338,7 @@ fn lowest_fault_is_answered(rt: HostRuntime) {
     let set = set_with(&rt, rt.alloc(), 1, 1);
     let held = intern(&rt, &set, "interned");
     drop(intern(&rt, &set, "tokenised"));
-    assert!(rt; are_refused_in_turn(&rt, &set, &held));
+    assert_that(&rt, are_refused_in_turn(&rt, &set, &held));
 }
 
 /// Whether three workers are refused the text, and one entry is left.
@@ -330,7 +349,7 @@ fn let_go<R: Threads + Wait + Sync>(rt: &R, set: &DefaultSet, text: &str) -> boo
 /// Checks that they are refused a text whose first word, or last, is full.
 fn check_let_go<R: Threads + Wait + Sync + Abort>(rt: &R, set: &DefaultSet) {
     for text in &["interned tokenised repeated", "repeated tokenised interned"] {
-        assert!(rt; let_go(rt, set, text), "of {text:?}");
+        assert_for(rt, let_go(rt, set, text), text);
     }
 }
 
@@ -340,7 +359,7 @@ fn refusals_let_go_of_all(rt: HostRuntime) {
     let set = set_with(&rt, rt.alloc(), 1, 9);
     let held = intern(&rt, &set, "interned");
     check_let_go(&rt, &set);
-    assert!(rt; held.eq_str("interned"));
+    assert_that(&rt, held.eq_str("interned"));
 }
 
 /// Clones a borrowed atom, compares its text, and drops the clone.
@@ -380,8 +399,8 @@ fn interned_by_worker<'e, R: Threads + Wait + Sync>(
 fn atoms_cross_threads(rt: HostRuntime) {
     let set = new_set(&rt, rt.alloc());
     let atom = interned_by_worker(&rt, &set).expect(&rt, "an atom");
-    assert!(rt; lent_to_two(&rt, &atom) == Some((true, true)));
-    assert!(rt; atom.eq_str("interned"));
+    assert_that(&rt, lent_to_two(&rt, &atom) == Some((true, true)));
+    assert_that(&rt, atom.eq_str("interned"));
     drop(atom);
-    assert!(rt; set.linked(&rt) == 0);
+    assert_that(&rt, set.linked(&rt) == 0);
 }

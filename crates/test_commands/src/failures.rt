@@ -1,5 +1,6 @@
 //! A reader that fails at one of its reads, and a writer that fails at one of its writes, each in turn.
 
+use crate::assert_for;
 use crate::memory::{GIVES, Outcome, Streams};
 use crate::program::EXAMPLE_COUNTS;
 use crate::replay::{OUTPUT, SCRIPT, replayed};
@@ -89,10 +90,7 @@ fn is_read_told<R: Threads + Wait + Sync>(rt: &R, alloc: Global, call: Call, at:
 fn each_read_fails(rt: HostRuntime) {
     for call in &CALLS {
         for at in 1..=call.reads().saturating_add(1) {
-            assert!(rt;
-                is_read_told(&rt, rt.alloc(), *call, at),
-                "{call:?} at {at}"
-            );
+            assert_for(&rt, is_read_told(&rt, rt.alloc(), *call, at), &(call, at));
         }
     }
 }
@@ -130,13 +128,14 @@ fn fail_each_write<R: Threads + Wait + Sync + Abort>(
         if before >= output.len() {
             break;
         }
-        assert!(rt;
+        assert_for(
+            rt,
             is_write_told(rt, alloc, call, (takes, at), &output[..before]),
-            "{call:?} at {at}"
+            &(call, at),
         );
         before = before.saturating_add(takes);
     }
-    assert!(rt; writes_all(rt, alloc, call, takes), "{call:?}");
+    assert_for(rt, writes_all(rt, alloc, call, takes), &call);
 }
 
 #[test]
@@ -153,13 +152,15 @@ fn each_write_fails(rt: HostRuntime) {
 fn writes_of_the_example_fail(rt: HostRuntime) {
     let before = b"Not seen the word \"here\" before\nNot seen";
     for call in &[Call::Words, Call::WordsAlone] {
-        assert!(rt;
+        assert_for(
+            &rt,
             is_write_told(&rt, rt.alloc(), *call, (1, 41), before),
-            "{call:?}"
+            call,
         );
-        assert!(rt;
+        assert_for(
+            &rt,
             is_write_told(&rt, rt.alloc(), *call, (0, 0), b""),
-            "{call:?}"
+            call,
         );
     }
 }

@@ -1,5 +1,6 @@
 //! What the commands print and answer, of single texts and of a real vocabulary.
 
+use crate::assert_that;
 use crate::program::{NOT_TEXT, Run, try_lines, try_runs};
 use commands::generate::{check_command, generate_command};
 use std::alloc::Global;
@@ -36,9 +37,15 @@ fn are_made<R: Threads + Wait + Sync + Abort>(
 #[test]
 fn one_text(rt: HostRuntime) {
     let alloc = rt.alloc();
-    assert!(rt; are_made(&rt, alloc, "generate 0 1", b"sentence", (0, "sentence")));
-    assert!(rt; are_made(&rt, alloc, "generate 0 1", b"sentence\n", (0, "sentence")));
-    assert!(rt; are_made(&rt, alloc, "generate 7 1", b"\n", (7, "")));
+    assert_that(
+        &rt,
+        are_made(&rt, alloc, "generate 0 1", b"sentence", (0, "sentence")),
+    );
+    assert_that(
+        &rt,
+        are_made(&rt, alloc, "generate 0 1", b"sentence\n", (0, "sentence")),
+    );
+    assert_that(&rt, are_made(&rt, alloc, "generate 7 1", b"\n", (7, "")));
 }
 
 static REFUSED: [Run; 5] = [
@@ -143,6 +150,6 @@ fn are_names_checked(alloc: Global) -> bool {
 /// Several hundred names are placed, and what is printed of them is checked.
 #[test]
 fn vocabulary(rt: HostRuntime) {
-    assert!(rt; NAMES.lines().count() > 300);
-    assert!(rt; are_names_checked(rt.alloc()));
+    assert_that(&rt, NAMES.lines().count() > 300);
+    assert_that(&rt, are_names_checked(rt.alloc()));
 }

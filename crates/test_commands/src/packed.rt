@@ -1,5 +1,6 @@
 //! Words and counts over sets of a packed static type, whose long names are static in them.
 
+use crate::assert_that;
 use commands::words::words;
 use example_page_names::names::PageNames;
 use std::alloc::Global;
@@ -52,11 +53,17 @@ fn are_counted<S: StaticTables + Send + Sync, R: Threads + Wait + Sync + Abort>(
 
 #[test]
 fn words_over_packed_names(rt: HostRuntime) {
-    assert!(rt; are_told::<PageNames, HostRuntime>(&rt, rt.alloc()));
+    assert_that(&rt, are_told::<PageNames, HostRuntime>(&rt, rt.alloc()));
 }
 
 #[test]
 fn counts_over_packed_names(rt: HostRuntime) {
-    assert!(rt; are_counted::<PageNames, HostRuntime>(&rt, rt.alloc(), false));
-    assert!(rt; are_counted::<PageNames, HostRuntime>(&rt, rt.alloc(), true));
+    assert_that(
+        &rt,
+        are_counted::<PageNames, HostRuntime>(&rt, rt.alloc(), false),
+    );
+    assert_that(
+        &rt,
+        are_counted::<PageNames, HostRuntime>(&rt, rt.alloc(), true),
+    );
 }

@@ -4,6 +4,7 @@ mod texts;
 
 use crate::memory::{Page, Streams};
 use crate::words::EXAMPLE_LINES;
+use crate::{assert_for, assert_that};
 use commands::program::{arguments, program, refuse, run};
 use std::alloc::Global;
 use std::env::FillError;
@@ -161,7 +162,7 @@ impl Run<'_> {
 /// Each of these runs has to be right.
 pub fn try_runs<R: Threads + Wait + Sync + Abort>(rt: &R, alloc: Global, runs: &[Run]) {
     for (at, run) in runs.iter().enumerate() {
-        assert!(rt; run.is_right(rt, alloc), "at run {at}");
+        assert_for(rt, run.is_right(rt, alloc), &at);
     }
 }
 
@@ -172,15 +173,19 @@ fn are_of_no_command<R: Threads + Wait + Sync>(rt: &R, alloc: Global, args: Vec<
 
 #[test]
 fn no_arguments(rt: HostRuntime) {
-    assert!(rt; are_of_no_command(&rt, rt.alloc(), Vec::new(rt.alloc())));
+    assert_that(
+        &rt,
+        are_of_no_command(&rt, rt.alloc(), Vec::new(rt.alloc())),
+    );
 }
 
 /// Lines of arguments that are those of no command.
 pub fn try_lines<R: Threads + Wait + Sync + Abort>(rt: &R, alloc: Global, lines: &[&'static str]) {
     for line in lines {
-        assert!(rt;
+        assert_for(
+            rt,
             Run::OfNoCommand(line, EXAMPLE).is_right(rt, alloc),
-            "at {line:?}"
+            line,
         );
     }
 }
@@ -215,7 +220,7 @@ fn other_arguments(rt: HostRuntime) {
 fn other_number_of_workers(rt: HostRuntime) {
     let mut args = words_of_line(&rt, rt.alloc(), "count");
     add_word(&rt, rt.alloc(), &mut args, " 1");
-    assert!(rt; are_of_no_command(&rt, rt.alloc(), args));
+    assert_that(&rt, are_of_no_command(&rt, rt.alloc(), args));
 }
 
 pub const EXAMPLE_COUNTS: &[u8] = b"1 a
@@ -293,8 +298,8 @@ fn unsaid_status<R: Threads + Wait + Sync + Abort>(rt: &R, alloc: Global, line: 
 /// What can't be said on standard error changes no status.
 #[test]
 fn faults_fail(rt: HostRuntime) {
-    assert!(rt; unsaid_status(&rt, rt.alloc(), "words") == 1);
-    assert!(rt; unsaid_status(&rt, rt.alloc(), "jump") == 2);
+    assert_that(&rt, unsaid_status(&rt, rt.alloc(), "words") == 1);
+    assert_that(&rt, unsaid_status(&rt, rt.alloc(), "jump") == 2);
 }
 
 /// Faults, and the lines that they are told in.
@@ -326,7 +331,7 @@ fn is_told(fault: AppFault, line: &[u8]) -> bool {
 #[test]
 fn printed_faults(rt: HostRuntime) {
     for (fault, line) in &FAULTS {
-        assert!(rt; is_told(*fault, line), "of {fault:?}");
+        assert_for(&rt, is_told(*fault, line), fault);
     }
 }
 
@@ -405,9 +410,12 @@ fn gives(alloc: Global, line: CommandLine, words: &[&str]) -> bool {
 #[test]
 fn arguments_without_the_name(rt: HostRuntime) {
     for (line, words) in &WORD_LINES {
-        assert!(rt; gives(rt.alloc(), line, words), "of {words:?}");
+        assert_for(&rt, gives(rt.alloc(), line, words), words);
     }
-    assert!(rt; matches!(arguments_of(rt.alloc(), BYTES_LINE), Ok(None)));
+    assert_that(
+        &rt,
+        matches!(arguments_of(rt.alloc(), BYTES_LINE), Ok(None)),
+    );
 }
 
 /// Whether nothing is written but this line of a fault, with this status, over input that is no text.
@@ -430,7 +438,7 @@ static WORDS_OR_NONE: [Run; 2] = [
 #[test]
 fn outcomes_of_arguments(rt: HostRuntime) {
     try_runs(&rt, rt.alloc(), &WORDS_OR_NONE);
-    assert!(rt; ends(&rt, rt.alloc(), Ok(None), 2, USAGE));
+    assert_that(&rt, ends(&rt, rt.alloc(), Ok(None), 2, USAGE));
     let no_room = Err(AppFault::Intern(Fault::Memory));
-    assert!(rt; ends(&rt, rt.alloc(), no_room, 1, NO_MEMORY));
+    assert_that(&rt, ends(&rt, rt.alloc(), no_room, 1, NO_MEMORY));
 }

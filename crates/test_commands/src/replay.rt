@@ -2,6 +2,7 @@
 
 use crate::memory::{Outcome, Streams};
 use crate::program::{NOT_TEXT, Run, try_runs};
+use crate::{assert_for, assert_that};
 use commands::replay::replay;
 use std::alloc::Global;
 use std::process::Abort;
@@ -254,7 +255,7 @@ freed
 fn worked_scripts(rt: HostRuntime) {
     for (script, output) in &WORKED {
         let run = Run::Given("replay", script, output);
-        assert!(rt; run.is_right(&rt, rt.alloc()), "of {script:?}");
+        assert_for(&rt, run.is_right(&rt, rt.alloc()), script);
     }
 }
 
@@ -265,8 +266,8 @@ fn is_no_text(alloc: Global, script: &[u8]) -> bool {
 
 #[test]
 fn not_a_text(rt: HostRuntime) {
-    assert!(rt; is_no_text(rt.alloc(), b"\xff"));
-    assert!(rt; is_no_text(rt.alloc(), b"1 jump\n\xff"));
+    assert_that(&rt, is_no_text(rt.alloc(), b"\xff"));
+    assert_that(&rt, is_no_text(rt.alloc(), b"1 jump\n\xff"));
 }
 
 pub const SCRIPT: &[u8] = b"1 intern interned\n1 link\n2 clone e1\n1 leave\n2 give e1\n";
@@ -314,8 +315,8 @@ fn overflows(alloc: Global, script: &str) -> bool {
 fn more_than_one_piece(rt: HostRuntime) {
     let script = script_of_sweeps(&rt, rt.alloc());
     let lines = lines_of(&rt, rt.alloc(), ("taken\nleft\n", 4096), ("no\nno\n", 1904));
-    assert!(rt; prints(rt.alloc(), &script, &lines));
-    assert!(rt; overflows(rt.alloc(), &script));
+    assert_that(&rt, prints(rt.alloc(), &script, &lines));
+    assert_that(&rt, overflows(rt.alloc(), &script));
 }
 
 /// A pass over a bucket, and behind it 550 steps that aren't enabled, each of this text.
@@ -335,8 +336,8 @@ fn large_script(rt: HostRuntime) {
         .expect(&rt, "room");
     let script = large_script_of(&rt, rt.alloc(), &text);
     let lines = lines_of(&rt, rt.alloc(), ("taken\n", 1), ("no\n", 550));
-    assert!(rt; script.len() > 1_100_000);
-    assert!(rt; prints(rt.alloc(), &script, &lines));
+    assert_that(&rt, script.len() > 1_100_000);
+    assert_that(&rt, prints(rt.alloc(), &script, &lines));
 }
 
 static RUNS: [Run; 5] = [

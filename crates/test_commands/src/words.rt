@@ -3,6 +3,7 @@
 ghost use Rattle.std.specs.Prelude.{None, false};
 
 use crate::memory::{Bytes, Outcome, Streams};
+use crate::{assert_for, assert_that};
 use commands::words::{words, words_alone};
 use std::alloc::Global;
 use std::process::Abort;
@@ -95,16 +96,16 @@ fn are_told<R: Wait>(
 #[test]
 fn words_of_texts(rt: HostRuntime) {
     for (text, lines) in &TEXTS {
-        assert!(rt;
-            are_told(&rt, rt.alloc(), text, Ok(()), lines),
-            "of {text:?}"
-        );
+        assert_for(&rt, are_told(&rt, rt.alloc(), text, Ok(()), lines), text);
     }
 }
 
 #[test]
 fn not_a_text(rt: HostRuntime) {
-    assert!(rt; are_told(&rt, rt.alloc(), b"\xff", Err(AppFault::Text), b""));
+    assert_that(
+        &rt,
+        are_told(&rt, rt.alloc(), b"\xff", Err(AppFault::Text), b""),
+    );
 }
 
 /// What stands before a word and behind it: in a text, and in the line that tells of it.
@@ -151,8 +152,8 @@ fn overflow(alloc: Global, text: &str) -> bool {
 fn more_than_one_piece(rt: HostRuntime) {
     let text = numbered(&rt, rt.alloc(), "word", 3000, IN_TEXT);
     let lines = numbered(&rt, rt.alloc(), "word", 3000, IN_LINE);
-    assert!(rt; are_lines(rt.alloc(), &text, &lines));
-    assert!(rt; overflow(rt.alloc(), &text));
+    assert_that(&rt, are_lines(rt.alloc(), &text, &lines));
+    assert_that(&rt, overflow(rt.alloc(), &text));
 }
 
 /// Takes all bytes, and notes how many come in each of the first two writes, and how many writes there are.
@@ -198,7 +199,7 @@ fn sizes_of(alloc: Global, text: &str) -> Result<(u64, usize, usize), AppFault> 
 #[test]
 fn lines_come_in_pieces(rt: HostRuntime) {
     let text = numbered(&rt, rt.alloc(), "smörgåsbordsmörgåsbordbord", 3000, IN_TEXT);
-    assert!(rt; sizes_of(rt.alloc(), &text) == Ok((3, 65_536, 65_536)));
+    assert_that(&rt, sizes_of(rt.alloc(), &text) == Ok((3, 65_536, 65_536)));
 }
 
 /// Whether the lines of 550 words with this beginning, which have more than a megabyte, are written over the set.
@@ -215,7 +216,7 @@ fn large_text(rt: HostRuntime) {
         .repeat(rt.alloc(), 100)
         .expect(&rt, "room");
     let set = new_set(&rt, rt.alloc());
-    assert!(rt; are_large(&rt, &set, &front));
+    assert_that(&rt, are_large(&rt, &set, &front));
 }
 
 /// The atom of a text.
@@ -242,7 +243,7 @@ fn dynamic_words_of_the_example(rt: HostRuntime) {
     let set = new_set(&rt, rt.alloc());
     let text = str::from_utf8(EXAMPLE).expect(&rt, "a text");
     for word in text.split_whitespace() {
-        assert!(rt; is_dynamic(&rt, &set, word) == is_long(word), "of {word:?}");
+        assert_for(&rt, is_dynamic(&rt, &set, word) == is_long(word), &word);
     }
 }
 
@@ -298,9 +299,12 @@ fn are_held<R: Wait>(rt: &R, set: &Set<EmptyStaticAtomSet>, text: &str, linked: 
 #[test]
 fn words_are_held_to_the_end(rt: HostRuntime) {
     let set = new_set(&rt, rt.alloc());
-    assert!(rt; are_held(&rt, &set, "interned tokenised interned short", 2));
+    assert_that(
+        &rt,
+        are_held(&rt, &set, "interned tokenised interned short", 2),
+    );
     let many = numbered(&rt, rt.alloc(), "word", 3000, IN_TEXT);
-    assert!(rt; are_held(&rt, &set, &many, 3000));
+    assert_that(&rt, are_held(&rt, &set, &many, 3000));
 }
 
 /// Whether interning this text gives this answer while the lines of others are written.
@@ -332,9 +336,9 @@ pub fn set_with(
 fn words_are_interned_themselves(rt: HostRuntime) {
     let set = set_with(&rt, rt.alloc(), 1, 9);
     let full = Err(Fault::FullCount);
-    assert!(rt; is_answer_meanwhile(&rt, &set, "interned", full));
-    assert!(rt; is_answer_meanwhile(&rt, &set, "tokenised", full));
-    assert!(rt; is_answer_meanwhile(&rt, &set, "repeated", Ok(())));
+    assert_that(&rt, is_answer_meanwhile(&rt, &set, "interned", full));
+    assert_that(&rt, is_answer_meanwhile(&rt, &set, "tokenised", full));
+    assert_that(&rt, is_answer_meanwhile(&rt, &set, "repeated", Ok(())));
 }
 
 /// Whether this is the answer to the text, and nothing stays linked.
@@ -351,9 +355,12 @@ fn is_answer<R: Wait>(
 #[test]
 fn holders_are_full(rt: HostRuntime) {
     let set = set_with(&rt, rt.alloc(), 2, 9);
-    assert!(rt; is_answer(&rt, &set, b"interned. interned.", Ok(())));
+    assert_that(&rt, is_answer(&rt, &set, b"interned. interned.", Ok(())));
     let full = Err(AppFault::Intern(Fault::FullCount));
-    assert!(rt; is_answer(&rt, &set, b"interned. interned. interned.", full));
+    assert_that(
+        &rt,
+        is_answer(&rt, &set, b"interned. interned. interned.", full),
+    );
 }
 
 /// Whether this is answered, and these lines are written, of the text "interned".
@@ -370,14 +377,15 @@ fn is_told_in<R: Wait>(
 #[test]
 fn tickets_are_spent(rt: HostRuntime) {
     let set = set_with(&rt, rt.alloc(), 9, 1);
-    assert!(rt;
+    assert_that(
+        &rt,
         is_told_in(
             &rt,
             &set,
             Ok(()),
-            b"Not seen the word \"interned\" before\n"
-        )
+            b"Not seen the word \"interned\" before\n",
+        ),
     );
     let spent = Err(AppFault::Intern(Fault::TicketsSpent));
-    assert!(rt; is_told_in(&rt, &set, spent, b""));
+    assert_that(&rt, is_told_in(&rt, &set, spent, b""));
 }

@@ -1,5 +1,6 @@
 //! Names in a list of a set's atoms.
 
+use crate::assert_that;
 use example_sets::list_names;
 use std::process::Abort;
 use std::sync::Wait;
@@ -16,6 +17,6 @@ fn are_listed<R: Wait + Abort>(rt: &R, set: &Set<EmptyStaticAtomSet>) -> bool {
 #[test]
 fn names_are_listed(rt: HostRuntime) {
     let set = Set::new(rt.alloc()).expect(&rt, "a set");
-    assert!(rt; are_listed(&rt, &set));
-    assert!(rt; set.linked(&rt) == 0);
+    assert_that(&rt, are_listed(&rt, &set));
+    assert_that(&rt, set.linked(&rt) == 0);
 }

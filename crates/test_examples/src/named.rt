@@ -2,6 +2,7 @@
 //! told.
 ghost use Rattle.std.specs.Prelude.{◌≡◌};
 
+use crate::assert_that;
 use example_named::{
     Symbols, Texts, Told, crew_agrees, declare_and_look_up, declare_and_look_up_all,
     declare_and_look_up_by_threads, look_up_all,
@@ -47,8 +48,8 @@ fn crew_says<R: Threads + Wait + Sync + Abort>(rt: &R, alloc: Global, last: &str
 /// Eight threads agree if all have one text, and not if the last has another.
 #[test]
 fn crews_agree(rt: HostRuntime) {
-    assert!(rt; crew_says(&rt, rt.alloc(), ""));
-    assert!(rt; !crew_says(&rt, rt.alloc(), "Größe"));
+    assert_that(&rt, crew_says(&rt, rt.alloc(), ""));
+    assert_that(&rt, !crew_says(&rt, rt.alloc(), "Größe"));
 }
 
 /// Who looks a text up that was declared.
@@ -112,9 +113,9 @@ fn eight_find<R: Threads + Wait + Sync + Abort>(rt: &R, alloc: Global) -> bool {
 /// A text that was declared is found, and another isn't.
 #[test]
 fn declared_texts_are_found(rt: HostRuntime) {
-    assert!(rt; do_find(&rt, rt.alloc(), Crew::One));
-    assert!(rt; do_find(&rt, rt.alloc(), Crew::Two));
-    assert!(rt; eight_find(&rt, rt.alloc()));
+    assert_that(&rt, do_find(&rt, rt.alloc(), Crew::One));
+    assert_that(&rt, do_find(&rt, rt.alloc(), Crew::Two));
+    assert_that(&rt, eight_find(&rt, rt.alloc()));
 }
 
 /// Declares these names in turn.
@@ -208,5 +209,5 @@ fn readers_are_told<N: SetName + Send + Sync, R: Threads + Wait + Sync + Abort>(
 #[test]
 fn readers_are_told_what_was_declared(rt: HostRuntime) {
     let name = FreshName::new(rt.alloc(), Buckets::usual()).expect(&rt, "a name");
-    assert!(rt; readers_are_told::<Brand, _>(&rt, rt.alloc(), name));
+    assert_that(&rt, readers_are_told::<Brand, _>(&rt, rt.alloc(), name));
 }

@@ -2,6 +2,7 @@
 //! the maps are added up, in which no text is read.
 ghost use Rattle.std.specs.Prelude.{◌≡◌};
 
+use crate::assert_that;
 use named_atoms::{ByWord, NamedAtom};
 use named_set::{FreshName, NamedSet, SetName};
 use std::alloc::Global;
@@ -201,5 +202,8 @@ fn are_all_counted_named<N: SetName + Send + Sync, R: Threads + Wait + Sync + Ab
 #[test]
 fn totals_are_those_of_texts(rt: HostRuntime) {
     let name = FreshName::new(rt.alloc(), Buckets::usual()).expect(&rt, "a name");
-    assert!(rt; are_all_counted_named::<Brand, _>(&rt, rt.alloc(), name));
+    assert_that(
+        &rt,
+        are_all_counted_named::<Brand, _>(&rt, rt.alloc(), name),
+    );
 }

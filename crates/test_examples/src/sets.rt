@@ -1,5 +1,6 @@
 //! What the small programs answer, with worked values.
 
+use crate::{assert_for, assert_that};
 use counted_cell::{Label, Owner};
 use example_sets::{
     Compared, Dishes, Priced, Tag, Tags, agree, agree_in_scope, compare_names, compute_something,
@@ -54,9 +55,10 @@ fn names_compare(rt: HostRuntime) {
             is_in_capitals: *is_in_capitals,
             price: if *is_same { Some(40) } else { None },
         };
-        assert!(rt;
+        assert_for(
+            &rt,
             compared(&rt, rt.alloc(), first, second) == Some(wanted),
-            "of {second:?}"
+            second,
         );
     }
 }
@@ -70,7 +72,7 @@ fn matched<R: Wait + Abort>(rt: &R, set: &DefaultSet, text: &str) -> u32 {
 fn texts_are_matched(rt: HostRuntime) {
     let set = new_set(&rt, rt.alloc());
     for (text, wanted) in &[("foo", 1), ("bar", 2), ("baz", 3), ("", 0)] {
-        assert!(rt; matched(&rt, &set, text) == *wanted, "of {text:?}");
+        assert_for(&rt, matched(&rt, &set, text) == *wanted, &text);
     }
 }
 
@@ -89,7 +91,10 @@ fn are_one_header<R: Wait + Abort>(
 #[test]
 fn headers_have_small_letters(rt: HostRuntime) {
     let set = new_set(&rt, rt.alloc());
-    assert!(rt; are_one_header(&rt, &set, "Content-Type", "CONTENT-TYPE", "content-type"));
+    assert_that(
+        &rt,
+        are_one_header(&rt, &set, "Content-Type", "CONTENT-TYPE", "content-type"),
+    );
 }
 
 /// Whether the atom is written as a value that is read back as the atom.
@@ -134,7 +139,7 @@ fn goes_through<R: Wait + Abort>(rt: &R, set: &DefaultSet, text: &str, json: &st
 #[test]
 fn atoms_go_through_json(rt: HostRuntime) {
     let set = new_set(&rt, rt.alloc());
-    assert!(rt; goes_through(&rt, &set, "interned", "\"interned\""));
+    assert_that(&rt, goes_through(&rt, &set, "interned", "\"interned\""));
 }
 
 /// What names cost.
@@ -156,7 +161,7 @@ fn priced_by_atom<R: Wait + Abort>(rt: &R, set: &DefaultSet, name: &str) -> Opti
 fn prices_are_found_by_text(rt: HostRuntime) {
     let set = new_set(&rt, rt.alloc());
     for (name, price) in &[("pear tree", Some(40u32)), ("plum tree", None)] {
-        assert!(rt; priced_by_atom(&rt, &set, name) == *price, "of {name:?}");
+        assert_for(&rt, priced_by_atom(&rt, &set, name) == *price, &name);
     }
 }
 
@@ -173,7 +178,7 @@ fn prices_are_found_without_interning(rt: HostRuntime) {
         ("plum tree", None), // dynamic
         ("plum", None), // inline
     ] {
-        assert!(rt; priced(&rt, &set, name) == Ok(*price), "of {name:?}");
+        assert_for(&rt, priced(&rt, &set, name) == Ok(*price), name);
     }
 }
 
@@ -203,10 +208,7 @@ fn prices_are_written_as_json(rt: HostRuntime) {
             "{\"name\":\"m\u{f6}hrensuppe\",\"price\":4294967295}",
         ),
     ] {
-        assert!(rt;
-            is_json_of_price(&rt, &set, name, *price, wanted),
-            "of {name:?}"
-        );
+        assert_for(&rt, is_json_of_price(&rt, &set, name, *price, wanted), name);
     }
 }
 
@@ -219,7 +221,7 @@ fn is_linked<R: Wait + Abort>(rt: &R, set: &DefaultSet, text: &str) -> bool {
 #[test]
 fn a_large_set_takes_texts(rt: HostRuntime) {
     let set = large_set(rt.alloc()).expect(&rt, "a set");
-    assert!(rt; is_linked(&rt, &set, "pear tree"));
+    assert_that(&rt, is_linked(&rt, &set, "pear tree"));
 }
 
 /// How many texts the tables of some names have.
@@ -233,9 +235,12 @@ fn texts_in_tables(alloc: Global, names: &[&str]) -> Option<usize> {
 #[test]
 fn tables_are_made_of_names(rt: HostRuntime) {
     let names = ["figcaption", "m\u{f6}hrensuppe"];
-    assert!(rt; texts_in_tables(rt.alloc(), &names) == Some(2));
-    assert!(rt; texts_in_tables(rt.alloc(), &["figcaption", "figcaption"]).is_none());
-    assert!(rt; texts_in_tables(rt.alloc(), &[]).is_none());
+    assert_that(&rt, texts_in_tables(rt.alloc(), &names) == Some(2));
+    assert_that(
+        &rt,
+        texts_in_tables(rt.alloc(), &["figcaption", "figcaption"]).is_none(),
+    );
+    assert_that(&rt, texts_in_tables(rt.alloc(), &[]).is_none());
 }
 
 /// How many bytes one share more sees of the text of a cell, which has its only share where at most one may have it.
@@ -257,8 +262,14 @@ fn bytes_by_share<R: Wait>(rt: &R, alloc: Global, text: &str, is_full: bool) -> 
 
 #[test]
 fn a_cell_is_read_by_a_share(rt: HostRuntime) {
-    assert!(rt; bytes_by_share(&rt, rt.alloc(), "pear tree", false) == Some(9));
-    assert!(rt; bytes_by_share(&rt, rt.alloc(), "pear tree", true).is_none());
+    assert_that(
+        &rt,
+        bytes_by_share(&rt, rt.alloc(), "pear tree", false) == Some(9),
+    );
+    assert_that(
+        &rt,
+        bytes_by_share(&rt, rt.alloc(), "pear tree", true).is_none(),
+    );
 }
 
 /// Whether these two items, and no other, are taken out of the chain.
@@ -278,14 +289,14 @@ fn are_taken(alloc: Global, first: u64, second: u64) -> bool {
 
 #[test]
 fn items_are_taken_out_in_order(rt: HostRuntime) {
-    assert!(rt; are_taken(rt.alloc(), 40, 7));
+    assert_that(&rt, are_taken(rt.alloc(), 40, 7));
 }
 
 #[test]
 fn printed_tables_are_accepted(rt: HostRuntime) {
     let names = ["figcaption", "m\u{f6}hrensuppe"];
-    assert!(rt; matches!(prints_well(rt.alloc(), &names, 0), Ok(true)));
-    assert!(rt; prints_well(rt.alloc(), &[], 0).is_err());
+    assert_that(&rt, matches!(prints_well(rt.alloc(), &names, 0), Ok(true)));
+    assert_that(&rt, prints_well(rt.alloc(), &[], 0).is_err());
 }
 
 /// Whether the atoms of two threads are equal in a set of their own. `None` where one is refused.
@@ -328,7 +339,7 @@ fn threads_agree(rt: HostRuntime) {
         ("tokenised", "tokenised", true),
         ("tokenised", "tokenized", false),
     ] {
-        assert!(rt; do_agree(&rt, &set, left, right, *wanted), "of {right:?}");
+        assert_for(&rt, do_agree(&rt, &set, left, right, *wanted), right);
     }
 }
 
@@ -345,16 +356,19 @@ fn told_of_tag<R: Wait + Abort>(rt: &R, set: &Set<Tags>, name: &str) -> (bool, b
 
 #[test]
 fn tags_are_static(rt: HostRuntime) {
-    assert!(rt; are_checked::<Tags>());
-    assert!(rt; finds_all::<Tags>(&["figcaption", "textarea", "template"]));
-    assert!(rt; !finds_all::<Tags>(&["figcaption", "sentence"]));
+    assert_that(&rt, are_checked::<Tags>());
+    assert_that(
+        &rt,
+        finds_all::<Tags>(&["figcaption", "textarea", "template"]),
+    );
+    assert_that(&rt, !finds_all::<Tags>(&["figcaption", "sentence"]));
     let set = new_set(&rt, rt.alloc());
     for (name, told) in &[
         ("textarea", (true, true)),
         ("table", (false, false)),
         ("sentence", (false, false)),
     ] {
-        assert!(rt; told_of_tag(&rt, &set, name) == *told, "of {name}");
+        assert_for(&rt, told_of_tag(&rt, &set, name) == *told, name);
     }
 }
 
@@ -367,13 +381,13 @@ fn dishes_are_static(rt: HostRuntime) {
         "soup \"du jour\" \\ bread",
         "minestrone",
     ];
-    assert!(rt; are_checked::<Dishes>());
-    assert!(rt; finds_all::<Dishes>(&names));
-    assert!(rt; !finds_all::<Dishes>(&["cafe au lait"]));
+    assert_that(&rt, are_checked::<Dishes>());
+    assert_that(&rt, finds_all::<Dishes>(&names));
+    assert_that(&rt, !finds_all::<Dishes>(&["cafe au lait"]));
 }
 
 #[test]
 fn an_atom_has_24_bytes(rt: HostRuntime) {
-    assert!(rt; size_of::<DefaultAtom>() == 24);
-    assert!(rt; size_of::<Tag>() == 24);
+    assert_that(&rt, size_of::<DefaultAtom>() == 24);
+    assert_that(&rt, size_of::<Tag>() == 24);
 }

@@ -1,6 +1,7 @@
 //! What no contract says: words, hashes and texts that come from outside.
 
 use crate::texts::is_printed_as;
+use crate::{assert_for, assert_that};
 use std::alloc::{AllocError, Global};
 use string_cache_core::Fault;
 use string_cache_core::phf::{Hashes, hash, place, sip24};
@@ -49,10 +50,10 @@ const INLINE: [(&str, u64); 8] = [
 #[test]
 fn inline_words(rt: HostRuntime) {
     for (text, word) in &INLINE {
-        assert!(rt; is_packed(text, *word), "of {text:?}");
-        assert!(rt; is_unpacked(*word, text), "of {word:#x}");
+        assert_for(&rt, is_packed(text, *word), text);
+        assert_for(&rt, is_unpacked(*word, text), word);
     }
-    assert!(rt; pack_inline_word("abcdefgh").is_none());
+    assert_that(&rt, pack_inline_word("abcdefgh").is_none());
 }
 
 /// Whether the text has the inline word of these bytes.
@@ -65,8 +66,8 @@ fn is_packed_as(text: &str, bytes: [u8; 8]) -> bool {
 
 #[test]
 fn inline_words_as_bytes(rt: HostRuntime) {
-    assert!(rt; is_packed_as("a", [0x11, 0x61, 0, 0, 0, 0, 0, 0]));
-    assert!(rt; is_packed_as("é", [0x21, 0xc3, 0xa9, 0, 0, 0, 0, 0]));
+    assert_that(&rt, is_packed_as("a", [0x11, 0x61, 0, 0, 0, 0, 0, 0]));
+    assert_that(&rt, is_packed_as("é", [0x21, 0xc3, 0xa9, 0, 0, 0, 0, 0]));
 }
 
 /// Whether the text is an inline text, whose word is that of the text.
@@ -95,13 +96,10 @@ const PRINTED: [(&str, &str); 3] = [
 #[test]
 fn inline_texts(rt: HostRuntime) {
     for (text, printed) in &PRINTED {
-        assert!(rt; is_inline_text(text), "of {text:?}");
-        assert!(rt;
-            prints_as(rt.alloc(), text, printed) == Ok(true),
-            "of {text:?}"
-        );
+        assert_for(&rt, is_inline_text(text), text);
+        assert_for(&rt, prints_as(rt.alloc(), text, printed) == Ok(true), text);
     }
-    assert!(rt; InlineText::new("abcdefgh").is_none());
+    assert_that(&rt, InlineText::new("abcdefgh").is_none());
 }
 
 /// Whether it is the word of nothing.
@@ -126,7 +124,7 @@ const NO_WORDS: [u64; 11] = [
 #[test]
 fn words_of_nothing(rt: HostRuntime) {
     for word in &NO_WORDS {
-        assert!(rt; is_no_word(*word), "of {word:#x}");
+        assert_for(&rt, is_no_word(*word), word);
     }
 }
 
@@ -141,17 +139,23 @@ fn is_ticket(word: u64, serial: u64, bucket: u16) -> bool {
 #[test]
 fn other_words(rt: HostRuntime) {
     let last = MOST_BUCKETS as u16 - 1;
-    assert!(rt; is_static(2, 0));
-    assert!(rt; is_static(0xffff_ffff_0000_0002, u32::MAX));
-    assert!(rt; is_ticket(0x1_0000, 1, 0));
-    assert!(rt; is_ticket(0x1_fffc, 1, last));
-    assert!(rt; is_ticket(0xffff_ffff_ffff_fffc, SERIAL_BOUND - 1, last));
-    assert!(rt; ticket_word(SERIAL_BOUND - 1, last) == 0xffff_ffff_ffff_fffc);
-    assert!(rt; ticket_word(1, 0) == 0x1_0000);
-    assert!(rt; ticket_word(1, 4095) == 0x1_3ffc);
-    assert!(rt; ticket_word(1, 16383) == 0x1_fffc);
-    assert!(rt; static_word(0) == 2);
-    assert!(rt; static_word(3) == 0x3_0000_0002);
+    assert_that(&rt, is_static(2, 0));
+    assert_that(&rt, is_static(0xffff_ffff_0000_0002, u32::MAX));
+    assert_that(&rt, is_ticket(0x1_0000, 1, 0));
+    assert_that(&rt, is_ticket(0x1_fffc, 1, last));
+    assert_that(
+        &rt,
+        is_ticket(0xffff_ffff_ffff_fffc, SERIAL_BOUND - 1, last),
+    );
+    assert_that(
+        &rt,
+        ticket_word(SERIAL_BOUND - 1, last) == 0xffff_ffff_ffff_fffc,
+    );
+    assert_that(&rt, ticket_word(1, 0) == 0x1_0000);
+    assert_that(&rt, ticket_word(1, 4095) == 0x1_3ffc);
+    assert_that(&rt, ticket_word(1, 16383) == 0x1_fffc);
+    assert_that(&rt, static_word(0) == 2);
+    assert_that(&rt, static_word(3) == 0x3_0000_0002);
 }
 
 /// Whether there are limits of these numbers, which they tell.
@@ -170,12 +174,12 @@ const NO_LIMITS: [(u64, u64); 4] = [(0, 1), (1, 0), (HOLDER_BOUND, 1), (1, SERIA
 
 #[test]
 fn limits(rt: HostRuntime) {
-    assert!(rt; (HOLDER_BOUND, SERIAL_BOUND) == (1 << 63, 1 << 48));
+    assert_that(&rt, (HOLDER_BOUND, SERIAL_BOUND) == (1 << 63, 1 << 48));
     for (holders, serials) in &NO_LIMITS {
-        assert!(rt; Limits::new(*holders, *serials).is_none());
+        assert_that(&rt, Limits::new(*holders, *serials).is_none());
     }
-    assert!(rt; are_limits(1, 1));
-    assert!(rt; are_greatest(HOLDER_BOUND - 1, SERIAL_BOUND - 1));
+    assert_that(&rt, are_limits(1, 1));
+    assert_that(&rt, are_greatest(HOLDER_BOUND - 1, SERIAL_BOUND - 1));
 }
 
 /// Whether these are the bits of a number of buckets, the first and the last of which are those of the hashes whose low bits are all
@@ -194,12 +198,15 @@ const NUMBERS: [(u8, usize); 4] = [(0, 1), (1, 2), (12, 4096), (14, MOST_BUCKETS
 
 #[test]
 fn numbers_of_buckets(rt: HostRuntime) {
-    assert!(rt; MOST_BUCKETS == 16384);
+    assert_that(&rt, MOST_BUCKETS == 16384);
     for (bits, number) in &NUMBERS {
-        assert!(rt; has_number(*bits, *number), "of {bits}");
+        assert_for(&rt, has_number(*bits, *number), bits);
     }
-    assert!(rt; Buckets::new(15).is_none() && Buckets::new(255).is_none());
-    assert!(rt; Buckets::usual().bits() == 12);
+    assert_that(
+        &rt,
+        Buckets::new(15).is_none() && Buckets::new(255).is_none(),
+    );
+    assert_that(&rt, Buckets::usual().bits() == 12);
 }
 
 /// The vector that was published with SipHash.
@@ -247,9 +254,9 @@ fn hashes(rt: HostRuntime) {
             f1: *f1,
             f2: *f2,
         };
-        assert!(rt; has_hashes(text, *key, hashes), "of {text:?}, {key}");
+        assert_for(&rt, has_hashes(text, *key, hashes), &(text, key));
     }
-    assert!(rt; has_entry_hash("sentence", 0xed02_e6f1_6c03_c165));
+    assert_that(&rt, has_entry_hash("sentence", 0xed02_e6f1_6c03_c165));
 }
 
 #[test]
@@ -280,20 +287,20 @@ fn has_none<S: StaticAtomSet>(index: u32) -> bool {
 #[test]
 fn static_texts(rt: HostRuntime) {
     let dynamic = TextForm::Dynamic(hash("sentencf", 0).entry_hash());
-    assert!(rt; has_form::<One>("sentence", TextForm::Static(0)));
-    assert!(rt; has_form::<One>("sentencf", dynamic));
-    assert!(rt; has_text::<One>(0, "sentence"));
-    assert!(rt; has_none::<One>(1));
-    assert!(rt; has_none::<One>(u32::MAX));
+    assert_that(&rt, has_form::<One>("sentence", TextForm::Static(0)));
+    assert_that(&rt, has_form::<One>("sentencf", dynamic));
+    assert_that(&rt, has_text::<One>(0, "sentence"));
+    assert_that(&rt, has_none::<One>(1));
+    assert_that(&rt, has_none::<One>(u32::MAX));
 
     // The low bit of f2, 0x56e93a5c, is the place of "sentence" among two.
-    assert!(rt; has_form::<Twice>("sentence", TextForm::Static(0)));
-    assert!(rt; has_text::<Twice>(0, "sentence"));
-    assert!(rt; has_none::<Twice>(1));
+    assert_that(&rt, has_form::<Twice>("sentence", TextForm::Static(0)));
+    assert_that(&rt, has_text::<Twice>(0, "sentence"));
+    assert_that(&rt, has_none::<Twice>(1));
 
-    assert!(rt; has_inline_form::<Short>("short", 0x7472_6f68_7351));
-    assert!(rt; has_none::<Short>(0));
-    assert!(rt; has_none::<EmptyStaticAtomSet>(0));
+    assert_that(&rt, has_inline_form::<Short>("short", 0x7472_6f68_7351));
+    assert_that(&rt, has_none::<Short>(0));
+    assert_that(&rt, has_none::<EmptyStaticAtomSet>(0));
 }
 
 fn is_perfect(
@@ -317,14 +324,26 @@ fn passes<S: StaticAtomSet>() -> bool {
 
 #[test]
 fn checked_tables(rt: HostRuntime) {
-    assert!(rt; passes::<One>() && passes::<Short>() && !passes::<Twice>());
-    assert!(rt; passes::<EmptyStaticAtomSet>());
-    assert!(rt; is_perfect(&[(0, 0)], &["sentence"], &[0]));
-    assert!(rt; is_perfect(&[(u32::MAX, u32::MAX)], &["sentence"], &[1]));
+    assert_that(
+        &rt,
+        passes::<One>() && passes::<Short>() && !passes::<Twice>(),
+    );
+    assert_that(&rt, passes::<EmptyStaticAtomSet>());
+    assert_that(&rt, is_perfect(&[(0, 0)], &["sentence"], &[0]));
+    assert_that(
+        &rt,
+        is_perfect(&[(u32::MAX, u32::MAX)], &["sentence"], &[1]),
+    );
 
     // The low bits of f2, 0x56e93a5c and 0x56f756b3, are the places of the two among two.
-    assert!(rt; is_perfect(&[(0, 0)], &["sentence", "interned"], &[1, 2]));
-    assert!(rt; !is_perfect(&[(0, 0)], &["interned", "sentence"], &[1, 2]));
+    assert_that(
+        &rt,
+        is_perfect(&[(0, 0)], &["sentence", "interned"], &[1, 2]),
+    );
+    assert_that(
+        &rt,
+        !is_perfect(&[(0, 0)], &["interned", "sentence"], &[1, 2]),
+    );
 }
 
 fn are_parts_perfect(disps: &[(u32, u32)], atoms: &[&str], hashes: &[u64]) -> bool {
@@ -356,17 +375,17 @@ const BORROWED: [(&str, &str, &[u64], bool); 3] = [
 fn borrowed_tables(rt: HostRuntime) {
     for (first, second, hashes, wanted) in &BORROWED {
         let are_perfect = are_perfect(rt.alloc(), first, second, hashes).expect(&rt, "memory");
-        assert!(rt; are_perfect == *wanted, "of {first:?}");
+        assert_for(&rt, are_perfect == *wanted, first);
     }
 }
 
 #[test]
 fn unusable_tables(rt: HostRuntime) {
-    assert!(rt; !is_perfect(&[], &["sentence"], &[1]));
-    assert!(rt; !is_perfect(&[(0, 0)], &[], &[]));
-    assert!(rt; !is_perfect(&[(0, 0)], &[], &[1]));
-    assert!(rt; !is_perfect(&[(0, 0)], &["sentence"], &[]));
-    assert!(rt; !is_perfect(&[(0, 0)], &["sentence"], &[1, 2]));
+    assert_that(&rt, !is_perfect(&[], &["sentence"], &[1]));
+    assert_that(&rt, !is_perfect(&[(0, 0)], &[], &[]));
+    assert_that(&rt, !is_perfect(&[(0, 0)], &[], &[1]));
+    assert_that(&rt, !is_perfect(&[(0, 0)], &["sentence"], &[]));
+    assert_that(&rt, !is_perfect(&[(0, 0)], &["sentence"], &[1, 2]));
 }
 
 /// Whether these are the static tables of the type.
@@ -382,9 +401,12 @@ fn has_tables<S: StaticAtomSet>(
 
 #[test]
 fn empty_set(rt: HostRuntime) {
-    assert!(rt; has_tables::<EmptyStaticAtomSet>(0, &[(0, 0)], &[""], &[0x3ddd_def3]));
-    assert!(rt; EmptyStaticAtomSet == EmptyStaticAtomSet);
-    assert!(rt; EmptyStaticAtomSet <= EmptyStaticAtomSet);
+    assert_that(
+        &rt,
+        has_tables::<EmptyStaticAtomSet>(0, &[(0, 0)], &[""], &[0x3ddd_def3]),
+    );
+    assert_that(&rt, EmptyStaticAtomSet == EmptyStaticAtomSet);
+    assert_that(&rt, EmptyStaticAtomSet <= EmptyStaticAtomSet);
 }
 
 /// Faults, their numbers, and what they print.
@@ -398,7 +420,7 @@ const FAULTS: [(Fault, u8, &str); 4] = [
 #[test]
 fn faults(rt: HostRuntime) {
     for (fault, number, text) in &FAULTS {
-        assert!(rt; fault.number() == *number, "of {text:?}");
-        assert!(rt; is_printed_as(rt.alloc(), fault, text), "of {text:?}");
+        assert_for(&rt, fault.number() == *number, text);
+        assert_for(&rt, is_printed_as(rt.alloc(), fault, text), text);
     }
 }

@@ -1,6 +1,7 @@
 //! What no contract says: lists that are placed, and texts that come from outside.
 
 use crate::texts::is_printed_as;
+use crate::{assert_for, assert_that};
 use std::alloc::{AllocError, Global};
 use string_cache_core::Fault;
 use string_cache_core::phf::{Hashes, hash};
@@ -77,9 +78,9 @@ fn one_text(rt: HostRuntime) {
     let hashes = hash("sentence", 0);
     let number = u64::from(hashes.g) << 32 | u64::from(hashes.f1);
     let tables = tables_of(rt.alloc(), &["sentence"], 0, 1).expect(&rt, "tables");
-    assert!(rt; are_of_sentence(&tables, number));
-    assert!(rt; print_as(rt.alloc(), &tables, number));
-    assert!(rt; are_checked(rt.alloc(), &tables) == Ok(true));
+    assert_that(&rt, are_of_sentence(&tables, number));
+    assert_that(&rt, print_as(rt.alloc(), &tables, number));
+    assert_that(&rt, are_checked(rt.alloc(), &tables) == Ok(true));
 }
 
 /// Lists, each with a bound and the fault that comes of it.
@@ -112,10 +113,10 @@ fn is_refused(alloc: Global, list: &[&str], bound: u32, fault: GenFault) -> bool
 #[test]
 fn refused_lists(rt: HostRuntime) {
     for (list, bound, fault) in &REFUSED {
-        assert!(rt; is_refused(rt.alloc(), list, *bound, *fault), "of {list:?}");
+        assert_for(&rt, is_refused(rt.alloc(), list, *bound, *fault), list);
     }
     for (fault, text) in &FAULTS {
-        assert!(rt; is_printed_as(rt.alloc(), fault, text), "of {text:?}");
+        assert_for(&rt, is_printed_as(rt.alloc(), fault, text), text);
     }
 }
 
@@ -160,7 +161,7 @@ fn doubled_texts(rt: HostRuntime) {
     let texts = numbered(rt.alloc(), 1000).expect(&rt, "texts");
     for (from, to) in &PLACES {
         let is_refused = is_double_refused(rt.alloc(), &texts, *from, *to);
-        assert!(rt; is_refused == Ok(true), "of {from} and {to}");
+        assert_for(&rt, is_refused == Ok(true), &(from, to));
     }
 }
 
@@ -169,7 +170,10 @@ const THREE_TIMES: [&str; 5] = ["sentence", "interned", "sentence", "tokenised",
 
 #[test]
 fn text_listed_three_times(rt: HostRuntime) {
-    assert!(rt; is_refused(rt.alloc(), &THREE_TIMES, 1024, GenFault::Doubled));
+    assert_that(
+        &rt,
+        is_refused(rt.alloc(), &THREE_TIMES, 1024, GenFault::Doubled),
+    );
 }
 
 /// Xor and wrapping sum of the numbers.
@@ -214,7 +218,7 @@ fn are_placed_with(alloc: Global, texts: &[String], other: &str) -> Result<bool,
 #[test]
 fn thousand_and_one_texts(rt: HostRuntime) {
     let texts = spread(rt.alloc(), 1000).expect(&rt, "texts");
-    assert!(rt; are_placed_with(rt.alloc(), &texts, "味噌汁") == Ok(true));
+    assert_that(&rt, are_placed_with(rt.alloc(), &texts, "味噌汁") == Ok(true));
 }
 
 /// Names of several scripts under two pairs of displacements, as a program in Python placed them that was written from what is stated of the
@@ -237,8 +241,14 @@ fn are_names_checked(alloc: Global, pairs: &str) -> Result<bool, Fault> {
 
 #[test]
 fn text_of_another_program(rt: HostRuntime) {
-    assert!(rt; are_names_checked(rt.alloc(), "disp 198 0\ndisp 196 3") == Ok(true));
-    assert!(rt; are_names_checked(rt.alloc(), "disp 196 3\ndisp 198 0") == Ok(false));
+    assert_that(
+        &rt,
+        are_names_checked(rt.alloc(), "disp 198 0\ndisp 196 3") == Ok(true),
+    );
+    assert_that(
+        &rt,
+        are_names_checked(rt.alloc(), "disp 196 3\ndisp 198 0") == Ok(false),
+    );
 }
 
 /// Whether the f2 of the texts differ in the lowest bit: with no displacement they have two places.
@@ -277,7 +287,7 @@ fn is_first_pair_placed(alloc: Global, texts: &[String]) -> Result<bool, GenFaul
 #[test]
 fn two_texts(rt: HostRuntime) {
     let texts = numbered(rt.alloc(), 100).expect(&rt, "texts");
-    assert!(rt; is_first_pair_placed(rt.alloc(), &texts) == Ok(true));
+    assert_that(&rt, is_first_pair_placed(rt.alloc(), &texts) == Ok(true));
 }
 
 /// Whether the tables are made under this key. `None` where anything but their bound is in the way.
@@ -312,9 +322,10 @@ fn are_numbered_placed(alloc: Global, count: usize) -> Result<bool, AllocError> 
 #[test]
 fn short_lists(rt: HostRuntime) {
     for count in 9..21 {
-        assert!(rt;
+        assert_for(
+            &rt,
             are_numbered_placed(rt.alloc(), count) == Ok(true),
-            "of {count} texts"
+            &count,
         );
     }
 }
@@ -356,8 +367,8 @@ fn tables_of_numbered(alloc: Global, count: usize) -> Result<Tables, GenFault> {
 #[test]
 fn sixty_one_texts(rt: HostRuntime) {
     let tables = tables_of_numbered(rt.alloc(), 61).expect(&rt, "tables");
-    assert!(rt; are_perfect(rt.alloc(), &tables) == Ok(true));
-    assert!(rt; are_checked(rt.alloc(), &tables) == Ok(true));
+    assert_that(&rt, are_perfect(rt.alloc(), &tables) == Ok(true));
+    assert_that(&rt, are_checked(rt.alloc(), &tables) == Ok(true));
 }
 
 /// Of these three texts the first two have the places 0 and 1 with no displacement, and the third 0, as 4294966296 is 3 * 1431655432.
@@ -379,7 +390,7 @@ fn small_displacements_come_first(rt: HostRuntime) {
         second: 10_000,
     };
     let found = find_pair(&members, tried, &[false, false, false]);
-    assert!(rt; found == Some((2, 0)));
+    assert_that(&rt, found == Some((2, 0)));
 }
 
 const FIVE: [&str; 5] = [
@@ -411,8 +422,8 @@ fn are_placed_at_once(alloc: Global, list: &[&str]) -> Result<bool, GenFault> {
 /// they aren't placed.
 #[test]
 fn greatest_bound(rt: HostRuntime) {
-    assert!(rt; are_placed_at_once(rt.alloc(), &THREE) == Ok(true));
-    assert!(rt; are_placed_at_once(rt.alloc(), &FIVE) == Ok(true));
+    assert_that(&rt, are_placed_at_once(rt.alloc(), &THREE) == Ok(true));
+    assert_that(&rt, are_placed_at_once(rt.alloc(), &FIVE) == Ok(true));
 }
 
 /// Whether the texts' places differ by an even number whatever the displacements.
@@ -443,7 +454,7 @@ fn are_hopeless(alloc: Global, texts: &[String]) -> bool {
 #[test]
 fn hopeless_search(rt: HostRuntime) {
     let texts = numbered(rt.alloc(), 100).expect(&rt, "texts");
-    assert!(rt; are_hopeless(rt.alloc(), &texts));
+    assert_that(&rt, are_hopeless(rt.alloc(), &texts));
 }
 
 /// Texts, and whether each is the table text of perfect tables.
@@ -521,7 +532,7 @@ const TABLE_TEXTS: [(&str, bool); 32] = [
 #[test]
 fn table_texts(rt: HostRuntime) {
     for (text, yes) in &TABLE_TEXTS {
-        assert!(rt; checked(rt.alloc(), text) == Ok(*yes), "of {text:?}");
+        assert_for(&rt, checked(rt.alloc(), text) == Ok(*yes), text);
     }
 }
 
@@ -556,10 +567,10 @@ fn spells_after(text: &str, word: &str, number: Option<u64>) -> bool {
 #[test]
 fn spelled_numbers(rt: HostRuntime) {
     for (text, number) in &NUMBERS {
-        assert!(rt; spells(text, *number), "of {text:?}");
+        assert_for(&rt, spells(text, *number), text);
     }
-    assert!(rt; spells_short("4294967295", Some(u32::MAX)));
-    assert!(rt; spells_short("4294967296", None));
-    assert!(rt; spells_after("key 5", "key ", Some(5)));
-    assert!(rt; spells_after("key5", "key ", None));
+    assert_that(&rt, spells_short("4294967295", Some(u32::MAX)));
+    assert_that(&rt, spells_short("4294967296", None));
+    assert_that(&rt, spells_after("key 5", "key ", Some(5)));
+    assert_that(&rt, spells_after("key5", "key ", None));
 }

@@ -2,6 +2,7 @@
 
 use crate::rows::{releases, reserves};
 use crate::texts::numbered_text;
+use crate::{assert_for, assert_that};
 use std::alloc::Global;
 use std::process::Abort;
 use string_cache_core::static_sets::EmptyStaticAtomSet;
@@ -98,7 +99,7 @@ fn has_memory(rt: &impl Abort, alloc: Global, texts: &str, bytes: u128) -> bool 
 #[test]
 fn memory_of_texts(rt: HostRuntime) {
     for (texts, bytes) in &TEXTS {
-        assert!(rt; has_memory(&rt, rt.alloc(), texts, *bytes), "of {texts:?}");
+        assert_for(&rt, has_memory(&rt, rt.alloc(), texts, *bytes), texts);
     }
 }
 
@@ -109,7 +110,7 @@ fn takes_as_made(rt: &impl Abort, alloc: Global, bytes: u128) -> bool {
 
 #[test]
 fn memory_of_a_table_as_it_is_made(rt: HostRuntime) {
-    assert!(rt; takes_as_made(&rt, rt.alloc(), 4096 * BUCKET));
+    assert_that(&rt, takes_as_made(&rt, rt.alloc(), 4096 * BUCKET));
 }
 
 /// Numbers of texts, and the groups that a table has for them: twice as many each time. Where it has room for 576, it doesn't ask for more till
@@ -154,10 +155,7 @@ fn keeps_groups(rt: &impl Abort, alloc: Global, number: usize, groups: u32) -> b
 #[test]
 fn memory_stays_when_texts_go(rt: HostRuntime) {
     for (number, groups) in &GROUPS {
-        assert!(rt;
-            keeps_groups(&rt, rt.alloc(), *number, *groups),
-            "with {number}"
-        );
+        assert_for(&rt, keeps_groups(&rt, rt.alloc(), *number, *groups), number);
     }
 }
 
@@ -183,7 +181,7 @@ fn has_room(rt: &impl Abort, alloc: Global, number: usize, groups: u32) -> bool 
 #[test]
 fn memory_of_room(rt: HostRuntime) {
     for (number, groups) in &GROUPS {
-        assert!(rt; has_room(&rt, rt.alloc(), *number, *groups), "for {number}");
+        assert_for(&rt, has_room(&rt, rt.alloc(), *number, *groups), number);
     }
 }
 
@@ -205,7 +203,7 @@ fn one_bucket_takes_with_room(rt: &impl Abort, alloc: Global, empty: u128) -> bo
 #[test]
 fn memory_of_room_beside_texts(rt: HostRuntime) {
     let empty = empty_bytes(1, 128);
-    assert!(rt; one_bucket_takes_with_room(&rt, rt.alloc(), empty));
+    assert_that(&rt, one_bucket_takes_with_room(&rt, rt.alloc(), empty));
 }
 
 /// What the names below are of.
@@ -247,5 +245,8 @@ fn names_keep_room(rt: &impl Abort, alloc: Global, number: usize, empty: u128) -
 
 #[test]
 fn memory_stays_when_names_go(rt: HostRuntime) {
-    assert!(rt; names_keep_room(&rt, rt.alloc(), 576, empty_bytes(1, 64)));
+    assert_that(
+        &rt,
+        names_keep_room(&rt, rt.alloc(), 576, empty_bytes(1, 64)),
+    );
 }

@@ -1,6 +1,7 @@
 //! Calls of a table as data: what each answers, and what the table tells between them. One function makes a table and follows the rows, so
 //! that a test has none of its own.
 
+use crate::assert_for;
 use std::alloc::Global;
 use std::process::Abort;
 use string_cache_core::Fault;
@@ -364,7 +365,7 @@ fn is_right<S: StaticAtomSet>(
 /// Each of these rows has to be right, one after another.
 fn follow<S: StaticAtomSet>(rt: &impl Abort, alloc: Global, table: &mut Table<S>, rows: &[Row]) {
     for (at, row) in rows.iter().enumerate() {
-        assert!(rt; is_right(rt, alloc, table, row), "at row {at}");
+        assert_for(rt, is_right(rt, alloc, table, row), &at);
     }
 }
 

@@ -1,6 +1,7 @@
 //! Lines that are of the grammar, and lines that aren't; scripts of many steps, and what a fault prints.
 
 use crate::texts::is_printed_as;
+use crate::{assert_for, assert_that};
 use replay_script::{ScriptFault, next_line, replay_text};
 use std::alloc::Global;
 
@@ -58,7 +59,7 @@ const GOOD: [(&str, &str); 16] = [
 #[test]
 fn good_lines(rt: HostRuntime) {
     for (script, output) in &GOOD {
-        assert!(rt; gives(rt.alloc(), script, output), "of {script:?}");
+        assert_for(&rt, gives(rt.alloc(), script, output), script);
     }
 }
 
@@ -151,7 +152,7 @@ Buckets 1";
 #[test]
 fn bad_lines(rt: HostRuntime) {
     for line in BAD_LINES.split('\n').skip(1) {
-        assert!(rt; is_bad_at(rt.alloc(), line, 1), "of {line:?}");
+        assert_for(&rt, is_bad_at(rt.alloc(), line, 1), &line);
     }
 }
 
@@ -181,7 +182,7 @@ const NAMED: [(&str, u64); 19] = [
 #[test]
 fn bad_line_is_named(rt: HostRuntime) {
     for (script, line) in &NAMED {
-        assert!(rt; is_bad_at(rt.alloc(), script, *line), "of {script:?}");
+        assert_for(&rt, is_bad_at(rt.alloc(), script, *line), script);
     }
 }
 
@@ -190,20 +191,26 @@ fn bad_line_is_named(rt: HostRuntime) {
 fn many_steps(rt: HostRuntime) {
     let script = "1 leave\n".repeat(rt.alloc(), 5000).expect(&rt, "room");
     let lines = "no\n".repeat(rt.alloc(), 5000).expect(&rt, "room");
-    assert!(rt; gives(rt.alloc(), &script, &lines));
+    assert_that(&rt, gives(rt.alloc(), &script, &lines));
 }
 
 #[test]
 fn lines_one_by_one(rt: HostRuntime) {
-    assert!(rt; next_line("1 link\n1 leave") == Some(("1 link", "1 leave")));
-    assert!(rt; next_line("1 leave\n") == Some(("1 leave", "")));
-    assert!(rt; next_line("\n1 leave") == Some(("", "1 leave")));
-    assert!(rt; next_line("").is_none());
+    assert_that(
+        &rt,
+        next_line("1 link\n1 leave") == Some(("1 link", "1 leave")),
+    );
+    assert_that(&rt, next_line("1 leave\n") == Some(("1 leave", "")));
+    assert_that(&rt, next_line("\n1 leave") == Some(("", "1 leave")));
+    assert_that(&rt, next_line("").is_none());
 }
 
 #[test]
 fn printed_faults(rt: HostRuntime) {
     let bad = ScriptFault::NotAStep(12);
-    assert!(rt; is_printed_as(rt.alloc(), &bad, "line 12: not a step"));
-    assert!(rt; is_printed_as(rt.alloc(), &ScriptFault::Memory, "no memory"));
+    assert_that(&rt, is_printed_as(rt.alloc(), &bad, "line 12: not a step"));
+    assert_that(
+        &rt,
+        is_printed_as(rt.alloc(), &ScriptFault::Memory, "no memory"),
+    );
 }

@@ -3,6 +3,7 @@
 mod merges;
 mod parties;
 
+use crate::{assert_for, assert_that};
 use StepReply::{
     Added, Cloned, Dying, Freed, Full, Given, Kept, Left, Linked, Memory, No, Spent, Taken,
     Unlinked,
@@ -150,20 +151,17 @@ fn check_in(
 fn check_steps(rt: &impl Abort, alloc: Global, world: &mut Plain, rows: &[Row], held: &[u64]) {
     for (party, step, reply) in rows {
         let outcome = replies(alloc, world, *party, *step, *reply);
-        assert!(rt;
-            outcome == Ok(true),
-            "to party {party} in place of {reply:?}"
-        );
+        assert_for(rt, outcome == Ok(true), &(party, reply));
     }
-    assert!(rt; are_held(world, held));
+    assert_that(rt, are_held(world, held));
 }
 
 fn check_run(rt: &impl Abort, alloc: Global, world: &mut Plain, rows: &[Row], held: &[u64]) {
     let mut given = Vec::new(alloc);
     let mut wanted = Vec::new(alloc);
     run_rows(alloc, world, rows, &mut given, &mut wanted).expect(rt, "replies");
-    assert!(rt; given == wanted);
-    assert!(rt; are_held(world, held));
+    assert_that(rt, given == wanted);
+    assert_that(rt, are_held(world, held));
 }
 
 #[test]
@@ -408,6 +406,6 @@ fn come_of_one_run(alloc: Global, world: &mut Plain) -> Result<bool, Fault> {
 #[test]
 fn twenty_thousand_steps_in_one_run(rt: HostRuntime) {
     let mut world = new_world(&rt, rt.alloc());
-    assert!(rt; come_of_one_run(rt.alloc(), &mut world) == Ok(true));
-    assert!(rt; are_held(&world, &[1]));
+    assert_that(&rt, come_of_one_run(rt.alloc(), &mut world) == Ok(true));
+    assert_that(&rt, are_held(&world, &[1]));
 }

@@ -5,6 +5,7 @@ use crate::rows::{
     is_first, keeps,
 };
 use crate::texts::numbered_text;
+use crate::{assert_for, assert_that};
 use std::alloc::Global;
 use std::process::Abort;
 use string_cache_core::Fault;
@@ -154,7 +155,10 @@ fn is_kept_in_a_new_table(rt: &impl Abort, alloc: Global, text: &str, bytes: u12
 #[test]
 fn a_large_text_is_interned(rt: HostRuntime) {
     let text = large_text(&rt, rt.alloc());
-    assert!(rt; is_kept_in_a_new_table(&rt, rt.alloc(), &text, 2_621_440));
+    assert_that(
+        &rt,
+        is_kept_in_a_new_table(&rt, rt.alloc(), &text, 2_621_440),
+    );
 }
 
 static COME_AND_GO: [Row; 1] = [Row::ComeAndGo("interned", FIRST, 2_000)];
@@ -222,7 +226,7 @@ fn have_one_ticket(rt: &impl Abort, alloc: Global, buckets: Buckets) -> bool {
 fn a_bucket_gives_no_more_tickets_than_its_limit(rt: HostRuntime) {
     for bits in 0..=14 {
         let buckets = buckets_of(&rt, bits);
-        assert!(rt; have_one_ticket(&rt, rt.alloc(), buckets), "of {bits} bits");
+        assert_for(&rt, have_one_ticket(&rt, rt.alloc(), buckets), &bits);
     }
 }
 

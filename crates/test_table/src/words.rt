@@ -1,5 +1,6 @@
 //! What a table answers of words and of texts, and its holders by words, with values from outside.
 
+use crate::assert_that;
 use crate::rows::{
     FIRST, Plain, Row, SECOND, Told, check, check_plain, check_with, check_with_room, finds,
     has_holders, is_text_of, keeps, lists, releases,
@@ -259,7 +260,10 @@ fn are_functions(rt: &impl Abort, alloc: Global) -> bool {
 
 #[test]
 fn names_are_of_kinds(rt: HostRuntime) {
-    assert!(rt; are_files(&rt, rt.alloc()) && are_functions(&rt, rt.alloc()));
+    assert_that(
+        &rt,
+        are_files(&rt, rt.alloc()) && are_functions(&rt, rt.alloc()),
+    );
 }
 
 /// A text of 2,000,000 bytes, two of each letter.
@@ -301,7 +305,7 @@ fn is_looked_up_in_a_new_table(rt: &impl Abort, alloc: Global, text: &str) -> bo
 #[test]
 fn a_large_text_is_looked_up(rt: HostRuntime) {
     let text = large_text(&rt, rt.alloc());
-    assert!(rt; is_looked_up_in_a_new_table(&rt, rt.alloc(), &text));
+    assert_that(&rt, is_looked_up_in_a_new_table(&rt, rt.alloc(), &text));
 }
 
 /// What is printed of a word's text in a width of six, of the same in quotes, and of its name.
@@ -328,7 +332,7 @@ fn print(rt: &impl Abort, alloc: Global) -> bool {
 
 #[test]
 fn names_print(rt: HostRuntime) {
-    assert!(rt; print(&rt, rt.alloc()));
+    assert_that(&rt, print(&rt, rt.alloc()));
 }
 
 /// Whether the first name stands before the second.
@@ -352,7 +356,7 @@ fn order_and_hash(rt: &impl Abort, alloc: Global) -> bool {
 
 #[test]
 fn names_order_and_hash_as_words(rt: HostRuntime) {
-    assert!(rt; order_and_hash(&rt, rt.alloc()));
+    assert_that(&rt, order_and_hash(&rt, rt.alloc()));
 }
 
 static ROOM: [Row; 5] = [

@@ -1,5 +1,6 @@
 //! Tables of a list of texts, and checks of table texts: a call that is made again gives what it gives the first time.
 
+use crate::assert_that;
 use std::alloc::Global;
 use std::process::Abort;
 use table_generator::check::check_tables;
@@ -30,8 +31,8 @@ fn tables_are_made(rt: HostRuntime) {
     let tables = at_last(&rt, || generate(alloc, list, 1, 64)).expect(&rt, "an answer");
     let again = generate(alloc, list, 1, 64).expect(&rt, "tables");
     let text = printed(&rt, alloc, tables);
-    assert!(rt; text == printed(&rt, alloc, again));
-    assert!(rt; check_tables(alloc, &text).expect(&rt, "an answer"));
+    assert_that(&rt, text == printed(&rt, alloc, again));
+    assert_that(&rt, check_tables(alloc, &text).expect(&rt, "an answer"));
 }
 
 /// Two texts are equal: that is told whatever request is refused.
@@ -49,7 +50,7 @@ const DOUBLED: [&str; 7] = [
 fn doubles_are_told(rt: HostRuntime) {
     let alloc = rt.alloc();
     let answer = at_last(&rt, || generate(alloc, DOUBLED.as_slice(), 1, 64));
-    assert!(rt; answer.err() == Some(GenFault::Doubled));
+    assert_that(&rt, answer.err() == Some(GenFault::Doubled));
 }
 
 /// By OpenSSL's SipHash the places of the two among two are 0 and 1.
@@ -58,5 +59,5 @@ fn table_text_is_checked(rt: HostRuntime) {
     let alloc = rt.alloc();
     let text = "key 0\ndisp 0 0\natom ed02e6f16c03c165 sentence\natom 556a6dba06a47210 interned\n";
     let is_perfect = at_last(&rt, || check_tables(alloc, text)).expect(&rt, "an answer");
-    assert!(rt; is_perfect);
+    assert_that(&rt, is_perfect);
 }

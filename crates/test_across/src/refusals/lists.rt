@@ -1,5 +1,6 @@
 //! Lists of atoms: a place that is refused memory leaves the list as it was, and is had where it is asked for again.
 
+use crate::assert_that;
 use crate::begun::new_set;
 use std::io::Print;
 use std::process::Abort;
@@ -60,9 +61,12 @@ fn list_of_one<'s, R: Wait + Abort>(
 fn text_is_pushed(rt: HostRuntime) {
     let set = new_set(&rt, rt.alloc());
     let mut list = list_of_one(&rt, &set, "ab");
-    assert!(rt; is_pushed_at_last(&rt, &mut list, 1, ["ab", "interned"]));
+    assert_that(
+        &rt,
+        is_pushed_at_last(&rt, &mut list, 1, ["ab", "interned"]),
+    );
     drop(list);
-    assert!(rt; links(&rt, &set, 0));
+    assert_that(&rt, links(&rt, &set, 0));
 }
 
 /// A list of four texts, whose fifth place is the first past the room that it has.
@@ -79,7 +83,10 @@ fn list_of_four<'s, R: Wait + Abort>(rt: &R, set: &'s Set<EmptyStaticAtomSet>) -
 fn place_is_pushed(rt: HostRuntime) {
     let set = new_set(&rt, rt.alloc());
     let mut list = list_of_four(&rt, &set);
-    assert!(rt; is_pushed_at_last(&rt, &mut list, 4, ["ab", "interned"]));
+    assert_that(
+        &rt,
+        is_pushed_at_last(&rt, &mut list, 4, ["ab", "interned"]),
+    );
     drop(list);
-    assert!(rt; links(&rt, &set, 0));
+    assert_that(&rt, links(&rt, &set, 0));
 }

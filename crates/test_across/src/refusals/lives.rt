@@ -1,5 +1,6 @@
 //! The life of a text from its first atom to its last, in a set of one bucket whose texts have two holders at most.
 
+use crate::assert_that;
 use std::alloc::Global;
 use std::io::Print;
 use std::process::Abort;
@@ -147,7 +148,7 @@ fn lives<R: Wait>(rt: &R, alloc: Global, limits: Limits, text: &str) -> Result<b
 fn check_life<R: Wait + Print + Abort>(rt: &R, alloc: Global, text: &str) {
     let limits = Limits::new(2, 9).expect(rt, "limits");
     let is_right = at_last(rt, || lives(rt, alloc, limits, text)).expect(rt, "an answer");
-    assert!(rt; is_right);
+    assert_that(rt, is_right);
 }
 
 /// A text of 2,100,000 bytes beyond ASCII.

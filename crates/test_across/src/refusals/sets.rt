@@ -1,5 +1,6 @@
 //! Sets and their atoms: a call that is made again gives the ticket that it would have given the first time.
 
+use crate::assert_that;
 use crate::begun::{intern, intern_all, new_set};
 use serde_json::Value;
 use std::alloc::Global;
@@ -26,9 +27,12 @@ fn has_greatest_limits(set: &Set<EmptyStaticAtomSet>) -> bool {
 fn set_is_made(rt: HostRuntime) {
     let alloc = rt.alloc();
     let set: Set<EmptyStaticAtomSet> = at_last(&rt, || Set::new(alloc)).expect(&rt, "an answer");
-    assert!(rt; has_greatest_limits(&set));
-    assert!(rt; links(&rt, &set, 0));
-    assert!(rt; is_of(&intern(&rt, &set, "interned"), FIRST, "interned"));
+    assert_that(&rt, has_greatest_limits(&set));
+    assert_that(&rt, links(&rt, &set, 0));
+    assert_that(
+        &rt,
+        is_of(&intern(&rt, &set, "interned"), FIRST, "interned"),
+    );
 }
 
 /// The atom of a text. A call that is refused memory is made again.
@@ -77,7 +81,7 @@ fn finds_room<R: Wait + Print + Abort>(
 fn text_finds_room_in_a_node(rt: HostRuntime) {
     let set = set_of_one_bucket(&rt, rt.alloc());
     let others = behind_the_oldest(&rt, &set);
-    assert!(rt; finds_room(&rt, &set, &others));
+    assert_that(&rt, finds_room(&rt, &set, &others));
 }
 
 fn owned<R: Abort>(rt: &R, alloc: Global, text: &str) -> String {
@@ -147,7 +151,10 @@ fn long_text_is_put_into_upper_case(rt: HostRuntime) {
     let set = new_set(&rt, rt.alloc());
     let text = "a".repeat(rt.alloc(), 65).expect(&rt, "a text");
     let wanted = "A".repeat(rt.alloc(), 65).expect(&rt, "a text");
-    assert!(rt; is_put_into_upper_case(&rt, &set, &text, 0x1_2680, &wanted));
+    assert_that(
+        &rt,
+        is_put_into_upper_case(&rt, &set, &text, 0x1_2680, &wanted),
+    );
 }
 
 /// The JSON value of an atom. A call that is refused memory is made again.
@@ -169,7 +176,10 @@ fn has_json<R: Print + Abort>(rt: &R, alloc: Global, atom: &DefaultAtom<'_>, tex
 #[test]
 fn json_is_made(rt: HostRuntime) {
     let set = new_set(&rt, rt.alloc());
-    assert!(rt; has_json(&rt, rt.alloc(), &intern(&rt, &set, "interned"), "interned"));
+    assert_that(
+        &rt,
+        has_json(&rt, rt.alloc(), &intern(&rt, &set, "interned"), "interned"),
+    );
 }
 
 /// The JSON value of a text, from a set of its own.
@@ -227,7 +237,7 @@ fn is_first<R: Wait>(rt: &R, set: &Set<EmptyStaticAtomSet>, atom: &DefaultAtom<'
 fn check_first<R: Wait + Print + Abort>(rt: &R, alloc: Global, form: Form) {
     let set = new_set(rt, alloc);
     let atom = atom_at_last(rt, alloc, &set, form, "interned").expect(rt, "an answer");
-    assert!(rt; is_first(rt, &set, &atom));
+    assert_that(rt, is_first(rt, &set, &atom));
 }
 
 #[test]

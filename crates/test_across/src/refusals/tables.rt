@@ -1,5 +1,6 @@
 //! Tables and worlds of steps.
 
+use crate::assert_that;
 use crate::begun::{new_table, word_in};
 use std::alloc::Global;
 use std::io::Print;
@@ -43,7 +44,7 @@ fn word_at_last<R: Print + Abort>(
     let is_refused = answer == Err(Fault::Memory);
     finish(rt, midway(is_refused));
     if is_refused {
-        assert!(rt; is_empty(table));
+        assert_that(rt, is_empty(table));
         return word_in(table, "interned");
     }
     answer
@@ -93,7 +94,7 @@ fn fill<R: Abort>(rt: &R, alloc: Global, table: &mut Table<EmptyStaticAtomSet>, 
     for n in 0..number {
         intern_number(rt, alloc, table, n);
     }
-    assert!(rt; table.entries() == number as usize);
+    assert_that(rt, table.entries() == number as usize);
 }
 
 /// The word of "interned", which asks for no more than the text's own bytes.
@@ -163,7 +164,7 @@ fn check<R: Print + Abort>(
     question: Question,
 ) {
     let mut table = made.expect(rt, "a table");
-    assert!(rt; passes(rt, alloc, &mut table, question));
+    assert_that(rt, passes(rt, alloc, &mut table, question));
 }
 
 #[test]
@@ -300,11 +301,11 @@ fn replies_in<R: Print + Abort>(
     match ended {
         End::Given => answer,
         End::Refused => {
-            assert!(rt; is_empty(table));
+            assert_that(rt, is_empty(table));
             run(table, calls)
         }
         End::RefusedMidway => {
-            assert!(rt; answer?.len() == calls.len());
+            assert_that(rt, answer?.len() == calls.len());
             run_in_new_table(rt, alloc, calls)
         }
     }
@@ -324,7 +325,7 @@ fn replies_at_last<R: Print + Abort>(
 fn calls_are_run(rt: HostRuntime) {
     let calls = calls(&rt, rt.alloc());
     let replies = replies_at_last(&rt, rt.alloc(), &calls).expect(&rt, "replies");
-    assert!(rt; replies.as_slice() == REPLIES.as_slice());
+    assert_that(&rt, replies.as_slice() == REPLIES.as_slice());
 }
 
 /// Whether a world has no entry, and a party takes a bucket for "interned" in it.
@@ -341,7 +342,7 @@ fn world_is_made(rt: HostRuntime) {
         &rt,
         "an answer",
     );
-    assert!(rt; is_new_world(&rt, alloc, &mut world));
+    assert_that(&rt, is_new_world(&rt, alloc, &mut world));
 }
 
 /// A step that takes a bucket for "interned".
@@ -406,7 +407,7 @@ fn go_on_at_last<R: Print + Abort>(
     let is_refused = answer == Err(Fault::Memory);
     finish(rt, midway(is_refused));
     if is_refused {
-        assert!(rt; STEP_REPLIES.starts_with(replies.as_slice()));
+        assert_that(rt, STEP_REPLIES.starts_with(replies.as_slice()));
         let rest = steps
             .get(replies.len()..)
             .expect(rt, "the steps that are left");
@@ -435,5 +436,5 @@ fn steps_are_run(rt: HostRuntime) {
     let mut world = World::<EmptyStaticAtomSet>::new(alloc, Limits::greatest()).expect(
         &rt, "a world",
     );
-    assert!(rt; are_made(&rt, alloc, &mut world, &steps));
+    assert_that(&rt, are_made(&rt, alloc, &mut world, &steps));
 }

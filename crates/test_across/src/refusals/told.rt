@@ -1,5 +1,6 @@
 //! Calls whose bytes a set tells: `gate/refused.py` compares what each of these tests prints with what the call asked for.
 
+use crate::assert_that;
 use crate::begun::new_set;
 use std::alloc::Global;
 use std::io::Print;
@@ -47,7 +48,7 @@ fn intern<R: Wait + Print + Abort>(rt: &R, set: &DefaultSet, text: &str) {
     let atom = interned(rt, set, text);
     finish(rt, End::Given);
     tell(rt, set.memory(rt).saturating_sub(before));
-    assert!(rt; has_text(&atom.expect(rt, "an atom"), text));
+    assert_that(rt, has_text(&atom.expect(rt, "an atom"), text));
 }
 
 #[test]
@@ -96,5 +97,8 @@ fn list_of_four_places(rt: HostRuntime) {
     let set = new_set(&rt, rt.alloc());
     let atom = interned(&rt, &set, "interned").expect(&rt, "an atom");
     let mut list = AtomList::new(&set);
-    assert!(rt; has_four_places(&rt, &mut list) && has_text(&atom, "interned"));
+    assert_that(
+        &rt,
+        has_four_places(&rt, &mut list) && has_text(&atom, "interned"),
+    );
 }

@@ -1,5 +1,6 @@
 //! Calls that ask for no memory: `gate/refused.py` refuses every request between the two lines, and wants that there is none.
 
+use crate::assert_that;
 use crate::begun::{intern, intern_all, new_set, new_table, word_in};
 use serde_json::Value;
 use std::alloc::Global;
@@ -49,7 +50,10 @@ fn check_word<Static: StaticTables, R: Wait + Print + Abort>(
     word: u64,
 ) {
     let set: Set<Static> = new_set(rt, alloc);
-    assert!(rt; are_interned(rt, &set, &mut new_table(rt, alloc), text, word));
+    assert_that(
+        rt,
+        are_interned(rt, &set, &mut new_table(rt, alloc), text, word),
+    );
 }
 
 /// The word of "abcdefg".
@@ -101,7 +105,7 @@ fn json_is_read(rt: HostRuntime) {
     let set: Set<One> = new_set(&rt, rt.alloc());
     let short = value_of(&rt, &set, "abcdefg");
     let long = value_of(&rt, &set, "sentence");
-    assert!(rt; words_read(&rt, &set, &short, &long) == (SHORT, 2));
+    assert_that(&rt, words_read(&rt, &set, &short, &long) == (SHORT, 2));
 }
 
 /// The word of the atom in small letters.
@@ -116,7 +120,7 @@ fn lower_case_is_a_static_text(rt: HostRuntime) {
     begin(&rt);
     let word = lower_word(&rt, &set, &upper);
     finish(&rt, End::Given);
-    assert!(rt; word == 2);
+    assert_that(&rt, word == 2);
 }
 
 /// Whether clones of the atom of "interned", and the one that is found again, are equal to it. They end here.
@@ -154,7 +158,10 @@ fn leaves_alone<R: Wait + Print + Abort>(
 fn atoms_are_cloned_compared_and_dropped(rt: HostRuntime) {
     let set: Set<EmptyStaticAtomSet> = new_set(&rt, rt.alloc());
     let other = intern(&rt, &set, "tokenised");
-    assert!(rt; leaves_alone(&rt, &set, intern(&rt, &set, "interned"), &other));
+    assert_that(
+        &rt,
+        leaves_alone(&rt, &set, intern(&rt, &set, "interned"), &other),
+    );
 }
 
 /// How many entries stay linked where the set is swept.
@@ -172,7 +179,7 @@ fn sets_are_swept(rt: HostRuntime) {
     drop(atom);
     let left = left_by_sweep(&rt, &set);
     finish(&rt, End::Given);
-    assert!(rt; (held, left) == (1, 0));
+    assert_that(&rt, (held, left) == (1, 0));
 }
 
 /// How many holders all entries have.
@@ -197,7 +204,7 @@ fn is_visited<R: Wait + Print>(
 #[test]
 fn entries_are_visited(rt: HostRuntime) {
     let set = new_set(&rt, rt.alloc());
-    assert!(rt; is_visited(&rt, &set, &intern(&rt, &set, "interned")));
+    assert_that(&rt, is_visited(&rt, &set, &intern(&rt, &set, "interned")));
 }
 
 /// A set whose one entry died under the lock of its bucket, which is that of "interned", and is still linked.
@@ -218,7 +225,7 @@ fn set_ends_with_an_entry(rt: HostRuntime) {
     begin(&rt);
     drop(set);
     finish(&rt, End::Given);
-    assert!(rt; linked == 1);
+    assert_that(&rt, linked == 1);
 }
 
 /// A set of one bucket whose six entries, which lie in two nodes, died under its lock.
@@ -247,7 +254,7 @@ fn set_ends_with_two_nodes(rt: HostRuntime) {
     begin(&rt);
     drop(set);
     finish(&rt, End::Given);
-    assert!(rt; linked == 6);
+    assert_that(&rt, linked == 6);
 }
 
 /// Whether the text is found.
@@ -287,7 +294,7 @@ fn texts_are_looked_up(rt: HostRuntime) {
     begin(&rt);
     let are_right = are_looked_up(&rt, &set, &held);
     finish(&rt, End::Given);
-    assert!(rt; are_right);
+    assert_that(&rt, are_right);
 }
 
 /// Spends the one serial of the bucket of "interned".
@@ -329,7 +336,10 @@ fn tickets_of_a_set_are_spent(rt: HostRuntime) {
     let limits = Limits::new(9, 1).expect(&rt, "limits");
     let set: Set<EmptyStaticAtomSet> = Set::with_limits(rt.alloc(), limits).expect(&rt, "a set");
     let text = String::from_str(rt.alloc(), "interned").expect(&rt, "a text");
-    assert!(rt; is_spent(&rt, &set, text, &value_of(&rt, &set, "interned")));
+    assert_that(
+        &rt,
+        is_spent(&rt, &set, text, &value_of(&rt, &set, "interned")),
+    );
 }
 
 /// A table whose texts may have so many holders, and its buckets so many serials.
@@ -358,7 +368,7 @@ fn refused_once_spent<R: Print + Abort>(
 #[test]
 fn tickets_of_a_table_are_spent(rt: HostRuntime) {
     let refused = refused_once_spent(&rt, &mut limited_table(&rt, rt.alloc(), 9, 1));
-    assert!(rt; refused == Some(Fault::TicketsSpent));
+    assert_that(&rt, refused == Some(Fault::TicketsSpent));
 }
 
 /// Whether the table lends the text "interned" of this word.
@@ -405,7 +415,7 @@ fn is_looked_into<R: Print + Abort>(rt: &R, table: &mut Table<One>) -> bool {
 
 #[test]
 fn table_is_looked_into(rt: HostRuntime) {
-    assert!(rt; is_looked_into(&rt, &mut new_table(&rt, rt.alloc())));
+    assert_that(&rt, is_looked_into(&rt, &mut new_table(&rt, rt.alloc())));
 }
 
 /// A list of atoms without static texts.
@@ -437,5 +447,5 @@ fn list_is_read_and_cleared(rt: HostRuntime) {
     begin(&rt);
     let are_right = is_read_and_cleared(&rt, &mut list) && new_list_is_empty(&set);
     finish(&rt, End::Given);
-    assert!(rt; are_right && links(&rt, &set, 0));
+    assert_that(&rt, are_right && links(&rt, &set, 0));
 }

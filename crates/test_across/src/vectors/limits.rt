@@ -1,5 +1,6 @@
 //! Sets with small limits, and no other thread.
 
+use crate::assert_that;
 use crate::begun::intern;
 use std::alloc::Global;
 use std::process::Abort;
@@ -65,9 +66,9 @@ fn has_one_holder<R: Wait + Abort>(rt: &R, set: &Set<EmptyStaticAtomSet>) -> boo
 #[test]
 fn one_holder_and_one_serial(rt: HostRuntime) {
     let set = limited(&rt, rt.alloc(), 1, 1);
-    assert!(rt; has_one_holder(&rt, &set));
-    assert!(rt; refused(&rt, &set) == Some(Fault::TicketsSpent));
-    assert!(rt; is_of(&intern(&rt, &set, "abc"), 0x6362_6131, "abc"));
+    assert_that(&rt, has_one_holder(&rt, &set));
+    assert_that(&rt, refused(&rt, &set) == Some(Fault::TicketsSpent));
+    assert_that(&rt, is_of(&intern(&rt, &set, "abc"), 0x6362_6131, "abc"));
 }
 
 /// Whether "interned" has this word.
@@ -85,9 +86,9 @@ fn has_two_holders<R: Wait + Abort>(rt: &R, set: &Set<EmptyStaticAtomSet>) -> bo
 #[test]
 fn two_holders_and_two_serials(rt: HostRuntime) {
     let set = limited(&rt, rt.alloc(), 2, 2);
-    assert!(rt; has_two_holders(&rt, &set));
-    assert!(rt; is_interned(&rt, &set, FIRST + TICKET_UNIT));
-    assert!(rt; refused(&rt, &set) == Some(Fault::TicketsSpent));
+    assert_that(&rt, has_two_holders(&rt, &set));
+    assert_that(&rt, is_interned(&rt, &set, FIRST + TICKET_UNIT));
+    assert_that(&rt, refused(&rt, &set) == Some(Fault::TicketsSpent));
 }
 
 /// Whether a clone of the atom has its word.
@@ -126,8 +127,8 @@ fn is_copied<R: Wait + Abort>(rt: &R, first: DefaultAtom<'_>) -> bool {
 fn holders_come_and_go(rt: HostRuntime) {
     let set = limited(&rt, rt.alloc(), 2, 9);
     let first = interned(&rt, &set, FIRST).expect(&rt, "an atom");
-    assert!(rt; is_cloned_alone(&rt, &set, &first));
-    assert!(rt; is_copied(&rt, first));
-    assert!(rt; links(&rt, &set, 0));
-    assert!(rt; is_interned(&rt, &set, FIRST + TICKET_UNIT));
+    assert_that(&rt, is_cloned_alone(&rt, &set, &first));
+    assert_that(&rt, is_copied(&rt, first));
+    assert_that(&rt, links(&rt, &set, 0));
+    assert_that(&rt, is_interned(&rt, &set, FIRST + TICKET_UNIT));
 }

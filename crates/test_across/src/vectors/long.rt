@@ -1,5 +1,6 @@
 //! Texts of hundreds of kilobytes, and of two megabytes beyond ASCII. OpenSSL's SipHash tells their hashes.
 
+use crate::assert_that;
 use crate::begun::{intern, new_set, new_table};
 use serde_json::Value;
 use std::alloc::{AllocError, Global};
@@ -34,7 +35,10 @@ fn quarter_of_a_megabyte(rt: HostRuntime) {
     let set = new_set(&rt, rt.alloc());
     let text = "a".repeat(rt.alloc(), 262_144).expect(&rt, "a text");
     let atom = intern(&rt, &set, &text);
-    assert!(rt; is_hashed(&atom, 0x1_23ac, &text, 0x4e63_c3f9_5272_f8eb));
+    assert_that(
+        &rt,
+        is_hashed(&atom, 0x1_23ac, &text, 0x4e63_c3f9_5272_f8eb),
+    );
 }
 
 /// Whether the atom of the owned text in a set of its own is equal to this one.
@@ -59,9 +63,12 @@ fn long_text_is_an_atom(rt: HostRuntime) {
     let text = long_text(rt.alloc()).expect(&rt, "a text");
     let set = new_set(&rt, rt.alloc());
     let atom = intern(&rt, &set, &text);
-    assert!(rt; is_hashed(&atom, LONG_TICKET, &text, 0xcb0c_ec29_045a_244d));
-    assert!(rt; prints_itself(&rt, rt.alloc(), &atom));
-    assert!(rt; is_owned_again(&rt, rt.alloc(), &atom, text));
+    assert_that(
+        &rt,
+        is_hashed(&atom, LONG_TICKET, &text, 0xcb0c_ec29_045a_244d),
+    );
+    assert_that(&rt, prints_itself(&rt, rt.alloc(), &atom));
+    assert_that(&rt, is_owned_again(&rt, rt.alloc(), &atom, text));
 }
 
 /// Whether the atom in capitals is another one, and has the wanted text.
@@ -80,7 +87,10 @@ fn long_text_changes_case(rt: HostRuntime) {
     let text = long_text(rt.alloc()).expect(&rt, "a text");
     let wanted = upper_text(rt.alloc()).expect(&rt, "a text");
     let set = new_set(&rt, rt.alloc());
-    assert!(rt; changes_case(&rt, &set, &intern(&rt, &set, &text), &wanted));
+    assert_that(
+        &rt,
+        changes_case(&rt, &set, &intern(&rt, &set, &text), &wanted),
+    );
 }
 
 /// Whether the atom of the JSON value in a set of its own has the long text's ticket and is equal to this one.
@@ -100,7 +110,10 @@ fn is_sent<R: Wait + Abort>(rt: &R, alloc: Global, atom: &DefaultAtom<'_>, text:
 fn long_text_is_sent_as_json(rt: HostRuntime) {
     let text = long_text(rt.alloc()).expect(&rt, "a text");
     let set = new_set(&rt, rt.alloc());
-    assert!(rt; is_sent(&rt, rt.alloc(), &intern(&rt, &set, &text), &text));
+    assert_that(
+        &rt,
+        is_sent(&rt, rt.alloc(), &intern(&rt, &set, &text), &text),
+    );
 }
 
 /// Whether the table holds so many texts, of so many bytes.
@@ -124,5 +137,8 @@ fn comes_and_goes<R: Abort>(rt: &R, table: &mut Table<EmptyStaticAtomSet>, text:
 #[test]
 fn long_text_lies_in_a_table(rt: HostRuntime) {
     let text = long_text(rt.alloc()).expect(&rt, "a text");
-    assert!(rt; comes_and_goes(&rt, &mut new_table(&rt, rt.alloc()), &text));
+    assert_that(
+        &rt,
+        comes_and_goes(&rt, &mut new_table(&rt, rt.alloc()), &text),
+    );
 }

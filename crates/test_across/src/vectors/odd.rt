@@ -1,6 +1,7 @@
 //! Words that are odd, or of nothing, and tables that are odd.
 
 use crate::begun::{intern, new_set, new_table};
+use crate::{assert_for, assert_that};
 use std::alloc::Global;
 use string_cache::dynamic_set::Set;
 use string_cache::static_sets::{PhfStrSet, StaticAtomSet};
@@ -41,10 +42,10 @@ fn is_not_packed(n: u64, len: u8) -> bool {
 #[test]
 fn words_of_nothing(rt: HostRuntime) {
     for word in &NO_WORDS {
-        assert!(rt; is_no_word(*word), "of {word:#x}");
+        assert_for(&rt, is_no_word(*word), word);
     }
     for (n, len) in &NOT_PACKED {
-        assert!(rt; is_not_packed(*n, *len), "of {n:#x}");
+        assert_for(&rt, is_not_packed(*n, *len), n);
     }
 }
 
@@ -66,12 +67,18 @@ fn is_ticket(word: u64, serial: u64, bucket: u16) -> bool {
 
 #[test]
 fn words_of_each_form(rt: HostRuntime) {
-    assert!(rt; is_inline(0x1, "") && is_inline(0x71, "\0\0\0\0\0\0\0"));
-    assert!(rt; is_static(0x2, 0));
-    assert!(rt; is_ticket(0x1_0000, 1, 0) && is_ticket(0x1_fffc, 1, 16383));
-    assert!(rt; ticket_word(1, 4095) == 0x1_3ffc);
-    assert!(rt; ticket_word(1, 16383) == 0x1_fffc);
-    assert!(rt; ticket_word((1 << 48) - 1, 16383) == 0xffff_ffff_ffff_fffc);
+    assert_that(&rt, is_inline(0x1, "") && is_inline(0x71, "\0\0\0\0\0\0\0"));
+    assert_that(&rt, is_static(0x2, 0));
+    assert_that(
+        &rt,
+        is_ticket(0x1_0000, 1, 0) && is_ticket(0x1_fffc, 1, 16383),
+    );
+    assert_that(&rt, ticket_word(1, 4095) == 0x1_3ffc);
+    assert_that(&rt, ticket_word(1, 16383) == 0x1_fffc);
+    assert_that(
+        &rt,
+        ticket_word((1 << 48) - 1, 16383) == 0xffff_ffff_ffff_fffc,
+    );
 }
 
 /// Holders and serials that limits can't have.
@@ -96,13 +103,14 @@ fn made_of(holders: u64, serials: u64) -> Option<(u64, u64)> {
 #[test]
 fn limits_in_range(rt: HostRuntime) {
     for (holders, serials) in &OUT_OF_RANGE {
-        assert!(rt;
+        assert_for(
+            &rt,
             made_of(*holders, *serials).is_none(),
-            "of {holders}, {serials}"
+            &(holders, serials),
         );
     }
     for pair in &IN_RANGE {
-        assert!(rt; made_of(pair.0, pair.1) == Some(*pair), "of {pair:?}");
+        assert_for(&rt, made_of(pair.0, pair.1) == Some(*pair), pair);
     }
 }
 
@@ -130,11 +138,17 @@ fn is_perfect<S: StaticAtomSet>() -> bool {
 fn checked_tables(rt: HostRuntime) {
     let one = One::get();
     let (disps, atoms, hashes) = (one.disps, one.atoms, one.hashes);
-    assert!(rt; !check(disps, atoms, &[]));
-    assert!(rt; !check(disps, &[], hashes) && !check(&[], atoms, hashes));
-    assert!(rt; check(disps, atoms, &[0]));
-    assert!(rt; check(&[(4_294_967_295, 4_294_967_295)], atoms, hashes));
-    assert!(rt; is_perfect::<One>() && is_perfect::<Short>() && !is_perfect::<Twice>());
+    assert_that(&rt, !check(disps, atoms, &[]));
+    assert_that(
+        &rt,
+        !check(disps, &[], hashes) && !check(&[], atoms, hashes),
+    );
+    assert_that(&rt, check(disps, atoms, &[0]));
+    assert_that(&rt, check(&[(4_294_967_295, 4_294_967_295)], atoms, hashes));
+    assert_that(
+        &rt,
+        is_perfect::<One>() && is_perfect::<Short>() && !is_perfect::<Twice>(),
+    );
 }
 
 /// Whether the static text at this place has this atom.
@@ -163,15 +177,18 @@ fn is_at_first<S: StaticAtomSet>(atom: &Atom<'_, S>) -> bool {
 #[test]
 fn text_listed_twice(rt: HostRuntime) {
     let set: Set<Twice> = new_set(&rt, rt.alloc());
-    assert!(rt; is_at_first(&intern(&rt, &set, "sentence")));
-    assert!(rt; is_no_place::<Twice>(1));
+    assert_that(&rt, is_at_first(&intern(&rt, &set, "sentence")));
+    assert_that(&rt, is_no_place::<Twice>(1));
 }
 
 #[test]
 fn short_text_in_tables(rt: HostRuntime) {
     let set: Set<Short> = new_set(&rt, rt.alloc());
-    assert!(rt; has_word(&intern(&rt, &set, "short"), 0x7472_6f68_7351));
-    assert!(rt; is_not_static::<Short>("short") && is_no_place::<Short>(0));
+    assert_that(&rt, has_word(&intern(&rt, &set, "short"), 0x7472_6f68_7351));
+    assert_that(
+        &rt,
+        is_not_static::<Short>("short") && is_no_place::<Short>(0),
+    );
 }
 
 /// How many replies the table gives to no calls.
@@ -192,6 +209,9 @@ fn replies_of_world(alloc: Global) -> Result<usize, Fault> {
 
 #[test]
 fn empty_lists(rt: HostRuntime) {
-    assert!(rt; replies_to_none(&mut new_table(&rt, rt.alloc())) == Some(0));
-    assert!(rt; replies_of_world(rt.alloc()) == Ok(0));
+    assert_that(
+        &rt,
+        replies_to_none(&mut new_table(&rt, rt.alloc())) == Some(0),
+    );
+    assert_that(&rt, replies_of_world(rt.alloc()) == Ok(0));
 }

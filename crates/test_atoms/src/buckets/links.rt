@@ -3,6 +3,7 @@
 use super::{Fake, check_share, link, new_bucket, tickets};
 use crate::crowds::numbered;
 use crate::samples::{DefaultSet, check_linked, intern, lock_of, one_bucket};
+use crate::{assert_for, assert_that};
 use std::alloc::Global;
 use std::process::Abort;
 use std::sync::Wait;
@@ -22,7 +23,7 @@ fn link_again<R: Abort>(
     let limits = Limits::greatest();
     match link(bucket, "tokenised", &limits) {
         Err(Fault::Memory) => {
-            assert!(rt; tickets(bucket) == *before);
+            assert_that(rt, tickets(bucket) == *before);
             link(bucket, "tokenised", &limits)
         }
         made => made,
@@ -40,7 +41,7 @@ fn refused_links_made_again(rt: HostRuntime) -> Result<(), Fail> {
         let before = tickets(&mut bucket);
         let share = link_again(&rt, &mut bucket, &before)?;
         check_share(&rt, &share, "tokenised", ticket);
-        assert!(rt; tickets(&mut bucket) == [ticket, before[0], before[1]]);
+        assert_that(&rt, tickets(&mut bucket) == [ticket, before[0], before[1]]);
     }
     Ok(())
 }
@@ -56,7 +57,7 @@ fn link_nine(rt: &impl Abort, bucket: &mut Bucket<EmptyStaticAtomSet>) {
         let before = tickets(bucket);
         drop(link_again(rt, bucket, &before).expect(rt, "an answer"));
     }
-    assert!(rt; bucket.len() == 9);
+    assert_that(rt, bucket.len() == 9);
 }
 
 /// A bucket of nine entries, whose shares are gone.
@@ -116,7 +117,7 @@ fn go_so(rt: &impl Abort, alloc: Global, goes: &[Goes]) -> bool {
 #[test]
 fn entries_go_one_by_one(rt: HostRuntime) {
     for goes in &GOES {
-        assert!(rt; go_so(&rt, rt.alloc(), goes), "of {goes:?}");
+        assert_for(&rt, go_so(&rt, rt.alloc(), goes), goes);
     }
 }
 
@@ -144,7 +145,7 @@ fn atom_of<'s, R: Wait + Abort>(
     word: u64,
 ) -> DefaultAtom<'s> {
     let atom = intern(rt, set, text);
-    assert!(rt; is_of(&atom, word, text));
+    assert_that(rt, is_of(&atom, word, text));
     atom
 }
 

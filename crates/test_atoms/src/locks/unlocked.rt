@@ -1,6 +1,7 @@
 //! Calls that take no lock.
 
 use super::{beside, has_found};
+use crate::assert_that;
 use crate::samples::{clone_of, intern, locks_but, new_set};
 use serde_json::Value;
 use std::process::Abort;
@@ -66,5 +67,8 @@ fn works_without_locks<R: Threads + Clock + Wait + Abort + Sync>(
 #[test]
 fn calls_that_take_no_lock(rt: HostRuntime) {
     let set = new_set::<One>(&rt, rt.alloc());
-    assert!(rt; works_without_locks(&rt, &set, &intern(&rt, &set, "interned")));
+    assert_that(
+        &rt,
+        works_without_locks(&rt, &set, &intern(&rt, &set, "interned")),
+    );
 }

@@ -1,6 +1,7 @@
 //! Texts of packed static types that are found, and others. The places and hashes of names are those of a program of its own, which was
 //! written from the definitions in Python.
 
+use crate::{assert_for, assert_that};
 use std::alloc::{AllocError, Global};
 use std::process::Abort;
 use string_cache::Atom;
@@ -38,11 +39,12 @@ fn has_text<S: StaticTables>(index: u32) -> bool {
 
 /// Checks that a static type is perfect, has so many texts, and those of the rows at their indices, with their hashes.
 fn check_listed<S: StaticTables>(rt: &impl Abort, count: u32, rows: &[(u32, &str, u64)]) {
-    assert!(rt; are_perfect::<S>() && S::count() == count);
+    assert_that(rt, are_perfect::<S>() && S::count() == count);
     for (index, text, hash) in rows {
-        assert!(rt;
+        assert_for(
+            rt,
             is_at::<S>(text, *index) && lists::<S>(*index, text, *hash),
-            "of {text:?}"
+            text,
         );
     }
 }
@@ -59,8 +61,11 @@ const DISHES: [(u32, &str, u64); 5] = [
 #[test]
 fn dishes_are_static(rt: HostRuntime) {
     check_listed::<Dishes>(&rt, 5, &DISHES);
-    assert!(rt; !is_static::<Dishes>("minestrones") && !is_static::<Dishes>("味噌"));
-    assert!(rt; !is_static::<Dishes>("") && !has_text::<Dishes>(5));
+    assert_that(
+        &rt,
+        !is_static::<Dishes>("minestrones") && !is_static::<Dishes>("味噌"),
+    );
+    assert_that(&rt, !is_static::<Dishes>("") && !has_text::<Dishes>(5));
 }
 
 /// Whether the name of an element with this number is static.
@@ -80,9 +85,10 @@ const ELEMENTS: [(u32, &str, u64); 3] = [
 fn elements_are_static(rt: HostRuntime) {
     check_listed::<Elements>(&rt, 1_000, &ELEMENTS);
     for number in 0..1_001 {
-        assert!(rt;
+        assert_for(
+            &rt,
             is_element(rt.alloc(), number) == Ok(number < 1_000),
-            "of {number}"
+            &number,
         );
     }
 }
@@ -90,7 +96,10 @@ fn elements_are_static(rt: HostRuntime) {
 /// Texts that are at each other's place are listed, and not static.
 #[test]
 fn misplaced_texts_are_not_static(rt: HostRuntime) {
-    assert!(rt; !are_perfect::<Misplaced>());
-    assert!(rt; !is_static::<Misplaced>("sentence") && !is_static::<Misplaced>("interned"));
-    assert!(rt; !has_text::<Misplaced>(0) && !has_text::<Misplaced>(1));
+    assert_that(&rt, !are_perfect::<Misplaced>());
+    assert_that(
+        &rt,
+        !is_static::<Misplaced>("sentence") && !is_static::<Misplaced>("interned"),
+    );
+    assert_that(&rt, !has_text::<Misplaced>(0) && !has_text::<Misplaced>(1));
 }

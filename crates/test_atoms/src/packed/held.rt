@@ -1,5 +1,6 @@
 //! Sets, tables and worlds of packed static types.
 
+use crate::assert_that;
 use std::alloc::Global;
 use std::process::Abort;
 use std::sync::Wait;
@@ -46,10 +47,16 @@ fn is_linked<S: StaticTables>(rt: &(impl Wait + Abort), alloc: Global, text: &st
 #[test]
 fn sets_link_what_is_not_listed(rt: HostRuntime) {
     let alloc = rt.alloc();
-    assert!(rt; is_static::<Elements>(&rt, alloc, "name_of_element_999"));
-    assert!(rt; is_linked::<Elements>(&rt, alloc, "name_of_element_1000"));
-    assert!(rt; is_static::<Dishes>(&rt, alloc, "שקשוקה"));
-    assert!(rt; is_linked::<Misplaced>(&rt, alloc, "sentence"));
+    assert_that(
+        &rt,
+        is_static::<Elements>(&rt, alloc, "name_of_element_999"),
+    );
+    assert_that(
+        &rt,
+        is_linked::<Elements>(&rt, alloc, "name_of_element_1000"),
+    );
+    assert_that(&rt, is_static::<Dishes>(&rt, alloc, "שקשוקה"));
+    assert_that(&rt, is_linked::<Misplaced>(&rt, alloc, "sentence"));
 }
 
 fn new_table<Static: StaticTables>(rt: &impl Abort, alloc: Global) -> Table<Static> {
@@ -85,10 +92,10 @@ fn holds<S: StaticTables>(rt: &impl Abort, alloc: Global, text: &str, number: us
 #[test]
 fn tables_hold_what_is_not_listed(rt: HostRuntime) {
     let alloc = rt.alloc();
-    assert!(rt; gives::<Dishes>(&rt, alloc, "味噌汁", static_word(1)));
-    assert!(rt; holds::<Dishes>(&rt, alloc, "味噌汁", 0));
-    assert!(rt; holds::<Dishes>(&rt, alloc, "minestrones", 1));
-    assert!(rt; holds::<Misplaced>(&rt, alloc, "sentence", 1));
+    assert_that(&rt, gives::<Dishes>(&rt, alloc, "味噌汁", static_word(1)));
+    assert_that(&rt, holds::<Dishes>(&rt, alloc, "味噌汁", 0));
+    assert_that(&rt, holds::<Dishes>(&rt, alloc, "minestrones", 1));
+    assert_that(&rt, holds::<Misplaced>(&rt, alloc, "sentence", 1));
 }
 
 /// What a world replies to a party that would intern the text.
@@ -99,7 +106,16 @@ fn starts<S: StaticTables>(alloc: Global, text: &str) -> Result<StepReply, Fault
 
 #[test]
 fn worlds_intern_what_is_not_listed(rt: HostRuntime) {
-    assert!(rt; starts::<Dishes>(rt.alloc(), "minestrone") == Ok(StepReply::No));
-    assert!(rt; starts::<Dishes>(rt.alloc(), "minestrones") == Ok(StepReply::Taken));
-    assert!(rt; starts::<Misplaced>(rt.alloc(), "sentence") == Ok(StepReply::Taken));
+    assert_that(
+        &rt,
+        starts::<Dishes>(rt.alloc(), "minestrone") == Ok(StepReply::No),
+    );
+    assert_that(
+        &rt,
+        starts::<Dishes>(rt.alloc(), "minestrones") == Ok(StepReply::Taken),
+    );
+    assert_that(
+        &rt,
+        starts::<Misplaced>(rt.alloc(), "sentence") == Ok(StepReply::Taken),
+    );
 }

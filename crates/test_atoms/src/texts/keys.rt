@@ -1,5 +1,6 @@
 //! Atoms as keys of maps.
 
+use crate::assert_that;
 use crate::samples::{clone_of, intern};
 use std::collections::{BTreeMap, HashMap};
 use std::convert::AsStr;
@@ -99,5 +100,8 @@ fn have_words<R: Wait + Abort, Static: StaticTables>(
 
 /// The words of a text are counted as often as they come.
 pub fn check_keys<R: Wait + Abort, Static: StaticTables>(rt: &R, set: &Set<Static>) {
-    assert!(rt; have_words(rt, set, "interned sentence a interned b a interned"));
+    assert_that(
+        rt,
+        have_words(rt, set, "interned sentence a interned b a interned"),
+    );
 }

@@ -1,6 +1,7 @@
 //! Packs: each call once, and what becomes of the items at the end.
 
 use super::{Mark, five, followed};
+use crate::{assert_for, assert_that};
 use node_chain::{NodeChain, Pack};
 use std::sync::atomic::{AtomicU64, Ordering};
 use std::test::Fail;
@@ -55,10 +56,7 @@ const GAPS: [(u64, usize, u64, u64); 9] = [
 #[test]
 fn packs_close_their_gaps(rt: HostRuntime) {
     for (count, index, left, ends) in &GAPS {
-        assert!(rt;
-            closes(*count, *index, *left, *ends),
-            "of {count} at {index}"
-        );
+        assert_for(&rt, closes(*count, *index, *left, *ends), &(count, index));
     }
 }
 
@@ -79,8 +77,8 @@ fn nodes_are_unlinked_and_linked_again(rt: HostRuntime) -> Result<(), Fail> {
     for digit in 6..9u64 {
         relink(&mut chain, digit);
     }
-    assert!(rt; chain.remaining() == 2);
+    assert_that(&rt, chain.remaining() == 2);
     drop(chain);
-    assert!(rt; ended.load(Ordering::SeqCst) == 67821);
+    assert_that(&rt, ended.load(Ordering::SeqCst) == 67821);
     Ok(())
 }

@@ -2,6 +2,7 @@
 
 use super::words_of_line;
 use crate::memory::Page;
+use crate::{assert_for, assert_that};
 use commands::program::program;
 use std::alloc::Global;
 use std::process::Abort;
@@ -110,7 +111,7 @@ Seen the word \"interned\" 2 times
 fn beyond_ascii(rt: HostRuntime) {
     for (line, input, output) in &ROWS {
         let is_written = writes(&rt, rt.alloc(), line, input.as_bytes(), output.as_bytes());
-        assert!(rt; is_written, "{line:?} of {input:?}");
+        assert_for(&rt, is_written, &(line, input));
     }
 }
 
@@ -179,8 +180,8 @@ fn are_told<R: Threads + Wait + Sync + Abort>(rt: &R, alloc: Global, told: &Told
 #[test]
 fn two_megabytes_of_words(rt: HostRuntime) {
     let told = two_megabytes(&rt, rt.alloc());
-    assert!(rt; told.text.len() > 2_000_000);
-    assert!(rt; are_told(&rt, rt.alloc(), &told));
+    assert_that(&rt, told.text.len() > 2_000_000);
+    assert_that(&rt, are_told(&rt, rt.alloc(), &told));
 }
 
 /// Whether the text is interned by a script.
@@ -205,9 +206,9 @@ fn is_placed<R: Threads + Wait + Sync + Abort>(
 #[test]
 fn two_megabytes_in_a_line(rt: HostRuntime) {
     let text = "字".repeat(rt.alloc(), 700_000).expect(&rt, "room");
-    assert!(rt; text.len() > 2_000_000);
-    assert!(rt; is_interned(&rt, rt.alloc(), &text));
-    assert!(rt; is_placed(&rt, rt.alloc(), &text, "cbd6f7cf3f1ece22"));
+    assert_that(&rt, text.len() > 2_000_000);
+    assert_that(&rt, is_interned(&rt, rt.alloc(), &text));
+    assert_that(&rt, is_placed(&rt, rt.alloc(), &text, "cbd6f7cf3f1ece22"));
 }
 
 /// A list of 1,000 names.
@@ -231,5 +232,5 @@ fn have_table<R: Threads + Wait + Sync + Abort>(rt: &R, alloc: Global, names: &s
 #[test]
 fn thousand_names(rt: HostRuntime) {
     let names = thousand(&rt, rt.alloc());
-    assert!(rt; have_table(&rt, rt.alloc(), &names));
+    assert_that(&rt, have_table(&rt, rt.alloc(), &names));
 }

@@ -2,6 +2,7 @@
 
 ghost use Rattle.std.specs.Prelude.{◌≤◌};
 
+use crate::assert_that;
 use crate::memory::{Bytes, Lost, Outcome, Streams};
 use crate::program::{
     Answer, COUNT_LINE, COUNT_WORDS, NO_MEMORY, answer_of, are_words, arguments_of, words_of_line,
@@ -43,7 +44,7 @@ fn are_told_in<R: Wait + Print>(rt: &R, set: &Set<EmptyStaticAtomSet>) -> bool {
 
 #[test]
 fn words_in_a_set(rt: HostRuntime) {
-    assert!(rt; are_told_in(&rt, &new_set(&rt, rt.alloc())));
+    assert_that(&rt, are_told_in(&rt, &new_set(&rt, rt.alloc())));
 }
 
 /// Whether they are told in a table, in a watched call and in another.
@@ -58,7 +59,7 @@ fn are_told_alone(rt: &impl Print, alloc: Global) -> bool {
 
 #[test]
 fn words_in_a_table(rt: HostRuntime) {
-    assert!(rt; are_told_alone(&rt, rt.alloc()));
+    assert_that(&rt, are_told_alone(&rt, rt.alloc()));
 }
 
 /// So many words of eight bytes, of which the first 1,024 are different and come again in turn.
@@ -81,7 +82,7 @@ fn many_words_in_a_table(rt: HostRuntime) {
     let alloc = rt.alloc();
     let text = numbered_words(&rt, alloc, 100);
     let answer = at_last(&rt, || tell_alone(alloc, &text));
-    assert!(rt; answer == Ok(()));
+    assert_that(&rt, answer == Ok(()));
 }
 
 /// Whether a worked script prints its output, in a watched call and in another. Where the first is refused, it prints nothing.
@@ -95,17 +96,17 @@ fn is_replayed(rt: &impl Print, alloc: Global, (script, output): (&[u8], &[u8]))
 
 #[test]
 fn script_with_a_dying_entry_is_replayed(rt: HostRuntime) {
-    assert!(rt; is_replayed(&rt, rt.alloc(), DYING_ENTRY));
+    assert_that(&rt, is_replayed(&rt, rt.alloc(), DYING_ENTRY));
 }
 
 #[test]
 fn script_with_limits_is_replayed(rt: HostRuntime) {
-    assert!(rt; is_replayed(&rt, rt.alloc(), LIMITS));
+    assert_that(&rt, is_replayed(&rt, rt.alloc(), LIMITS));
 }
 
 #[test]
 fn script_without_room_is_replayed(rt: HostRuntime) {
-    assert!(rt; is_replayed(&rt, rt.alloc(), NO_ROOM));
+    assert_that(&rt, is_replayed(&rt, rt.alloc(), NO_ROOM));
 }
 
 /// Whether the example has its counts by this many workers.
@@ -143,8 +144,11 @@ fn example_is_counted_in<R: Threads + Wait + Sync + Print + Abort>(
     begin(rt);
     let first = are_counted(rt, set, text, n);
     finish(rt, End::of(&first));
-    assert!(rt; is_yes(&first) && set.linked(rt) == 0);
-    assert!(rt; are_counted(rt, set, text, n) == Ok(true) && set.linked(rt) == 0);
+    assert_that(rt, is_yes(&first) && set.linked(rt) == 0);
+    assert_that(
+        rt,
+        are_counted(rt, set, text, n) == Ok(true) && set.linked(rt) == 0,
+    );
     first.err()
 }
 
@@ -234,7 +238,7 @@ fn many_are_counted_in<R: Threads + Wait + Sync + Print + Abort>(
     begin(rt);
     let answer = many_are_right(rt, set, text, n);
     finish(rt, End::of(&answer));
-    assert!(rt; is_yes(&answer));
+    assert_that(rt, is_yes(&answer));
     answer.err()
 }
 
@@ -298,7 +302,7 @@ pub fn line_is_run<R: Threads + Wait + Sync + Print + Abort>(
     refusal: &[u8],
 ) {
     let args = words_of_line(rt, alloc, line);
-    assert!(rt; is_answered(rt, alloc, args, texts, refusal));
+    assert_that(rt, is_answered(rt, alloc, args, texts, refusal));
 }
 
 #[test]
@@ -341,5 +345,5 @@ fn are_read(rt: &impl Print, alloc: Global) -> bool {
 
 #[test]
 fn arguments_are_read(rt: HostRuntime) {
-    assert!(rt; are_read(&rt, rt.alloc()));
+    assert_that(&rt, are_read(&rt, rt.alloc()));
 }

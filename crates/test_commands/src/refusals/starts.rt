@@ -3,6 +3,7 @@
 //! which it can do without. With every start granted these pass as any test does.
 
 use super::programs::{example_is_counted, line_is_run, many_are_counted};
+use crate::assert_that;
 use crate::program::{EXAMPLE_COUNTS, NO_WORKER};
 use crate::words::{intern, set_with};
 use std::io::Print;
@@ -56,32 +57,32 @@ impl Gate for Entries {
 #[test]
 fn counts_by_two(rt: HostRuntime) {
     let fault = example_is_counted(&rt, rt.alloc(), 2);
-    assert!(rt; matches!(fault, None | Some(AppFault::Worker)));
+    assert_that(&rt, matches!(fault, None | Some(AppFault::Worker)));
 }
 
 #[test]
 fn counts_by_three(rt: HostRuntime) {
     let fault = example_is_counted(&rt, rt.alloc(), 3);
-    assert!(rt; matches!(fault, None | Some(AppFault::Worker)));
+    assert_that(&rt, matches!(fault, None | Some(AppFault::Worker)));
 }
 
 #[test]
 fn counts_by_eight(rt: HostRuntime) {
     let fault = example_is_counted(&rt, rt.alloc(), 8);
-    assert!(rt; matches!(fault, None | Some(AppFault::Worker)));
+    assert_that(&rt, matches!(fault, None | Some(AppFault::Worker)));
 }
 
 #[test]
 fn counts_of_many_by_three(rt: HostRuntime) {
     let fault = many_are_counted(&rt, rt.alloc(), 3);
-    assert!(rt; matches!(fault, None | Some(AppFault::Worker)));
+    assert_that(&rt, matches!(fault, None | Some(AppFault::Worker)));
 }
 
 /// Where the thread for half of the lists can't be started, the counts come all the same.
 #[test]
 fn counts_of_many_by_four(rt: HostRuntime) {
     let fault = many_are_counted(&rt, rt.alloc(), 4);
-    assert!(rt; matches!(fault, None | Some(AppFault::Worker)));
+    assert_that(&rt, matches!(fault, None | Some(AppFault::Worker)));
 }
 
 #[test]
@@ -143,5 +144,8 @@ fn lower_fault_is_told<R: Threads + Wait + Sync + Print>(
 #[test]
 fn lower_fault_is_answered(rt: HostRuntime) {
     let set = set_with(&rt, rt.alloc(), 1, 9);
-    assert!(rt; lower_fault_is_told(&rt, &set, &intern(&rt, &set, "interned")));
+    assert_that(
+        &rt,
+        lower_fault_is_told(&rt, &set, &intern(&rt, &set, "interned")),
+    );
 }

@@ -1,6 +1,7 @@
 //! Calls over 1,024 different dynamic words, each of which comes twice: `gate/refused.py` sees that no block is left of what they took.
 
 use super::programs::numbered_words;
+use crate::assert_that;
 use crate::memory::{Bytes, Lost};
 use commands::count::count_command;
 use commands::words::words_command;
@@ -21,7 +22,7 @@ fn are_told<R: Wait + Print>(rt: &R, alloc: Global, text: &str) -> bool {
 #[test]
 fn words_are_told(rt: HostRuntime) {
     let text = numbered_words(&rt, rt.alloc(), 2_048);
-    assert!(rt; are_told(&rt, rt.alloc(), &text));
+    assert_that(&rt, are_told(&rt, rt.alloc(), &text));
 }
 
 /// Whether two workers count them in a watched call.
@@ -35,5 +36,5 @@ fn are_counted<R: Threads + Wait + Sync + Print>(rt: &R, alloc: Global, text: &s
 #[test]
 fn words_are_counted(rt: HostRuntime) {
     let text = numbered_words(&rt, rt.alloc(), 2_048);
-    assert!(rt; are_counted(&rt, rt.alloc(), &text));
+    assert_that(&rt, are_counted(&rt, rt.alloc(), &text));
 }

@@ -2,6 +2,7 @@
 
 use super::asked::{Question, check};
 use super::kept::Plain;
+use crate::assert_for;
 use example_tables::{are_one_name, is_keyword, same_word, two_come_and_go};
 use std::process::Abort;
 use string_cache_core::word::{Form, form_of};
@@ -21,7 +22,7 @@ const PAIRS: [(&str, &str, bool); 7] = [
 fn names_have_one_word_each(rt: HostRuntime) {
     for (left, right, wanted) in &PAIRS {
         let found = same_word(rt.alloc(), left, right);
-        assert!(rt; found == Ok(*wanted), "of {left:?}");
+        assert_for(&rt, found == Ok(*wanted), left);
     }
 }
 
@@ -32,7 +33,7 @@ fn told_of_keyword(table: &mut Plain, name: &str, keyword: &str, wanted: bool) -
 
 pub fn check_keywords<R: Abort>(rt: &R, table: &mut Plain) {
     for (name, word, wanted) in &PAIRS {
-        assert!(rt; told_of_keyword(table, name, word, *wanted), "of {name:?}");
+        assert_for(rt, told_of_keyword(table, name, word, *wanted), name);
     }
 }
 
@@ -51,7 +52,7 @@ fn told_of_two(table: &mut Plain, first: &str, second: &str, wanted: bool) -> bo
 
 pub fn check_two_names<R: Abort>(rt: &R, table: &mut Plain) {
     for (first, second, wanted) in &PAIRS {
-        assert!(rt; told_of_two(table, first, second, *wanted), "of {first:?}");
+        assert_for(rt, told_of_two(table, first, second, *wanted), first);
     }
 }
 
@@ -67,7 +68,7 @@ fn told_of_three(table: &mut Plain, name: &str, other: &str, wanted: bool) -> bo
 
 pub fn check_three_names<R: Abort>(rt: &R, table: &mut Plain) {
     for (name, other, wanted) in &PAIRS {
-        assert!(rt; told_of_three(table, name, other, *wanted), "of {name:?}");
+        assert_for(rt, told_of_three(table, name, other, *wanted), name);
     }
 }
 
@@ -93,10 +94,7 @@ pub fn check_forms<R: Abort>(rt: &R, table: &mut Plain) {
     let text =
         "here is a sentence of text that will be tokenised and\ninterned and some repeated tokens is of text and";
     for word in text.split_whitespace() {
-        assert!(rt;
-            is_dynamic(table, word) == Some(is_long(word)),
-            "of {word:?}"
-        );
+        assert_for(rt, is_dynamic(table, word) == Some(is_long(word)), &word);
     }
 }
 

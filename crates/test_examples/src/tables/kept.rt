@@ -1,5 +1,6 @@
 //! What tables keep.
 
+use crate::assert_that;
 use example_tables::{
     all_done, all_held, any_shared, bytes_for_each, first_text, last_text, make_room, small_table,
     start_over, table_of, table_with_holders, takes_at_most, usual_length,
@@ -43,9 +44,9 @@ fn has_ends(table: &mut Plain) -> bool {
 
 #[test]
 fn tables_have_a_first_and_a_last_text(rt: HostRuntime) {
-    assert!(rt; of_table(rt.alloc(), &["plum", "tea"], has_no_ends)); // inline
+    assert_that(&rt, of_table(rt.alloc(), &["plum", "tea"], has_no_ends)); // inline
     let names = ["pear tree", "plum", "m\u{f6}glicherweise", "pear tree"];
-    assert!(rt; of_table(rt.alloc(), &names, has_ends));
+    assert_that(&rt, of_table(rt.alloc(), &names, has_ends));
 }
 
 fn shares_any(table: &mut Plain) -> bool {
@@ -58,11 +59,11 @@ fn shares_none(table: &mut Plain) -> bool {
 
 #[test]
 fn shared_texts_are_seen(rt: HostRuntime) {
-    assert!(rt; of_table(rt.alloc(), &[], shares_none));
+    assert_that(&rt, of_table(rt.alloc(), &[], shares_none));
     let names = ["pear tree", "plum tree", "tea", "tea"];
-    assert!(rt; of_table(rt.alloc(), &names, shares_none));
+    assert_that(&rt, of_table(rt.alloc(), &names, shares_none));
     let names = ["pear tree", "plum tree", "plum tree"];
-    assert!(rt; of_table(rt.alloc(), &names, shares_any));
+    assert_that(&rt, of_table(rt.alloc(), &names, shares_any));
 }
 
 fn has_no_length(table: &mut Plain) -> bool {
@@ -75,9 +76,9 @@ fn has_usual_length(table: &mut Plain) -> bool {
 
 #[test]
 fn usual_lengths(rt: HostRuntime) {
-    assert!(rt; of_table(rt.alloc(), &["plum"], has_no_length)); // inline
+    assert_that(&rt, of_table(rt.alloc(), &["plum"], has_no_length)); // inline
     let names = ["pear tree", "m\u{f6}glicherweise"];
-    assert!(rt; of_table(rt.alloc(), &names, has_usual_length));
+    assert_that(&rt, of_table(rt.alloc(), &names, has_usual_length));
 }
 
 /// 4096 serials, two texts, nine places for texts and nine for tickets (64 + 9 * 48, and 64 + 9 * 16), and one byte.
@@ -96,8 +97,8 @@ fn takes_none_for_each(table: &mut Plain) -> bool {
 #[test]
 fn memory_is_told(rt: HostRuntime) {
     let names = ["pear tree", "plum tree"];
-    assert!(rt; of_table(rt.alloc(), &names, takes_all_bytes));
-    assert!(rt; of_table(rt.alloc(), &[], takes_none_for_each));
+    assert_that(&rt, of_table(rt.alloc(), &names, takes_all_bytes));
+    assert_that(&rt, of_table(rt.alloc(), &[], takes_none_for_each));
 }
 
 /// Whether a small table takes at most so many bytes.
@@ -110,8 +111,8 @@ fn small_takes(alloc: Global, bytes: u128) -> Option<bool> {
 
 #[test]
 fn a_small_table_takes_little(rt: HostRuntime) {
-    assert!(rt; small_takes(rt.alloc(), 128) == Some(true));
-    assert!(rt; small_takes(rt.alloc(), 127) == Some(false));
+    assert_that(&rt, small_takes(rt.alloc(), 128) == Some(true));
+    assert_that(&rt, small_takes(rt.alloc(), 127) == Some(false));
 }
 
 /// Whether so many hold "pear tree" at most, which nobody holds before.
@@ -134,9 +135,9 @@ fn is_limited(alloc: Global, holders: u64) -> Option<bool> {
 
 #[test]
 fn holders_are_limited(rt: HostRuntime) {
-    assert!(rt; is_limited(rt.alloc(), 1) == Some(true));
-    assert!(rt; is_limited(rt.alloc(), 3) == Some(true));
-    assert!(rt; is_limited(rt.alloc(), 0).is_none());
+    assert_that(&rt, is_limited(rt.alloc(), 1) == Some(true));
+    assert_that(&rt, is_limited(rt.alloc(), 3) == Some(true));
+    assert_that(&rt, is_limited(rt.alloc(), 0).is_none());
 }
 
 fn holds_first(table: &Plain) -> bool {
@@ -153,7 +154,10 @@ fn has_room_and_starts_over(table: &mut Plain) -> bool {
 
 #[test]
 fn a_table_has_room_and_starts_over(rt: HostRuntime) {
-    assert!(rt; of_table(rt.alloc(), &["interned"], has_room_and_starts_over));
+    assert_that(
+        &rt,
+        of_table(rt.alloc(), &["interned"], has_room_and_starts_over),
+    );
 }
 
 fn holds_words(table: &mut Plain) -> bool {
@@ -162,7 +166,7 @@ fn holds_words(table: &mut Plain) -> bool {
 
 #[test]
 fn words_are_all_held_or_not(rt: HostRuntime) {
-    assert!(rt; of_table(rt.alloc(), &["interned"], holds_words));
+    assert_that(&rt, of_table(rt.alloc(), &["interned"], holds_words));
 }
 
 /// Whether a call is done, asked as the only one of its list.
@@ -180,5 +184,5 @@ fn is_done_in_turn(table: &mut Plain) -> bool {
 
 #[test]
 fn calls_are_done_or_not(rt: HostRuntime) {
-    assert!(rt; of_table(rt.alloc(), &["interned"], is_done_in_turn));
+    assert_that(&rt, of_table(rt.alloc(), &["interned"], is_done_in_turn));
 }

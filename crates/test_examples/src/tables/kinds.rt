@@ -1,6 +1,7 @@
 //! Names of two kinds, and a table that two threads read.
 
 use super::kept::filled;
+use crate::assert_that;
 use example_tables::{Function, Program, lengths_of_both};
 use std::alloc::Global;
 use std::process::Abort;
@@ -15,8 +16,14 @@ const SHORT: u64 = 0x6766_6564_6362_6171;
 #[test]
 fn a_table_is_read_by_two_threads(rt: HostRuntime) {
     let table = filled(&rt, rt.alloc(), &["interned"]);
-    assert!(rt; lengths_of_both(&rt, &table, FIRST, SHORT) == (Some(8), Some(7)));
-    assert!(rt; lengths_of_both(&rt, &table, 0, SHORT) == (None, Some(7)));
+    assert_that(
+        &rt,
+        lengths_of_both(&rt, &table, FIRST, SHORT) == (Some(8), Some(7)),
+    );
+    assert_that(
+        &rt,
+        lengths_of_both(&rt, &table, 0, SHORT) == (None, Some(7)),
+    );
 }
 
 /// Whether a new program passes the question.
@@ -53,7 +60,7 @@ fn finds_functions(program: &mut Program) -> bool {
 
 #[test]
 fn functions_are_declared(rt: HostRuntime) {
-    assert!(rt; of_program(rt.alloc(), finds_functions));
+    assert_that(&rt, of_program(rt.alloc(), finds_functions));
 }
 
 /// The word of the function whose word this is.
@@ -70,7 +77,7 @@ fn finds_words(program: &mut Program) -> bool {
 
 #[test]
 fn functions_are_saved_by_word(rt: HostRuntime) {
-    assert!(rt; of_program(rt.alloc(), finds_words));
+    assert_that(&rt, of_program(rt.alloc(), finds_words));
 }
 
 /// How long the name of a function is that is declared.
@@ -85,7 +92,7 @@ fn tells_lengths(program: &mut Program) -> bool {
 
 #[test]
 fn functions_have_lengths(rt: HostRuntime) {
-    assert!(rt; of_program(rt.alloc(), tells_lengths));
+    assert_that(&rt, of_program(rt.alloc(), tells_lengths));
 }
 
 /// Whether a function that is declared was there.
@@ -112,7 +119,7 @@ fn forgets_as_often(program: &mut Program) -> bool {
 
 #[test]
 fn functions_are_forgotten_as_often_as_declared(rt: HostRuntime) {
-    assert!(rt; of_program(rt.alloc(), forgets_as_often));
+    assert_that(&rt, of_program(rt.alloc(), forgets_as_often));
 }
 
 /// A program of two tables, with two functions.
@@ -134,5 +141,5 @@ fn forgets_two(program: &mut Program) -> bool {
 #[test]
 fn functions_are_all_forgotten(rt: HostRuntime) {
     let mut program = of_tables(&rt, rt.alloc());
-    assert!(rt; forgets_two(&mut program));
+    assert_that(&rt, forgets_two(&mut program));
 }

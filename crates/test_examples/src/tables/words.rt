@@ -2,6 +2,7 @@
 
 use super::asked::{Question, check};
 use super::kept::Plain;
+use crate::{assert_for, assert_that};
 use example_tables::{
     comes_and_goes, first_byte, hand_on, is_known, is_shared, lent_text, price_of, reads_back,
     share,
@@ -27,7 +28,7 @@ fn is_read_back(alloc: Global, table: &mut Table<One>, name: &str) -> bool {
 
 fn check_reading_back<R: Abort>(rt: &R, alloc: Global, table: &mut Table<One>) {
     for name in &["", "table", "sentence", "tokenised", "m\u{f6}glicherweise"] {
-        assert!(rt; is_read_back(alloc, table, name), "of {name:?}");
+        assert_for(rt, is_read_back(alloc, table, name), name);
     }
 }
 
@@ -48,7 +49,7 @@ pub fn check_look_ups<R: Abort>(rt: &R, table: &Plain) {
         ("plum", true), // inline
         ("m\u{f6}glicherweise", true),
     ] {
-        assert!(rt; knows(table, name) == *wanted, "of {name:?}");
+        assert_for(rt, knows(table, name) == *wanted, name);
     }
 }
 
@@ -64,8 +65,8 @@ fn knows_after(table: &mut Plain, other: &str, name: &str) -> bool {
 }
 
 pub fn check_coming_and_going<R: Abort>(rt: &R, table: &mut Plain) {
-    assert!(rt; !knows_after(table, "plum tree", "plum tree"));
-    assert!(rt; knows_after(table, "pear tree", "pear tree"));
+    assert_that(rt, !knows_after(table, "plum tree", "plum tree"));
+    assert_that(rt, knows_after(table, "pear tree", "pear tree"));
 }
 
 #[test]
@@ -85,8 +86,8 @@ fn is_handed_on(table: &mut Plain, name: &str) -> bool {
 }
 
 pub fn check_handing_on<R: Abort>(rt: &R, table: &mut Plain) {
-    assert!(rt; is_handed_on(table, "pear tree"));
-    assert!(rt; is_handed_on(table, "plum")); // inline
+    assert_that(rt, is_handed_on(table, "pear tree"));
+    assert_that(rt, is_handed_on(table, "plum")); // inline
 }
 
 #[test]
@@ -107,9 +108,9 @@ fn shared_name(table: &mut Plain, name: &str) -> Option<(bool, bool)> {
 }
 
 pub fn check_sharing<R: Abort>(rt: &R, table: &mut Plain) {
-    assert!(rt; shared_name(table, "pear tree") == Some((true, true)));
-    assert!(rt; shared_name(table, "plum") == Some((true, false))); // inline
-    assert!(rt; shared(table, 0) == Some((false, false))); // no word
+    assert_that(rt, shared_name(table, "pear tree") == Some((true, true)));
+    assert_that(rt, shared_name(table, "plum") == Some((true, false))); // inline
+    assert_that(rt, shared(table, 0) == Some((false, false))); // no word
 }
 
 #[test]
@@ -129,9 +130,9 @@ pub fn check_first_bytes<R: Abort>(rt: &R, table: &Plain) {
         ("plum", Some(0x70)),
         ("", None),
     ] {
-        assert!(rt; begins_with(table, name) == *wanted, "of {name:?}");
+        assert_for(rt, begins_with(table, name) == *wanted, name);
     }
-    assert!(rt; first_byte(table, 0).is_none()); // no word
+    assert_that(rt, first_byte(table, 0).is_none()); // no word
 }
 
 #[test]
@@ -150,7 +151,7 @@ fn lends(table: &Plain, name: &str, text: Option<&str>) -> bool {
 
 pub fn check_lending<R: Abort>(rt: &R, table: &Plain) {
     for (name, text) in &[("pear tree", Some("pear tree")), ("plum", None)] {
-        assert!(rt; lends(table, name, *text), "of {name:?}");
+        assert_for(rt, lends(table, name, *text), &name);
     }
 }
 
@@ -179,7 +180,7 @@ pub fn check_prices<R: Abort>(rt: &R, alloc: Global, table: &Plain) {
         ("pear tree", "plum", None),
         ("plum", "plum", Some(40)), // inline
     ] {
-        assert!(rt; priced(alloc, table, known, name) == *price, "of {name:?}");
+        assert_for(rt, priced(alloc, table, known, name) == *price, name);
     }
 }
 

@@ -1,6 +1,7 @@
 //! Steps of three parties, merged in many orders: what the world replies, read as calls of one map, is what a table replies.
 
 use super::{Do, Plain, step_of, world_with};
+use crate::assert_for;
 use atomic_steps::steps::StepReply;
 use std::alloc::{AllocError, Global};
 use std::process::Abort;
@@ -209,11 +210,11 @@ fn is_history_of_table(
 /// Makes a merge's steps in a world, and the calls that they are in a table, both with these buckets.
 fn check_merge(rt: &impl Abort, alloc: Global, buckets: Buckets, merge: u32) {
     let steps = steps_of(alloc, merge).expect(rt, "steps");
-    assert!(rt; steps.len() == 12, "in merge {merge}");
+    assert_for(rt, steps.len() == 12, &merge);
     let mut world = world_with(rt, alloc, Limits::greatest(), buckets);
     let history = history_of(alloc, &mut world, &steps).expect(rt, "a history");
     let outcome = is_history_of_table(alloc, buckets, &history, held(&world));
-    assert!(rt; outcome == Ok(true), "in merge {merge}");
+    assert_for(rt, outcome == Ok(true), &merge);
 }
 
 #[test]

@@ -2,6 +2,7 @@
 //! unlink and free a hundred entries and more, one after another.
 
 use super::{Do, Plain, Row, linked, new_world, run_rows};
+use crate::assert_that;
 use StepReply::{Cloned, Dying, Freed, Given, Kept, Left, Taken, Unlinked};
 use atomic_steps::steps::StepReply;
 use std::alloc::Global;
@@ -86,6 +87,6 @@ fn ends_with(world: &Plain, last: u64) -> bool {
 #[test]
 fn three_parties_link_more_than_a_hundred_entries(rt: HostRuntime) {
     let mut world = new_world(&rt, rt.alloc());
-    assert!(rt; are_linked(rt.alloc(), &mut world) == Ok(true));
-    assert!(rt; ends_with(&world, u64::from(ENTRIES)));
+    assert_that(&rt, are_linked(rt.alloc(), &mut world) == Ok(true));
+    assert_that(&rt, ends_with(&world, u64::from(ENTRIES)));
 }
