@@ -3,7 +3,6 @@
 ghost use Rattle.std.specs.Prelude.{[], ◌∷◌, codes};
 
 #[cfg(test)]
-use crate::{assert_for, assert_that};
 use string_cache::static_sets::{StaticTables, are_perfect};
 #[cfg(test)]
 use string_cache::word::pack_inline_word;
@@ -1180,8 +1179,8 @@ fn word_of<S: StaticTables>(text: &str) -> Option<u64> {
 /// Each text is at its place, and each name is found and has its word.
 #[test]
 fn names_are_found(rt: HostRuntime) {
-    assert_that(&rt, are_perfect::<Names>());
+    assert!(rt; are_perfect::<Names>());
     for (text, word) in NAMES_LIST.split('\n').zip(&NAMES_WORDS) {
-        assert_for(&rt, word_of::<Names>(text) == Some(*word), &text);
+        assert!(rt; word_of::<Names>(text) == Some(*word), "of {text}");
     }
 }
