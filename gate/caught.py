@@ -5,8 +5,9 @@ They are applied to copies of the repository, and the tests are built there with
 side in one build, from which each body gets a program of its own (gate/shared_builds.py). One that changes more than bodies of functions,
 or doesn't compile beside its own, has a build to itself.
 
-- 'test: FUNCTION' has to fail, or not to end in thirty times as long as it takes without the body. What threads do wrong may not show at
-  once, so a test that passes is run again until a minute has gone. It has to pass as often in the same build without the body.
+- 'test: FUNCTION' has to fail, or not to end in thirty times as long as it takes without the body (in ten seconds at least, in a minute at
+  most). What threads do wrong may not show at once, so a test that passes is run again until a minute has gone. It has to pass as often in
+  the same build without the body.
 - 'refused: FUNCTION', a test of a module `refusals`, has to be found WRONG as gate/refused.py judges it, has to pass where nothing is
   refused, and has to be found right in the same build without the body.
 - 'error: TEXT': the compiler has to say this, where a type alone forbids the body.

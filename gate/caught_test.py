@@ -142,6 +142,18 @@ class Verdicts(WithPrograms):
             self.assertTrue(caught.judge_test("one", self.program(wrong), own)[0])
         self.assertFalse(caught.judge_test("one", self.program("0001"), own)[0])
 
+    def test_a_run_may_take_thirty_times_as_long_as_without_the_body(self):
+        caught.SECONDS = 60
+        own = caught.Own(self.program())
+        for took, seconds in ((0.1, 10), (1, 30), (5, 60)):
+            own.passed["tests::one"] = [took / 2, took]
+            self.assertEqual(own.seconds("tests::one"), seconds)
+
+    def test_a_body_whose_test_hangs_is_caught(self):
+        hangs = self.program()
+        hangs.write_text(hangs.read_text(encoding="ascii").replace("read -r", "exec sleep 30\nread -r"), encoding="ascii")
+        self.assertEqual(self.said(hangs, self.program()), "one fails, as it must")
+
     def test_a_name_is_of_one_test(self):
         for name in ("two", "tests", "ne", "twice"):
             self.assertEqual(self.said(self.program("1"), self.program(), name), "BAD EDIT: there is no such test")
