@@ -4,6 +4,8 @@
 //! libraries first.
 #![tactic(auto)]
 
+ghost use Rattle.std.specs.Prelude.{IsTrue};
+
 #[cfg(test)]
 mod atoms;
 #[cfg(test)]
@@ -47,12 +49,16 @@ mod visits;
 
 /// Ends the test unless this is so: one call, where `assert!` writes its message and its ways out into the function that asks.
 #[cfg(test)]
-fn assert_that(rt: &impl std::process::Abort, is_so: bool) {
+fn assert_that(rt: &impl std::process::Abort, is_so: bool)
+    ensures { IsTrue is_so }
+{
     assert!(rt; is_so);
 }
 
 /// Ends the test unless this is so for a value, which it tells.
 #[cfg(test)]
-fn assert_for<T: std::fmt::Debug>(rt: &impl std::process::Abort, is_so: bool, value: &T) {
+fn assert_for<T: std::fmt::Debug>(rt: &impl std::process::Abort, is_so: bool, value: &T)
+    ensures { IsTrue is_so }
+{
     assert!(rt; is_so, "of {value:?}");
 }

@@ -1,6 +1,8 @@
 //! Tests of the program's commands, of the program over lines of arguments, and of counting by workers, and nothing else.
 #![tactic(auto)]
 
+ghost use Rattle.std.specs.Prelude.{IsTrue};
+
 #[cfg(test)]
 mod buckets;
 #[cfg(test)]
@@ -26,12 +28,16 @@ mod words;
 
 /// Ends the test unless this is so: one call, where `assert!` writes its message and its ways out into the function that asks.
 #[cfg(test)]
-fn assert_that(rt: &impl std::process::Abort, is_so: bool) {
+fn assert_that(rt: &impl std::process::Abort, is_so: bool)
+    ensures { IsTrue is_so }
+{
     assert!(rt; is_so);
 }
 
 /// Ends the test unless this is so for a value, which it tells.
 #[cfg(test)]
-fn assert_for<T: std::fmt::Debug>(rt: &impl std::process::Abort, is_so: bool, value: &T) {
+fn assert_for<T: std::fmt::Debug>(rt: &impl std::process::Abort, is_so: bool, value: &T)
+    ensures { IsTrue is_so }
+{
     assert!(rt; is_so, "of {value:?}");
 }
