@@ -114,7 +114,7 @@ fn hold_twice(rt: &impl Abort, table: &mut Table<EmptyStaticAtomSet>, text: &str
 
 /// Gives a word that has to be held.
 fn give(rt: &impl Abort, table: &mut Table<EmptyStaticAtomSet>, word: u64) {
-    assert!(rt; table.holds(word));
+    assert_that(rt, table.holds(word));
     table.give(word);
 }
 

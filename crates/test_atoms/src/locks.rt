@@ -5,7 +5,7 @@ mod unlocked;
 
 use crate::assert_that;
 use crate::samples::{DefaultSet, check_linked, default_set, intern, lock_of, locks_but, shown};
-use crate::scenes::{self, Step, are_free, play_in_new};
+use crate::scenes::{self, Step, are_free, play_both_in_new, play_in_new};
 use std::alloc::Global;
 use std::process::Abort;
 use std::sync::atomic::{AtomicBool, Ordering};
@@ -46,48 +46,33 @@ const INTERNED: u64 = 0x1_0840;
 
 const INTERNED_AGAIN: u64 = 0x2_0840;
 
-/// A text's atom goes while its bucket's lock is held: the entry dies and stays, till it is swept.
-const LAST_DROP: [Step; 8] = [
+/// A text's atom goes while its bucket's lock is held. The other buckets' locks are free meanwhile, and the drop returns: the entry dies, and
+/// stays linked.
+const LET_DIE: [Step; 6] = [
     Step::Intern("interned"),
     Step::Lock(0x210),
     Step::FreeBut(0x210),
     Step::Drop(0),
     Step::Unlock,
     Step::Linked(1),
-    Step::Sweep,
-    Step::Linked(0),
 ];
 
-/// The other buckets' locks are free meanwhile, and the drop returns.
+const SWEPT: [Step; 2] = [Step::Sweep, Step::Linked(0)];
+
 #[test]
 fn last_drop_under_a_held_lock(rt: HostRuntime) {
-    play_in_new(&rt, rt.alloc(), &LAST_DROP);
+    play_both_in_new(&rt, rt.alloc(), &LET_DIE, &SWEPT);
 }
-
-const DYING_LOOKED_UP: [Step; 8] = [
-    Step::Intern("interned"),
-    Step::Lock(0x210),
-    Step::FreeBut(0x210),
-    Step::Drop(0),
-    Step::Unlock,
-    Step::Linked(1),
-    Step::Absent("interned"),
-    Step::Linked(0),
-];
 
 /// What is looked up takes the dying entry out, and finds nothing.
+const LOOKED_UP: [Step; 2] = [Step::Absent("interned"), Step::Linked(0)];
+
 #[test]
 fn text_of_a_dying_entry_is_not_found(rt: HostRuntime) {
-    play_in_new(&rt, rt.alloc(), &DYING_LOOKED_UP);
+    play_both_in_new(&rt, rt.alloc(), &LET_DIE, &LOOKED_UP);
 }
 
-const DYING_INTERNED: [Step; 9] = [
-    Step::Intern("interned"),
-    Step::Lock(0x210),
-    Step::FreeBut(0x210),
-    Step::Drop(0),
-    Step::Unlock,
-    Step::Linked(1),
+const INTERNED_ANEW: [Step; 3] = [
     Step::Intern("interned"),
     Step::Is(1, "interned", INTERNED_AGAIN),
     Step::Linked(1),
@@ -95,7 +80,7 @@ const DYING_INTERNED: [Step; 9] = [
 
 #[test]
 fn text_of_a_dying_entry_gets_a_new_one(rt: HostRuntime) {
-    play_in_new(&rt, rt.alloc(), &DYING_INTERNED);
+    play_both_in_new(&rt, rt.alloc(), &LET_DIE, &INTERNED_ANEW);
 }
 
 /// The words of "forgotten" and "magnitude", where these are the first two texts.

@@ -268,30 +268,47 @@ fn is_taken<'s, R: Wait + Abort>(
     true
 }
 
-/// Takes the steps in a set, one after another.
-fn play<R: Wait + Abort>(rt: &R, set: &DefaultSet, steps: &[Step]) {
-    let mut kept = nothing(set.allocator());
+/// Takes the steps, one after another.
+fn take_each<'s, R: Wait + Abort>(
+    rt: &R,
+    set: &'s DefaultSet,
+    kept: &mut Kept<'s>,
+    steps: &[Step],
+) {
     for (at, step) in steps.iter().enumerate() {
-        assert_for(rt, is_taken(rt, set, &mut kept, step), &at);
+        assert_for(rt, is_taken(rt, set, kept, step), &at);
     }
 }
 
-/// Takes the steps in a new set.
+/// Plays the scenes in a set, each where the one before it ends.
+fn play<R: Wait + Abort>(rt: &R, set: &DefaultSet, scenes: &[&[Step]]) {
+    let mut kept = nothing(set.allocator());
+    for steps in scenes {
+        take_each(rt, set, &mut kept, steps);
+    }
+}
+
+/// Plays a scene in a new set.
 pub fn play_in_new<R: Wait + Abort>(rt: &R, alloc: Global, steps: &[Step]) {
-    play(rt, &default_set(rt, alloc), steps);
+    play(rt, &default_set(rt, alloc), &[steps]);
 }
 
-/// Takes them in a new set of one bucket.
+/// Plays a scene in a new set, and another one where it ends.
+pub fn play_both_in_new<R: Wait + Abort>(rt: &R, alloc: Global, first: &[Step], second: &[Step]) {
+    play(rt, &default_set(rt, alloc), &[first, second]);
+}
+
+/// Plays a scene in a new set of one bucket.
 pub fn play_in_one_bucket<R: Wait + Abort>(rt: &R, alloc: Global, steps: &[Step]) {
-    play(rt, &one_bucket(rt, alloc), steps);
+    play(rt, &one_bucket(rt, alloc), &[steps]);
 }
 
-/// Takes them in a new set whose texts may have so many holders, and its buckets so many serials.
+/// Plays a scene in a new set whose texts may have so many holders, and its buckets so many serials.
 pub fn play_within<R: Wait + Abort>(
     rt: &R,
     alloc: Global,
     (holders, serials): (u64, u64),
     steps: &[Step],
 ) {
-    play(rt, &limited_set(rt, alloc, holders, serials), steps);
+    play(rt, &limited_set(rt, alloc, holders, serials), &[steps]);
 }

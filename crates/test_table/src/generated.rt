@@ -1,29 +1,22 @@
-//! What no contract says: lists that are placed, and texts that come from outside.
+//! What no contract says: which lists are placed, and what comes of those that aren't.
 
+mod checked;
+
+use self::checked::checked;
 use crate::texts::is_printed_as;
 use crate::{assert_for, assert_that};
 use std::alloc::{AllocError, Global};
 use string_cache_core::Fault;
 use string_cache_core::phf::{Hashes, hash};
 use string_cache_core::static_sets::check_parts;
-use table_generator::check::check_tables;
 use table_generator::generate::generate;
 use table_generator::tables::{GenFault, Tables};
 use table_generator::{Tried, find_pair};
-use text_forms::numbers::{number_after, number_of, short_number_of};
 
 /// As `generate`. Where memory was refused, the call is made once more.
 fn tables_of(alloc: Global, list: &[&str], key: u64, bound: u32) -> Result<Tables, GenFault> {
     match generate(alloc, list, key, bound) {
         Err(GenFault::Memory) => generate(alloc, list, key, bound),
-        first => first,
-    }
-}
-
-/// As `check_tables`. Where memory was refused, the call is made once more.
-fn checked(alloc: Global, text: &str) -> Result<bool, Fault> {
-    match check_tables(alloc, text) {
-        Err(_) => check_tables(alloc, text),
         first => first,
     }
 }
@@ -219,36 +212,6 @@ fn are_placed_with(alloc: Global, texts: &[String], other: &str) -> Result<bool,
 fn thousand_and_one_texts(rt: HostRuntime) {
     let texts = spread(rt.alloc(), 1000).expect(&rt, "texts");
     assert_that(&rt, are_placed_with(rt.alloc(), &texts, "味噌汁") == Ok(true));
-}
-
-/// Names of several scripts under two pairs of displacements, as a program in Python placed them that was written from what is stated of the
-/// hash and of places, with another search.
-const NAMES: &str = "atom ee9d42ffbc5d841a 味噌汁
-atom fd9460e8e024ebc2 gołąbki
-atom cb0d452761586807 שקשוקה
-atom c9cea4fccea8d648 sauerkraut
-atom 1933aeba31c325e4 minestrone
-atom 9f0d8fed70392973 bouillabaisse
-atom bb1cbbc265467a6b борщ зелёный
-atom d6b28c12c11d6bd6 café au lait
-";
-
-/// Whether the names are perfect tables under these pairs.
-fn are_names_checked(alloc: Global, pairs: &str) -> Result<bool, Fault> {
-    let text = format!(in alloc; "key 3\n{pairs}\n{NAMES}")?;
-    checked(alloc, &text)
-}
-
-#[test]
-fn text_of_another_program(rt: HostRuntime) {
-    assert_that(
-        &rt,
-        are_names_checked(rt.alloc(), "disp 198 0\ndisp 196 3") == Ok(true),
-    );
-    assert_that(
-        &rt,
-        are_names_checked(rt.alloc(), "disp 196 3\ndisp 198 0") == Ok(false),
-    );
 }
 
 /// Whether the f2 of the texts differ in the lowest bit: with no displacement they have two places.
@@ -455,122 +418,4 @@ fn are_hopeless(alloc: Global, texts: &[String]) -> bool {
 fn hopeless_search(rt: HostRuntime) {
     let texts = numbered(rt.alloc(), 100).expect(&rt, "texts");
     assert_that(&rt, are_hopeless(rt.alloc(), &texts));
-}
-
-/// Texts, and whether each is the table text of perfect tables.
-const TABLE_TEXTS: [(&str, bool); 32] = [
-    ("key 0\ndisp 0 0\natom 1122334455667788 sentence\n", true),
-    (
-        "key 0\ndisp 0 0\natom 1122334455667788 sentence\natom 1122334455667788 sentence\n",
-        false,
-    ),
-    ("key 0\ndisp 0 0\natom 1122334455667788 sentence", false),
-    ("key 00\ndisp 0 0\natom 1122334455667788 sentence\n", false),
-    ("", false),
-    ("key +0\ndisp 0 0\natom 1122334455667788 sentence\n", false),
-    ("key 0\ndisp 0 0\natom 112233445566778A sentence\n", false),
-    ("key 0\ndisp 0 0\natom 112233445566778a sentence\n", true),
-    ("key 0\ndisp 0 0\natom 112233445566778 sentence\n", false),
-    ("key 0\ndisp 0 0\natom 11223344556677889 sentence\n", false),
-    ("key 0\ndisp 0 0\natom  1122334455667788 sentence\n", false),
-    ("key 0\ndisp  0 0\natom 1122334455667788 sentence\n", false),
-    ("key 0\ndisp 0 0 \natom 1122334455667788 sentence\n", false),
-    ("key 0\ndisp 0\natom 1122334455667788 sentence\n", false),
-    ("key 0\r\ndisp 0 0\natom 1122334455667788 sentence\n", false),
-    ("disp 0 0\natom 1122334455667788 sentence\n", false),
-    ("key 0\natom 1122334455667788 sentence\n", false),
-    ("key 0\natom 1122334455667788 sentence\ndisp 0 0\n", false),
-    ("key 0\ndisp 0 0\n", false),
-    ("key 0\ndisp 0 0\natom 1122334455667788 sentence\n\n", false),
-    (
-        "key 0\nkey 0\ndisp 0 0\natom 1122334455667788 sentence\n",
-        false,
-    ),
-    (
-        "key 18446744073709551615\ndisp 0 0\natom 1122334455667788 sentence\n",
-        true,
-    ),
-    (
-        "key 18446744073709551616\ndisp 0 0\natom 1122334455667788 sentence\n",
-        false,
-    ),
-    (
-        "key 0\ndisp 4294967295 4294967295\natom ffffffffffffffff sentence\n",
-        true,
-    ),
-    (
-        "key 0\ndisp 0 4294967296\natom 1122334455667788 sentence\n",
-        false,
-    ),
-    (
-        "key 0\ndisp 4294967296 0\natom 1122334455667788 sentence\n",
-        false,
-    ),
-    ("key 0\ndisp 0 0\natom 1122334455667788 \n", true),
-    ("key 0\ndisp 0 0\natom 1122334455667788\n", false),
-    // A text may have spaces and a carriage return.
-    (
-        "key 0\ndisp 0 0\natom 1122334455667788  two words\r\n",
-        true,
-    ),
-    // More displacements than texts need.
-    (
-        "key 0\ndisp 0 0\ndisp 7 7\natom 1122334455667788 sentence\n",
-        true,
-    ),
-    // The low bits of f2 are the places of the two among two.
-    (
-        "key 0\ndisp 0 0\natom 0000000000000001 sentence\natom 0000000000000002 interned\n",
-        true,
-    ),
-    (
-        "key 0\ndisp 0 0\natom 0000000000000001 interned\natom 0000000000000002 sentence\n",
-        false,
-    ),
-];
-
-#[test]
-fn table_texts(rt: HostRuntime) {
-    for (text, yes) in &TABLE_TEXTS {
-        assert_for(&rt, checked(rt.alloc(), text) == Ok(*yes), text);
-    }
-}
-
-/// Texts, and the numbers that they spell.
-const NUMBERS: [(&str, Option<u64>); 12] = [
-    ("0", Some(0)),
-    ("7", Some(7)),
-    ("10", Some(10)),
-    ("18446744073709551615", Some(u64::MAX)),
-    ("18446744073709551616", None),
-    ("", None),
-    ("00", None),
-    ("07", None),
-    ("+7", None),
-    ("-7", None),
-    (" 7", None),
-    ("7 ", None),
-];
-
-fn spells(text: &str, number: Option<u64>) -> bool {
-    number_of(text) == number
-}
-
-fn spells_short(text: &str, number: Option<u32>) -> bool {
-    short_number_of(text) == number
-}
-
-fn spells_after(text: &str, word: &str, number: Option<u64>) -> bool {
-    number_after(text, word) == number
-}
-
-#[test]
-fn spelled_numbers(rt: HostRuntime) {
-    for (text, number) in &NUMBERS {
-        assert_for(&rt, spells(text, *number), text);
-    }
-    assert_that(&rt, spells_short("4294967295", Some(u32::MAX)));
-    assert_that(&rt, spells_short("4294967296", None));
-    assert_that(&rt, spells_after("key 5", "key ", Some(5)));
-    assert_that(&rt, spells_after("key5", "key ", None));
 }

@@ -12,6 +12,8 @@ mod generated;
 #[cfg(test)]
 mod memory;
 #[cfg(test)]
+mod numbers;
+#[cfg(test)]
 mod rows;
 #[cfg(test)]
 mod runs;
