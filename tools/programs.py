@@ -16,10 +16,10 @@ TESTS = "--test"  # what makes rt try take a crate's tests, and not its program
 OUTCOME = re.compile(r"test (\S+) \.\.\. (\w+)")
 # Rt try hands the program to its clang once with this word, for the run that finds bad addresses.
 SANITIZED = "-fsanitize=address"
-# A clang that keeps that program's object without such checks, and ends rt try there. All else the kit's own compiles.
+# A clang that keeps that program's object without such checks, at a level of its own, and ends rt try there. All else the kit's own compiles.
 WRAPPER = """#!/bin/sh
 case " $* " in
-*" {sanitized} "*) "{clang}" "$@" -fno-sanitize=address -o "{made}" && exit 1 ;;
+*" {sanitized} "*) "{clang}" "$@" -fno-sanitize=address {level} -o "{made}" && exit 1 ;;
 esac
 exec "{clang}" "$@"
 """
@@ -107,10 +107,11 @@ def kit_with(clang, folder, own):
     wrapper.chmod(0o755)
 
 
-def object_of(crate, room, *kind, **environment):
-    """The object of the tests of the crate in this folder, or of its program where no kind is given, made in the room, an empty folder."""
+def object_of(crate, room, *kind, level="-O0", **environment):
+    """The object of the tests of the crate in this folder, or of its program where no kind is given, made in the room, an empty folder, with the
+    optimiser at this level: at none, as for `rt try`, tests are built sooner than they would run faster."""
     own, made = kit(), room / "made.o"
-    kit_with(WRAPPER.format(sanitized=SANITIZED, clang=compiler(own)[0], made=made), room / "kit", own)
+    kit_with(WRAPPER.format(sanitized=SANITIZED, clang=compiler(own)[0], level=level, made=made), room / "kit", own)
     # The interpreter, which comes before the compiler, gets one step.
     words = [room / "kit" / "bin" / "rt", "try", *kind, "--steps", "1", "--seconds", "1"]
     said = "".join(try_tests(crate, *words, **environment))

@@ -13,6 +13,7 @@ from pathlib import Path
 from programs import NotBuilt, link, object_of
 
 CRATE = Path(__file__).resolve().parent.parent / "crates" / "atoms"
+LEVEL = "-O1"  # of the optimiser: without it, ten megabytes of words take a minute
 
 
 def main():
@@ -23,7 +24,7 @@ def main():
     try:
         folder.mkdir(parents=True, exist_ok=True)
         with tempfile.TemporaryDirectory(prefix="try-") as room:
-            link([object_of(CRATE, Path(room))], program)
+            link([object_of(CRATE, Path(room), level=LEVEL)], program)
     except (NotBuilt, OSError, subprocess.CalledProcessError) as why:
         sys.exit(f"try_atoms: {program} can't be built: {why}")
     print(f"{program} is there, built without proofs: nothing of it was proved")
