@@ -4,6 +4,7 @@
 mod generated;
 mod lists;
 mod lives;
+mod named;
 mod sets;
 mod tables;
 mod told;

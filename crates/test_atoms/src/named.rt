@@ -4,6 +4,7 @@ ghost use Rattle.std.specs.Prelude.{◌≡◌};
 
 mod calls;
 mod keys;
+mod limits;
 
 use crate::{assert_for, assert_that};
 use calls::{
@@ -11,6 +12,7 @@ use calls::{
     is_of, json_copy, lowered, raised, stands_behind,
 };
 use keys::{are_keys, is_key};
+use limits::refuses;
 use named_atoms::NamedAtom;
 use named_set::{FreshName, NamedSet, SetName};
 use std::alloc::Global;
@@ -41,6 +43,8 @@ enum Question {
     Cells,
     /// What threads are given.
     Threads,
+    /// What calls are refused for by small limits.
+    Limits,
 }
 
 /// Whether the set answers as it must.
@@ -54,6 +58,15 @@ fn is_asked<N: SetName + Send + Sync, R: Threads + Wait + Abort + Sync>(
         Question::Atoms => tells::<N, R>(rt, set),
         Question::Cells => looks::<N, R>(rt, set),
         Question::Threads => shares::<N, R>(rt, set),
+        Question::Limits => refuses::<N, R>(rt, set),
+    }
+}
+
+/// The limits of the set that is asked: two holders of a word and two tickets of a bucket, or the greatest.
+fn limits_for(rt: &impl Abort, question: Question) -> Limits {
+    match question {
+        Question::Limits => Limits::new(2, 2).expect(rt, "limits"),
+        _ => Limits::greatest(),
     }
 }
 
@@ -66,7 +79,7 @@ fn is_answered<N: SetName + Send + Sync, R: Threads + Wait + Abort + Sync>(
 ) -> bool
     requires { N.logs ≡ name.logs }
 {
-    let set = NamedSet::new(alloc, name, Limits::greatest()).expect(rt, "a set");
+    let set = NamedSet::new(alloc, name, limits_for(rt, question)).expect(rt, "a set");
     is_asked::<N, R>(rt, &set, question)
 }
 
@@ -446,4 +459,10 @@ fn shares<N: SetName + Send + Sync, R: Threads + Wait + Abort + Sync>(
 #[test]
 fn threads_share_a_set_with_a_name(rt: HostRuntime) {
     check(&rt, rt.alloc(), Question::Threads);
+}
+
+/// A text that is held as often as it may be, and one for which no ticket is left, are refused as such by each call.
+#[test]
+fn limits_refuse_calls(rt: HostRuntime) {
+    check(&rt, rt.alloc(), Question::Limits);
 }

@@ -3,12 +3,16 @@
 use crate::assert_that;
 use crate::begun::intern;
 use std::alloc::Global;
+use std::borrow::CowStr;
 use std::process::Abort;
 use std::sync::Wait;
 use string_cache::dynamic_set::Set;
 use string_cache::word::Limits;
 use string_cache::{DefaultAtom, EmptyStaticAtomSet, Fault};
-use test_calls::{are_one, cloned, copied, has_word, is_of, json_of, links, lowered, read_json};
+use test_calls::{
+    are_one, cloned, copied, has_word, interned_cow, interned_owned, is_of, json_of, links,
+    lowered, read_json,
+};
 
 /// The first ticket of "interned", and how far apart two tickets are that a bucket gives one after the other.
 const FIRST: u64 = 0x1_0840;
@@ -39,6 +43,24 @@ fn refused<R: Wait>(rt: &R, set: &Set<EmptyStaticAtomSet>) -> Option<Fault> {
     test_calls::interned(rt, set, "interned").err()
 }
 
+/// Why it is, handed in as an owned text, and as one that may be.
+fn refused_as_owned<R: Wait + Abort>(rt: &R, set: &Set<EmptyStaticAtomSet>) -> Option<Fault> {
+    let own = String::from_str(set.allocator(), "interned").expect(rt, "a text");
+    interned_owned(rt, set, own).err()
+}
+
+fn refused_as_cow<R: Wait>(rt: &R, set: &Set<EmptyStaticAtomSet>) -> Option<Fault> {
+    interned_cow(rt, set, CowStr::Borrowed("interned")).err()
+}
+
+/// Whether "interned" is refused so, as a borrowed text and as an owned one.
+fn is_refused<R: Wait + Abort>(rt: &R, set: &Set<EmptyStaticAtomSet>, fault: Fault) -> bool {
+    let wanted = Some(fault);
+    refused(rt, set) == wanted
+        && refused_as_owned(rt, set) == wanted
+        && refused_as_cow(rt, set) == wanted
+}
+
 /// Why the text of the atom is refused, handed in as a JSON value.
 fn refused_as_json<R: Wait + Abort>(
     rt: &R,
@@ -52,7 +74,7 @@ fn refused_as_json<R: Wait + Abort>(
 /// Whether the atom's text is refused one more holder, in each way to hand it in.
 fn is_full<R: Wait + Abort>(rt: &R, set: &Set<EmptyStaticAtomSet>, atom: &DefaultAtom<'_>) -> bool {
     let full = Some(Fault::FullCount);
-    refused(rt, set) == full
+    is_refused(rt, set, Fault::FullCount)
         && refused_as_json(rt, set, atom) == full
         && lowered(rt, set, atom).err() == full
 }
@@ -67,7 +89,7 @@ fn has_one_holder<R: Wait + Abort>(rt: &R, set: &Set<EmptyStaticAtomSet>) -> boo
 fn one_holder_and_one_serial(rt: HostRuntime) {
     let set = limited(&rt, rt.alloc(), 1, 1);
     assert_that(&rt, has_one_holder(&rt, &set));
-    assert_that(&rt, refused(&rt, &set) == Some(Fault::TicketsSpent));
+    assert_that(&rt, is_refused(&rt, &set, Fault::TicketsSpent));
     assert_that(&rt, is_of(&intern(&rt, &set, "abc"), 0x6362_6131, "abc"));
 }
 

@@ -1,0 +1,290 @@
+//! Sets with a name and their atoms: a call that is made again gives the ticket that it would have given the first time.
+ghost use Rattle.std.specs.Prelude.{◌≡◌};
+
+use crate::assert_that;
+use named_atoms::NamedAtom;
+use named_set::{FreshName, NamedSet, SetName};
+use serde_json::Value;
+use std::alloc::Global;
+use std::borrow::CowStr;
+use std::io::Print;
+use std::marker::Brand;
+use std::process::Abort;
+use std::sync::Wait;
+use string_cache::word::{Buckets, Limits};
+use string_cache::{EmptyStaticAtomSet, Fault};
+use test_refusals::{End, at_last, begin, finish, finishes_refused};
+
+type Named<N> = NamedSet<EmptyStaticAtomSet, N>;
+
+type Word<'s, N> = NamedAtom<'s, EmptyStaticAtomSet, N>;
+
+/// The first two tickets of a set of one bucket.
+const FIRST: u64 = 0x1_0000;
+
+const SECOND: u64 = 0x2_0000;
+
+/// A text of 65 letters, and what it is in capitals.
+const SMALL: &str = "aaaaaaaaaaaaaaaaaaaaaaaaaaaaaaaaaaaaaaaaaaaaaaaaaaaaaaaaaaaaaaaaa";
+
+const CAPITALS: &str = "AAAAAAAAAAAAAAAAAAAAAAAAAAAAAAAAAAAAAAAAAAAAAAAAAAAAAAAAAAAAAAAAA";
+
+/// A call that may ask for memory.
+#[derive(Clone, Copy)]
+enum Call {
+    /// What makes the set.
+    Set,
+    /// What interns a text, which is handed in in one of these forms.
+    Borrowed,
+    Owned,
+    MayBeOwned,
+    Json,
+    /// What puts an atom's text into capitals.
+    Upper,
+    /// What makes an atom's JSON value.
+    ToJson,
+}
+
+fn owned(rt: &impl Abort, alloc: Global, text: &str) -> String {
+    String::from_str(alloc, text).expect(rt, "a text")
+}
+
+/// Prints the line behind a call that interns, and tells whether it was refused memory: its bucket may keep the room that it made for a cell.
+fn ends_refused<T>(rt: &impl Print, answer: &Result<T, Fault>) -> bool {
+    let is_refused = matches!(answer, Err(Fault::Memory));
+    finish(
+        rt,
+        if is_refused {
+            End::RefusedMidway
+        } else {
+            End::Given
+        },
+    );
+    is_refused
+}
+
+/// The atom of a text. A call that is refused memory is made again, here and below.
+fn interned_at_last<'s, N: SetName, R: Wait + Print>(
+    rt: &R,
+    set: &'s Named<N>,
+    text: &str,
+) -> Result<Word<'s, N>, Fault> {
+    begin(rt);
+    let answer = NamedAtom::from_str_in(rt, set, text);
+    if ends_refused(rt, &answer) {
+        return NamedAtom::from_str_in(rt, set, text);
+    }
+    answer
+}
+
+/// The atom of an owned text, made of a borrowed one the second time.
+fn owned_at_last<'s, N: SetName, R: Wait + Print>(
+    rt: &R,
+    set: &'s Named<N>,
+    first: String,
+    second: &str,
+) -> Result<Word<'s, N>, Fault> {
+    begin(rt);
+    let answer = NamedAtom::from_string_in(rt, set, first);
+    if ends_refused(rt, &answer) {
+        return NamedAtom::from_str_in(rt, set, second);
+    }
+    answer
+}
+
+/// The atom of a text that may be owned, made of a borrowed one the second time.
+fn cow_at_last<'s, N: SetName, R: Wait + Print>(
+    rt: &R,
+    set: &'s Named<N>,
+    first: CowStr<'_>,
+    second: &str,
+) -> Result<Word<'s, N>, Fault> {
+    begin(rt);
+    let answer = NamedAtom::from_cow_in(rt, set, first);
+    if ends_refused(rt, &answer) {
+        return NamedAtom::from_cow_in(rt, set, CowStr::Borrowed(second));
+    }
+    answer
+}
+
+/// The atom of a JSON value.
+fn read_at_last<'s, N: SetName, R: Wait + Print>(
+    rt: &R,
+    set: &'s Named<N>,
+    value: &Value,
+) -> Result<Word<'s, N>, Fault> {
+    begin(rt);
+    let answer = NamedAtom::from_json_in(rt, set, value);
+    if ends_refused(rt, &answer) {
+        return NamedAtom::from_json_in(rt, set, value);
+    }
+    answer
+}
+
+/// The atom of the text in capitals.
+fn upper_at_last<'s, N: SetName, R: Wait + Print>(
+    rt: &R,
+    set: &'s Named<N>,
+    atom: &Word<'s, N>,
+) -> Result<Word<'s, N>, Fault> {
+    begin(rt);
+    let answer = atom.to_ascii_uppercase_in(rt, set);
+    if ends_refused(rt, &answer) {
+        return atom.to_ascii_uppercase_in(rt, set);
+    }
+    answer
+}
+
+/// The JSON value of an atom.
+fn json_at_last<N: SetName, R: Print>(
+    rt: &R,
+    alloc: Global,
+    atom: &Word<'_, N>,
+) -> Result<Value, Fault> {
+    begin(rt);
+    let answer = atom.to_json(alloc);
+    if finishes_refused(rt, &answer) {
+        return atom.to_json(alloc);
+    }
+    answer
+}
+
+fn is_of<N: SetName>(atom: &Word<'_, N>, word: u64, text: &str) -> bool {
+    atom.unsafe_data() == word && atom.as_str() == text
+}
+
+/// Whether this is the first atom of a set, and the only one.
+fn is_first<'s, N: SetName, R: Wait + Abort>(
+    rt: &R,
+    set: &'s Named<N>,
+    answer: Result<Word<'s, N>, Fault>,
+) -> bool {
+    let atom = answer.expect(rt, "an atom");
+    is_of(&atom, FIRST, SMALL) && set.linked(rt) == 1
+}
+
+fn intern<'s, N: SetName, R: Wait + Abort>(rt: &R, set: &'s Named<N>) -> Word<'s, N> {
+    NamedAtom::from_str_in(rt, set, SMALL).expect(rt, "an atom")
+}
+
+/// Whether the text in capitals comes second.
+fn is_put_into_capitals<N: SetName, R: Wait + Print + Abort>(rt: &R, set: &Named<N>) -> bool {
+    let upper = upper_at_last(rt, set, &intern(rt, set)).expect(rt, "an atom");
+    is_of(&upper, SECOND, CAPITALS) && set.linked(rt) == 1
+}
+
+fn has_json<N: SetName, R: Wait + Print + Abort>(rt: &R, set: &Named<N>) -> bool {
+    let value = json_at_last(rt, set.allocator(), &intern(rt, set)).expect(rt, "a value");
+    value.as_str() == Some(SMALL)
+}
+
+/// Whether the call, made in a new set, gives what it must.
+fn is_made_in<N: SetName, R: Wait + Print + Abort>(rt: &R, set: &Named<N>, call: Call) -> bool {
+    let alloc = set.allocator();
+    let answer = match call {
+        Call::Set => NamedAtom::from_str_in(rt, set, SMALL),
+        Call::Borrowed => interned_at_last(rt, set, SMALL),
+        Call::Owned => owned_at_last(rt, set, owned(rt, alloc, SMALL), SMALL),
+        Call::MayBeOwned => cow_at_last(rt, set, CowStr::Owned(owned(rt, alloc, SMALL)), SMALL),
+        Call::Json => read_at_last(rt, set, &Value::String(owned(rt, alloc, SMALL))),
+        Call::Upper => return is_put_into_capitals(rt, set),
+        Call::ToJson => return has_json(rt, set),
+    };
+    is_first(rt, set, answer)
+}
+
+fn one_bucket(rt: &impl Abort) -> Buckets {
+    Buckets::new(0).expect(rt, "a number of buckets")
+}
+
+/// A new name for a set of one bucket.
+fn new_name(rt: &impl Abort, alloc: Global) -> FreshName {
+    FreshName::new(alloc, one_bucket(rt)).expect(rt, "a name")
+}
+
+/// Whether the call gives what it must in a new set with this name.
+fn is_made<N: SetName, R: Wait + Print + Abort>(
+    rt: &R,
+    alloc: Global,
+    name: FreshName,
+    call: Call,
+) -> bool
+    requires { N.logs ≡ name.logs }
+{
+    let set: Named<N> = NamedSet::new(alloc, name, Limits::greatest()).expect(rt, "a set");
+    is_made_in(rt, &set, call)
+}
+
+/// Whether it does in a new set with a name that no set has.
+fn is_made_with<R: Wait + Print + Abort>(
+    rt: &R,
+    alloc: Global,
+    name: FreshName,
+    call: Call,
+) -> bool {
+    is_made::<Brand, R>(rt, alloc, name, call)
+}
+
+/// Whether a set is made with this name or, where the call is refused memory, with another one, and has a text then.
+fn is_set_made<N: SetName, R: Wait + Print + Abort>(rt: &R, alloc: Global, name: FreshName) -> bool
+    requires { N.logs ≡ name.logs }
+{
+    begin(rt);
+    let answer: Result<Named<N>, Fault> = NamedSet::new(alloc, name, Limits::greatest());
+    if finishes_refused(rt, &answer) {
+        return is_made_with(rt, alloc, new_name(rt, alloc), Call::Set);
+    }
+    is_made_in(rt, &answer.expect(rt, "a set"), Call::Set)
+}
+
+fn is_set_made_with<R: Wait + Print + Abort>(rt: &R, alloc: Global, name: FreshName) -> bool {
+    is_set_made::<Brand, R>(rt, alloc, name)
+}
+
+fn check<R: Wait + Print + Abort>(rt: &R, alloc: Global, call: Call) {
+    assert_that(rt, is_made_with(rt, alloc, new_name(rt, alloc), call));
+}
+
+#[test]
+fn name_is_made(rt: HostRuntime) {
+    let alloc = rt.alloc();
+    let count = one_bucket(&rt);
+    let name = at_last(&rt, || FreshName::new(alloc, count)).expect(&rt, "a name");
+    assert_that(&rt, is_made_with(&rt, alloc, name, Call::Set));
+}
+
+#[test]
+fn set_with_a_name_is_made(rt: HostRuntime) {
+    let name = new_name(&rt, rt.alloc());
+    assert_that(&rt, is_set_made_with(&rt, rt.alloc(), name));
+}
+
+#[test]
+fn text_is_interned(rt: HostRuntime) {
+    check(&rt, rt.alloc(), Call::Borrowed);
+}
+
+#[test]
+fn owned_text_is_interned(rt: HostRuntime) {
+    check(&rt, rt.alloc(), Call::Owned);
+}
+
+#[test]
+fn text_that_may_be_owned_is_interned(rt: HostRuntime) {
+    check(&rt, rt.alloc(), Call::MayBeOwned);
+}
+
+#[test]
+fn json_text_is_interned(rt: HostRuntime) {
+    check(&rt, rt.alloc(), Call::Json);
+}
+
+#[test]
+fn long_text_is_put_into_capitals(rt: HostRuntime) {
+    check(&rt, rt.alloc(), Call::Upper);
+}
+
+#[test]
+fn json_is_made(rt: HostRuntime) {
+    check(&rt, rt.alloc(), Call::ToJson);
+}
