@@ -5,7 +5,8 @@
 - each line of crates.txt;
 - each call that docs/CALLS.md lists, in that form and with the first sentence said of it, and there each public call of the crates that it
   is about (gate/calls.py writes these sentences);
-- what each link leads to: a file, and a heading in it.
+- what each link leads to: a file, and a heading in it;
+- the files that have `unsafe`, as docs/PROMISES.md lists them: no other has it, and each of them does.
 
 usage: gate/pages.py [TOP]     of this repository, or of the one in that folder
 """
@@ -20,7 +21,9 @@ TOP = Path(sys.argv[1] if sys.argv[1:] else __file__).resolve()
 TOP = TOP if TOP.is_dir() else TOP.parent.parent
 CRATES = TOP / "crates"
 CALLS = TOP / "docs" / "CALLS.md"
+PROMISES = TOP / "docs" / "PROMISES.md"
 
+UNSAFE = re.compile(r"\bunsafe\s*(?:[{(]|(?:impl|fn|extern|trait)\b)")
 CLAUSE = re.compile(r"^ +(?:requires|ensures)\b.*$", re.M)
 
 
@@ -115,12 +118,27 @@ def wrong_links(pages):
             yield page, line_of(text, found.start()), None if is_there else f"nothing is at {found[0][2:-1]}"
 
 
+# ---- `unsafe`
+
+
+def wrong_unsafe():
+    """The files with `unsafe` in their code, and those that the table under "Where `unsafe` stands" names."""
+    table = read(PROMISES).partition("\n## Where `unsafe` stands\n")[2].partition("\n## ")[0]
+    rows = re.findall(r"^\| `([\w/]+)`: (.*?) \|", table, re.M)
+    named = {f"{crate}/{file}" for crate, files in rows for file in re.findall(r"`([\w/.]+)`", files)}
+    has = {str(path.relative_to(CRATES)) for path in CRATES.glob("*/src/**/*.rt") if UNSAFE.search(re.sub(r"//.*", "", read(path)))}
+    for file in sorted(named | has):
+        why = "has `unsafe`, and isn't named" if file not in named else "is named, and has no `unsafe`" if file not in has else ""
+        yield PROMISES, 1, f"{file} {why}" if why else None
+
+
 def main():
     pages = [TOP / "README.md", *sorted(TOP.glob("docs/*.md")), *sorted(CRATES.glob("*/README.md")), *sorted(CRATES.glob("*/CALLING.md"))]
     all_pages = pages + sorted(TOP.glob("clients/**/README.md"))
     results = []
     for name, found in [
         ("blocks", wrong_blocks(pages)), ("lines of crates.txt", wrong_lines(all_pages)), ("calls", wrong_calls()), ("links", wrong_links(all_pages)),
+        ("files with unsafe", wrong_unsafe()),
     ]:
         found = list(found)
         for page, line, why in found:

@@ -1,5 +1,5 @@
 -- What happens to the seats of a cell: a share more has a number of its own, and one less trades its claim for its receipt. Assumes `Logic`.
-use Rattle.std.proofs.Common.{◌≡◌, ℕ, suc, ◌+◌, ◌<◌, ◌≤◌, Bool, true, false, List, [], ◌∷◌, sym, refl, arith}
+use Rattle.std.proofs.Common.{◌≡◌, ℕ, zero, suc, ◌+◌, ◌-◌, ◌<◌, ◌≤◌, Bool, true, false, List, [], ◌∷◌, sym, refl, arith}
 use mathlib.Core.Logic.{dite}
 use native.Mathlib.Decide.{ℕ_discrete}
 use seplogic.Ra.Ura.{Ura}
@@ -9,7 +9,7 @@ use types.Logic.{Logic, sem}
 use types.Kit.{‵, ◌⊛◌, given, ◌$◌, ◌∵◌, !, qed, by, move, keep, drop, split, fsplit, fjoin, fpick, fpack, learn, use1, use2, rewrite, done}
 use types.Keyed.{token, tickets_from, entries_take, ticket_once, ticket_issued}
 use denote.Steps.{nothing}
-use Rattle.counted_cell.specs.Counting.{fact, CellName, number_out, claim, receipt_owns, seat, spare, seats, seats_with, book}
+use Rattle.counted_cell.specs.Counting.{fact, CellName, number_out, claim, receipt_owns, permit_by, permit_owns, seat, spare, seats, seats_with, book}
 
 module _ (t : CellName) where
   -- the claim of some number
@@ -58,6 +58,51 @@ module _ {M : Type 1} {𝓤 : Ura M} (𝓛 : Logic 𝓤) (t : CellName) where
     pub one_more : (n : ℕ) → ⟦ book t 0 n ⟧ ⊢ ⟦ Numbered t ⟧ ∗ ⟦ book t 0 (n + 1) ⟧
     one_more n = qed 𝓛 (‵ (book t 0 n) ∷ []) ∵ fpick ! (λ outs. fsplit ! $ fpick ! (λ is. drop ! $ use1 𝓛 (‵ (Numbered t) ⊛ ‵ (book t 0 (suc (number_out outs)))) (numbers 0 outs) $ split ! $
         let more : suc (number_out outs) ≡ n + 1 = omega (arith, is) in rewrite ! 1 (λ (k : ℕ). ‵ (book t 0 k)) more refl $ done !))
+
+  -- ---- a share more by a permit, where the cell gets no more of itself: the receipt goes into its seat, and the claim comes out
+  module _ (closed : t.grows ≡ false) where
+    -- behind the seats that are there: those before the number are made as well
+    takes_behind : (d k x : ℕ) → x ≡ k + d → ⟦ seats t k [] ⟧ ∗ ⟦ receipt_owns t x ⟧ ⊢ ⟦ Numbered t ⟧ ∗ ⟦ book t k 1 ⟧
+    takes_behind zero k x e = let here : x ≡ k = omega (arith, e) in qed 𝓛 (‵ (seats t k []) ∷ ‵ (receipt_owns t x) ∷ []) ∵ rewrite ! 1 (λ (i : ℕ). ‵ (receipt_owns t i)) here refl $ fsplit ! $
+        use1 𝓛 (‵ (claim t k) ⊛ ‵ (tickets_from t.claims (suc k))) (entries_take token 𝓛 t.claims k (λ _. tt)) $ split ! $ move ! (1 ∷ 2 ∷ []) $
+        rewrite ! 1 (λ (g : Bool). ‵ (spare t g k)) closed refl $ rewrite ! 1 (λ (g : Bool). ‵ (spare t g (suc k))) (sym closed) refl $ fjoin ! $
+        -- [the seats behind; the claim; the receipt]
+        move ! (2 ∷ 0 ∷ []) $ fjoin ! $ use1 𝓛 (‵ (book t k 1)) (packs k 1 (true ∷ []) refl) $ move ! (1 ∷ []) $ fpack ! ℕ (claim t) k $ done !
+    takes_behind (suc d) k x e = qed 𝓛 (‵ (seats t k []) ∷ ‵ (receipt_owns t x) ∷ []) ∵ fsplit ! $
+        use1 𝓛 (‵ (claim t k) ⊛ ‵ (tickets_from t.claims (suc k))) (entries_take token 𝓛 t.claims k (λ _. tt)) $ split ! $ move ! (1 ∷ 2 ∷ []) $
+        rewrite ! 1 (λ (g : Bool). ‵ (spare t g k)) closed refl $ rewrite ! 1 (λ (g : Bool). ‵ (spare t g (suc k))) (sym closed) refl $ fjoin ! $
+        -- [the seats behind; the claim; the receipt]
+        move ! (0 ∷ 2 ∷ []) $ use2 𝓛 (‵ (Numbered t) ⊛ ‵ (book t (suc k) 1)) (takes_behind d (suc k) x (omega (arith, e))) $ split ! $ move ! (2 ∷ 1 ∷ []) $
+        use2 𝓛 (‵ (book t k 1)) (before k 1 1 false (λ outs is. omega (arith, is))) $ move ! (1 ∷ []) $ done !
+
+    -- at the seat of the number
+    seat_taken : (k x : ℕ) (out : Bool) (outs : List Bool) → x ≡ k → ⟦ seat t k out ⟧ ∗ ⟦ seats t (suc k) outs ⟧ ∗ ⟦ receipt_owns t x ⟧ ⊢ ⟦ Numbered t ⟧ ∗ ⟦ book t k (suc (number_out (out ∷ outs))) ⟧
+    seat_taken k x true outs e = qed 𝓛 (‵ (receipt_owns t k) ∷ ‵ (seats t (suc k) outs) ∷ ‵ (receipt_owns t x) ∷ []) ∵
+        rewrite ! 2 (λ (i : ℕ). ‵ (receipt_owns t i)) e refl $ keep ! (0 ∷ 2 ∷ []) $ by ! (via 𝓤 (never 𝓤) (ticket_once 𝓛 t.receipts k) (never_e 𝓤 _))
+    seat_taken k x false outs e = let n : ℕ = suc (number_out (false ∷ outs)) in qed 𝓛 (‵ (claim t k) ∷ ‵ (seats t (suc k) outs) ∷ ‵ (receipt_owns t x) ∷ []) ∵
+        rewrite ! 2 (λ (i : ℕ). ‵ (receipt_owns t i)) e refl $ move ! (2 ∷ 1 ∷ []) $ fjoin ! $ use1 𝓛 (‵ (book t k n)) (packs k n (true ∷ outs) (omega arith)) $
+        move ! (1 ∷ []) $ fpack ! ℕ (claim t) k $ done !
+
+    -- on the way to the seat of the number
+    takes : (k x : ℕ) → k ≤ x → (outs : List Bool) → ⟦ seats t k outs ⟧ ∗ ⟦ receipt_owns t x ⟧ ⊢ ⟦ Numbered t ⟧ ∗ ⟦ book t k (suc (number_out outs)) ⟧
+    takes k x le [] = takes_behind (x - k) k x (omega (arith, le))
+    takes k x le (out ∷ outs) = let m : ℕ = suc (number_out outs) in let n : ℕ = suc (number_out (out ∷ outs)) in dite (ℕ_discrete x k)
+        (λ e. qed 𝓛 (‵ (seats t k (out ∷ outs)) ∷ ‵ (receipt_owns t x) ∷ []) ∵ fsplit ! $ by ! (seat_taken k x out outs e))
+        (λ other. qed 𝓛 (‵ (seats t k (out ∷ outs)) ∷ ‵ (receipt_owns t x) ∷ []) ∵ fsplit ! $ move ! (1 ∷ 2 ∷ []) $
+        use2 𝓛 (‵ (Numbered t) ⊛ ‵ (book t (suc k) m)) (takes (suc k) x (omega arith) outs) $ split ! $ move ! (2 ∷ 1 ∷ []) $
+        use2 𝓛 (‵ (book t k n)) (before k m n out (λ now_out is. omega (arith, is))) $ move ! (1 ∷ []) $ done !)
+
+    taken : (n x : ℕ) → ⟦ book t 0 n ⟧ ∗ ⟦ receipt_owns t x ⟧ ⊢ ⟦ Numbered t ⟧ ∗ ⟦ book t 0 (n + 1) ⟧
+    taken n x = qed 𝓛 (‵ (book t 0 n) ∷ ‵ (receipt_owns t x) ∷ []) ∵ fpick ! (λ outs. fsplit ! $ fpick ! (λ is. drop ! $ use2 𝓛 (‵ (Numbered t) ⊛ ‵ (book t 0 (suc (number_out outs)))) (takes 0 x (omega arith) outs) $ split ! $
+        let more : suc (number_out outs) ≡ n + 1 = omega (arith, is) in rewrite ! 1 (λ (k : ℕ). ‵ (book t 0 k)) more refl $ done !))
+
+  permitted_by : (g : Bool) → t.grows ≡ g → (n x : ℕ) → ⟦ book t 0 n ⟧ ∗ ⟦ permit_by t g x ⟧ ⊢ ⟦ Numbered t ⟧ ∗ ⟦ book t 0 (n + 1) ⟧
+  permitted_by true grows n x = qed 𝓛 (‵ (book t 0 n) ∷ ‵ (permit_by t true x) ∷ []) ∵ keep ! (0 ∷ []) $ by ! (one_more grows n)
+  permitted_by false closed n x = taken closed n x
+
+  -- by its permit, in each cell
+  pub permitted : (n x : ℕ) → ⟦ book t 0 n ⟧ ∗ ⟦ permit_owns t x ⟧ ⊢ ⟦ Numbered t ⟧ ∗ ⟦ book t 0 (n + 1) ⟧
+  permitted n x = permitted_by t.grows refl n x
 
   -- ---- a share less: no share whose claim somebody has was given back
   -- at the seat of x its claim is taken in, and its receipt handed out

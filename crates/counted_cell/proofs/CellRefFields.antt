@@ -21,7 +21,8 @@ use denote.Struct.Owning.{shape}
 use Rattle.counted_cell.specs.contracts.cell_ref.CellRef as cell_ref
 use Rattle.counted_cell.specs.contracts.cell_ref.Reading as reading
 use Rattle.counted_cell.specs.contracts.cell_ref.Receipt as receipt
-use Rattle.counted_cell.specs.Counting.{CellName, Right, CanRead, no_right, owner_right, share_right, sole_right, right_to, seen_by, seen_with, ref_owns, ref_shares}
+use Rattle.counted_cell.specs.contracts.cell_ref.Permit as permit
+use Rattle.counted_cell.specs.Counting.{CellName, Right, CanRead, no_right, owner_right, share_right, sole_right, permit_right, right_to, seen_by, seen_with, ref_owns, ref_shares}
 
 abbrev pub word_of : Ptr → Val
 word_of p = vstruct (vcons (ptr_val p) vnil)
@@ -49,6 +50,7 @@ Opens-right no_right = ⊥
 Opens-right owner_right = Unit {0}
 Opens-right share_right = Unit {0}
 Opens-right sole_right = ⊥
+Opens-right permit_right = ⊥
 
 opens : (r : Right) → CanRead r → Opens-right r
 opens r (inl e) = subst Opens-right (sym e) tt
@@ -61,6 +63,7 @@ module _ {M : Type 1} {𝓤 : Ura M} (𝓛 : Logic 𝓤) (R : RattleType) (x : R
   seen_in (block_ptr b o) owner_right can κ = guard_i 𝓤 (Unit {0}) (sem 𝓛 (seen_by R b o x t κ)) tt
   seen_in (block_ptr b o) share_right can κ = qed 𝓛 (‵ (seen_with R b o x t share_right κ) ∷ []) ∵ fsplit ! $ check ! tt $ keep ! (0 ∷ []) $ done !
   seen_in (block_ptr b o) sole_right can κ = absurd (opens sole_right can)
+  seen_in (block_ptr b o) permit_right can κ = absurd (opens permit_right can)
 
   -- a `&` to a share shows that there is one
   pub share_in : (p : Ptr) (κ : Lft) → ent 𝓤 (sem 𝓛 (ref_shares R p x t share_right κ)) (sem 𝓛 (one (λ q. flft (t.share_life ∷ []) q) κ))
@@ -87,6 +90,16 @@ ReceiptMarks = Struct (shape receipt.the_type)
 
 pub receipt_marked : {M : Type 1} {𝓤 : Ura M} (𝓛 : Logic 𝓤) → ent 𝓤 (emp 𝓤) (sem 𝓛 (ReceiptMarks.own_val (tt, tt) (reading_word ∷ [])))
 receipt_marked 𝓛 = makes_shadow 𝓛 (ReceiptMarks.own_val (tt, tt) (reading_word ∷ [])) (λ vss. (tt, ((λ uss. (tt, tt)), tt))) ((vstruct vnil ∷ [], tt), (refl, ((tt, (refl, tt)), tt)))
+
+-- and that of a `Permit`
+abbrev pub PermitMarks : RattleType
+PermitMarks = Struct (shape permit.the_type)
+
+pub permit_marked : {M : Type 1} {𝓤 : Ura M} (𝓛 : Logic 𝓤) → ent 𝓤 (emp 𝓤) (sem 𝓛 (PermitMarks.own_val (tt, tt) (reading_word ∷ [])))
+permit_marked 𝓛 = makes_shadow 𝓛 (PermitMarks.own_val (tt, tt) (reading_word ∷ [])) (λ vss. (tt, ((λ uss. (tt, tt)), tt))) ((vstruct vnil ∷ [], tt), (refl, ((tt, (refl, tt)), tt)))
+
+pub permit_told : (vs : List Val) → Is PermitMarks (tt, tt) vs → vs ≡ reading_word ∷ []
+permit_told vs is = is.1.0 ∙ ap (λ (ws : List Val). vstruct (of_list (ws ++ [])) ∷ []) is.1.1.0.1.0
 
 pub reading_told : (vs : List Val) → Is Marks (tt, tt) vs → vs ≡ reading_word ∷ []
 reading_told vs is = is.1.0 ∙ ap (λ (ws : List Val). vstruct (of_list (ws ++ [])) ∷ []) is.1.1.0.1.0

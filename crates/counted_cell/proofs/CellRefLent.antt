@@ -17,7 +17,7 @@ use denote.SharingLaws.{contraction, beside_shr_laws, one_shr_laws, always_shr_l
 use denote.Moves.{moves_from}
 use denote.Steps.{nothing}
 use denote.Struct.Lending.{Lends, Lends-false, Lends-nothing, Lends-first, Lends-both, lent_at_shr_laws}
-use Rattle.counted_cell.specs.Counting.{CellName, Right, no_right, owner_right, share_right, sole_right, offset, Inv, shown, reads, claim, share_owns, right_to, seen_by, ref_owns, ref_shares}
+use Rattle.counted_cell.specs.Counting.{CellName, Right, no_right, owner_right, share_right, sole_right, permit_right, offset, Inv, shown, reads, claim, share_owns, right_to, seen_by, ref_owns, ref_shares}
 
 module _ {M : Type 1} {𝓤 : Ura M} (𝓛 : Logic 𝓤) where
   open 𝓛 use {H, A}
@@ -104,6 +104,7 @@ module _ (R : RattleType) (L : RowLaws R) (x : R.Denot) (t : CellName) where
   ref_laws (block_ptr b o) owner_right = seen_laws R L b o x t
   ref_laws (block_ptr b o) share_right = beside_shr_laws (seen_by R b o x t) (one (λ q. flft (t.share_life ∷ []) q)) (seen_laws R L b o x t) (one_shr_laws (λ q. flft (t.share_life ∷ []) q))
   ref_laws (block_ptr b o) sole_right = nothing_shr_laws
+  ref_laws (block_ptr b o) permit_right = nothing_shr_laws
 
   pub Lends-ref : {M : Type 1} {𝓤 : Ura M} (𝓛 : Logic 𝓤) (l : Lft) (p : Ptr) (number : ℕ) (right : Right) → Lends 𝓛 (ref_owns R p x t number right) (ref_shares R p x t right) l
   Lends-ref 𝓛 l null_ptr number right = Lends-false 𝓛 (ref_shares R null_ptr x t right) l
@@ -112,3 +113,4 @@ module _ (R : RattleType) (L : RowLaws R) (x : R.Denot) (t : CellName) where
   Lends-ref 𝓛 l (block_ptr b o) number share_right = let alive : Lft → Fml = one (λ q. flft (t.share_life ∷ []) q) in
       Lends-both 𝓛 (reads R b o x t) (share_owns t number) (seen_by R b o x t) alive l (Lends-reads R L b o x t 𝓛 l) (Lends-first 𝓛 (part 64 t.share_life) (claim t number) alive l (Lends-part 𝓛 t.share_life l))
   Lends-ref 𝓛 l (block_ptr b o) number sole_right = Lends-nothing 𝓛 (right_to R b o x t number sole_right) l
+  Lends-ref 𝓛 l (block_ptr b o) number permit_right = Lends-nothing 𝓛 (right_to R b o x t number permit_right) l

@@ -10,7 +10,7 @@ use denote.Builtin.{RawPtr}
 use denote.Struct.Struct.{exits_of}
 use denote.Struct.Owning.{shape, fields, to}
 use denote.Param.Send.{IsSend, IsSync, Quiet, owning_send, struct_send, struct_sync, sendable}
-use Rattle.counted_cell.specs.Counting.{CellName, Right, no_right, owner_right, share_right, sole_right, shares_out, spare, seats, phase, offset, shown, reads, seen_by, ref_owns, ref_shares}
+use Rattle.counted_cell.specs.Counting.{CellName, Right, no_right, owner_right, share_right, sole_right, permit_right, permit_by, shares_out, spare, seats, phase, offset, shown, reads, seen_by, ref_owns, ref_shares}
 use Rattle.counted_cell.specs.contracts.cell_ref.CellRef.{the_row, the_type}
 
 pub quiet : {D X : Type 0} (to : D → X) (e : Exit X) → Quiet e → Quiet (hidden (under to e))
@@ -24,6 +24,10 @@ out_keyless t n false = ((λ _. tt), tt)
 spare_keyless : (t : CellName) (k : ℕ) (grows : Bool) → Keyless (spare t grows k)
 spare_keyless t k true = entries_keyless token t.receipts k (λ _. tt)
 spare_keyless t k false = tt
+
+permit_keyless : (t : CellName) (grows : Bool) (number : ℕ) → Keyless (permit_by t grows number)
+permit_keyless t true number = tt
+permit_keyless t false number = entry_keyless token t.receipts number tt
 
 seats_keyless : (t : CellName) (k : ℕ) (outs : List Bool) → Keyless (seats t k outs)
 seats_keyless t k [] = (entries_keyless token t.claims k (λ _. tt), spare_keyless t k t.grows)
@@ -47,6 +51,7 @@ module _ (T : RattleType) (y : IsSync T) (x : T.Denot) (t : CellName) where
   owned_keyless (block_ptr b o) number owner_right = reads_keyless b o
   owned_keyless (block_ptr b o) number share_right = (reads_keyless b o, ((λ e c. tt), entry_keyless token t.claims number tt))
   owned_keyless (block_ptr b o) number sole_right = (tt, tt)
+  owned_keyless (block_ptr b o) number permit_right = permit_keyless t t.grows number
 
   seen_keyless : (b o : ℕ) (κ : Lft) → Keyless (seen_by T b o x t κ)
   seen_keyless b o κ = ((λ q. tt), (phase_keyless t b (o + 0), shown_keyless b o (t.value_life ∷ [])))
@@ -57,6 +62,7 @@ module _ (T : RattleType) (y : IsSync T) (x : T.Denot) (t : CellName) where
   shared_keyless (block_ptr b o) owner_right κ = seen_keyless b o κ
   shared_keyless (block_ptr b o) share_right κ = (seen_keyless b o κ, (λ q. tt))
   shared_keyless (block_ptr b o) sole_right κ = tt
+  shared_keyless (block_ptr b o) permit_right κ = tt
 
 ps : IsSend RawPtr
 ps = search sendable

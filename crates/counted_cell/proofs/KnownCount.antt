@@ -115,6 +115,13 @@ module _ {M : Type 1} {𝓤 : Ura M} (𝓛 : Logic 𝓤) (t : CellName) (closed 
         use2 𝓛 (later (‵ (book t 0 n) ⊛ ‵ (lacking t 0 Receives))) step $ await ! tt $ split ! $
         use2 𝓛 (given (n ≡ number_out Receives) (‵ (book t 0 n) ⊛ ‵ (lacking t 0 Receives))) (known n Receives) $ learn ! (λ receives. let less = one_out before after in absurd (omega (arith, claims, receives, less))))
 
+  -- ---- and one that added a share and had what it had before, its permit with it, would show what is false
+  pub no_free_share : (n : ℕ) (mine : List Bool) → ⟦ book t 0 n ⟧ ∗ ⟦ lacking t 0 mine ⟧ ⊢ H.⇛ (⟦ book t 0 (suc n) ⟧ ∗ ⟦ lacking t 0 mine ⟧) → ⟦ book t 0 n ⟧ ∗ ⟦ lacking t 0 mine ⟧ ⊢ H.⇛ (never 𝓤)
+  no_free_share n mine step = qed 𝓛 (‵ (book t 0 n) ∷ ‵ (lacking t 0 mine) ∷ []) ∵ updating ! $
+      use2 𝓛 (given (n ≡ number_out mine) (‵ (book t 0 n) ⊛ ‵ (lacking t 0 mine))) (known n mine) $ learn ! (λ before. split ! $
+      use2 𝓛 (later (‵ (book t 0 (suc n)) ⊛ ‵ (lacking t 0 mine))) step $ await ! tt $ split ! $
+      use2 𝓛 (given (suc n ≡ number_out mine) (‵ (book t 0 (suc n)) ⊛ ‵ (lacking t 0 mine))) (known (suc n) mine) $ learn ! (λ after. absurd (omega (arith, before, after))))
+
   -- ---- two new rows are the seats of such a cell, and what they lack: here all of n shares are out
   pub begins_closed : (n k : ℕ) → ⟦ tickets_from t.claims k ⟧ ∗ ⟦ tickets_from t.receipts k ⟧ ⊢ ⟦ seats t k (all_out n) ⟧ ∗ ⟦ lacking t k (all_out n) ⟧
   begins_closed zero k = qed 𝓛 (‵ (tickets_from t.claims k) ∷ ‵ (tickets_from t.receipts k) ∷ []) ∵ nothing ! $ rewrite ! 0 (λ (g : Bool). ‵ (spare t g k)) (sym closed) refl $ move ! (1 ∷ 0 ∷ []) $ fjoin ! $ done !

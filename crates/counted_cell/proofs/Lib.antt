@@ -3,6 +3,7 @@ pub mod KnownCount
 pub mod Steps
 pub mod CellRefLent
 pub mod Names
+pub mod EndNames
 pub mod CellRefFields
 pub mod Gains
 pub mod CellRefSent

@@ -16,8 +16,8 @@ use types.RcWeak.{part, rest, takes, gives, whole, rest_some}
 use denote.RawPtr.{block_ptr}
 use denote.Steps.{nothing}
 use Rattle.std.specs.Sync.RawAtomic.{Shift, rests, ends, enters, leaves, along, shifted, if_none, back, found, asks, always, word}
-use Rattle.counted_cell.specs.Counting.{fact, CellName, shares_out, book, counted, standing, phase, Inv, reading_owns, share_owns, receipt_owns}
-use Rattle.counted_cell.proofs.Book.{Numbered, one_more, Traded, one_less}
+use Rattle.counted_cell.specs.Counting.{fact, CellName, shares_out, book, counted, standing, phase, Inv, reading_owns, share_owns, receipt_owns, permit_owns}
+use Rattle.counted_cell.proofs.Book.{Numbered, permitted, Traded, one_less}
 
 module _ {M : Type 1} {𝓤 : Ura M} (𝓛 : Logic 𝓤) (b o : ℕ) (t : CellName) where
   open 𝓛 use {H, A}
@@ -164,35 +164,35 @@ module _ {M : Type 1} {𝓤 : Ura M} (𝓛 : Logic 𝓤) (b o : ℕ) (t : CellNa
         move ! (2 ∷ 1 ∷ []) $ fjoin ! $ move ! (1 ∷ 0 ∷ []) $ by ! (plainly j (Looked n)))
 
     -- ---- a share more
-    module _ (seen : ℕ) (pos : 0 < seen) (room : seen + 2 < 2 ^ 64) (below : seen < t.limit) (grows : t.grows ≡ true) where
+    module _ (seen : ℕ) (pos : 0 < seen) (room : seen + 2 < 2 ^ 64) (below : seen < t.limit) (x : ℕ) where
       abbrev pub more : ℕ → ℕ
       more n = either (eqb n seen) (seen + 1) n
 
       abbrev pub won : ℕ → Bool → Fml
       won n true = fsep (fact (n ≡ seen)) (fsep (part 64 t.value_life) (fsep (part 64 t.share_life) (Numbered t)))
-      won n false = fact (n ≢ seen)
+      won n false = fsep (fact (n ≢ seen)) (permit_owns t x)
 
       abbrev pub Raised : ℕ → Fml
       Raised n = fsep (flft a s) (fsep (reading_owns t n) (fex Bool (won n)))
 
-      raise_from : (j : ℕ) (y : Bool) → ⟦ shares_out t seen y ⟧ ∗ ⟦ rest 64 t.value_life (seen + 1) ⟧ ∗ ⟦ book t 0 seen ⟧ ∗ ⟦ word b o (seen + 1) ⟧ ∗ A.lft a s ⊢ Then j (Raised seen)
-      raise_from j false = qed 𝓛 (‵ (shares_out t seen false) ∷ ‵ (rest 64 t.value_life (seen + 1)) ∷ ‵ (book t 0 seen) ∷ ‵ (word b o (seen + 1)) ∷ ‵ (flft a s) ∷ []) ∵ fsplit ! $ fpick ! (λ z. absurd (omega arith))
-      raise_from j true = qed 𝓛 (‵ (rest 64 t.share_life seen) ∷ ‵ (rest 64 t.value_life (seen + 1)) ∷ ‵ (book t 0 seen) ∷ ‵ (word b o (seen + 1)) ∷ ‵ (flft a s) ∷ []) ∵
+      raise_from : (j : ℕ) (y : Bool) → ⟦ shares_out t seen y ⟧ ∗ ⟦ rest 64 t.value_life (seen + 1) ⟧ ∗ ⟦ book t 0 seen ⟧ ∗ ⟦ permit_owns t x ⟧ ∗ ⟦ word b o (seen + 1) ⟧ ∗ A.lft a s ⊢ Then j (Raised seen)
+      raise_from j false = qed 𝓛 (‵ (shares_out t seen false) ∷ ‵ (rest 64 t.value_life (seen + 1)) ∷ ‵ (book t 0 seen) ∷ ‵ (permit_owns t x) ∷ ‵ (word b o (seen + 1)) ∷ ‵ (flft a s) ∷ []) ∵ fsplit ! $ fpick ! (λ z. absurd (omega arith))
+      raise_from j true = qed 𝓛 (‵ (rest 64 t.share_life seen) ∷ ‵ (rest 64 t.value_life (seen + 1)) ∷ ‵ (book t 0 seen) ∷ ‵ (permit_owns t x) ∷ ‵ (word b o (seen + 1)) ∷ ‵ (flft a s) ∷ []) ∵
           use1 𝓛 (‵ (rest 64 t.share_life (seen + 1)) ⊛ ‵ (part 64 t.share_life)) (takes 64 𝓛 t.share_life seen (omega arith)) $ split ! $ fpack ! Bool (shares_out t (seen + 1)) true $ move ! (2 ∷ []) $
           use1 𝓛 (‵ (rest 64 t.value_life ((seen + 1) + 1)) ⊛ ‵ (part 64 t.value_life)) (takes 64 𝓛 t.value_life (seen + 1) (omega arith)) $ split ! $ move ! (0 ∷ 2 ∷ []) $ fjoin ! $
-          -- [the tally; a's part; c's part; the book; the word; a's token]
-          move ! (3 ∷ []) $ use1 𝓛 (‵ (Numbered t) ⊛ ‵ (book t 0 (seen + 1))) (one_more 𝓛 t grows seen) $ split ! $ move ! (2 ∷ 1 ∷ []) $ fjoin ! $ move ! (4 ∷ 0 ∷ []) $
+          -- [the tally; a's part; c's part; the book; the permit; the word; a's token]
+          move ! (3 ∷ 4 ∷ []) $ use2 𝓛 (‵ (Numbered t) ⊛ ‵ (book t 0 (seen + 1))) (permitted 𝓛 t seen x) $ split ! $ move ! (2 ∷ 1 ∷ []) $ fjoin ! $ move ! (4 ∷ 0 ∷ []) $
           use2 𝓛 (‵ I) (stood (seen + 1) (omega arith)) $ move ! (3 ∷ 1 ∷ []) $ fjoin ! $ move ! (2 ∷ 0 ∷ []) $ fjoin ! $ nothing ! $ fpack ! (seen ≡ seen) (λ _. ftrue) refl $ fjoin ! $ fpack ! Bool (won seen) true $
           nothing ! $ use1 𝓛 (‵ (reading_owns t seen)) (all_i 𝓤 (λ (_ : seen ≡ 0). A.dead c) (λ z. absurd (omega arith))) $ fjoin ! $ move ! (2 ∷ 0 ∷ []) $ fjoin ! $ move ! (1 ∷ 0 ∷ []) $
           by ! (plainly j (Raised seen))
 
-      pub raises : A.inv I ∗ A.lft a s ⊢ asks 𝓛 (block_ptr b o) more always Raised
-      raises = stepped more Raised (A.lft a s) (qed 𝓛 (‵ (fdead a) ∷ ‵ (flft a s) ∷ []) ∵ move ! (1 ∷ 0 ∷ []) $ by ! (not_dead a s (never 𝓤)))
-          (λ j n fits le. let F : Bool → Type 1 = λ y. ⟦ word b o (either y (seen + 1) n) ⟧ ∗ (⟦ St n ⟧ ∗ A.lft a s) ⊢ Then j (Raised n) in dite (ℕ_discrete n seen)
-          (λ e. subst F (sym (eq-eqb n seen e)) (subst (λ (k : ℕ). ⟦ word b o (seen + 1) ⟧ ∗ (⟦ St k ⟧ ∗ A.lft a s) ⊢ Then j (Raised k)) (sym e)
-          (qed 𝓛 (‵ (word b o (seen + 1)) ∷ ‵ (St seen) ∷ ‵ (flft a s) ∷ []) ∵ move ! (1 ∷ []) $ fsplit ! $ fsplit ! $ move ! (1 ∷ []) $ fpick ! (λ y. by ! (raise_from j y)))))
-          (λ miss. subst F (sym (ne_eqb n seen miss)) (qed 𝓛 (‵ (word b o n) ∷ ‵ (St n) ∷ ‵ (flft a s) ∷ []) ∵ move ! (1 ∷ []) $ use1 𝓛 (‵ (St n) ⊛ ‵ (reading_owns t n)) (count_read n) $ split ! $ move ! (2 ∷ 0 ∷ []) $ use2 𝓛 (‵ I) (stood n le) $
-          nothing ! $ fpack ! (n ≢ seen) (λ _. ftrue) miss $ fpack ! Bool (won n) false $ move ! (2 ∷ 0 ∷ []) $ fjoin ! $ move ! (2 ∷ 0 ∷ []) $ fjoin ! $ move ! (1 ∷ 0 ∷ []) $ by ! (plainly j (Raised n)))))
+      pub raises : A.inv I ∗ (A.lft a s ∗ ⟦ permit_owns t x ⟧) ⊢ asks 𝓛 (block_ptr b o) more always Raised
+      raises = stepped more Raised (A.lft a s ∗ ⟦ permit_owns t x ⟧) (qed 𝓛 (‵ (fdead a) ∷ ‵ (flft a s) ∷ ‵ (permit_owns t x) ∷ []) ∵ keep ! (1 ∷ 0 ∷ []) $ by ! (not_dead a s (never 𝓤)))
+          (λ j n fits le. let F : Bool → Type 1 = λ y. ⟦ word b o (either y (seen + 1) n) ⟧ ∗ (⟦ St n ⟧ ∗ (A.lft a s ∗ ⟦ permit_owns t x ⟧)) ⊢ Then j (Raised n) in dite (ℕ_discrete n seen)
+          (λ e. subst F (sym (eq-eqb n seen e)) (subst (λ (k : ℕ). ⟦ word b o (seen + 1) ⟧ ∗ (⟦ St k ⟧ ∗ (A.lft a s ∗ ⟦ permit_owns t x ⟧)) ⊢ Then j (Raised k)) (sym e)
+          (qed 𝓛 (‵ (word b o (seen + 1)) ∷ ‵ (St seen) ∷ ‵ (flft a s) ∷ ‵ (permit_owns t x) ∷ []) ∵ move ! (1 ∷ []) $ fsplit ! $ fsplit ! $ move ! (1 ∷ []) $ fpick ! (λ y. move ! (0 ∷ 1 ∷ 2 ∷ 5 ∷ []) $ by ! (raise_from j y)))))
+          (λ miss. subst F (sym (ne_eqb n seen miss)) (qed 𝓛 (‵ (word b o n) ∷ ‵ (St n) ∷ ‵ (flft a s) ∷ ‵ (permit_owns t x) ∷ []) ∵ move ! (1 ∷ []) $ use1 𝓛 (‵ (St n) ⊛ ‵ (reading_owns t n)) (count_read n) $ split ! $ move ! (2 ∷ 0 ∷ []) $ use2 𝓛 (‵ I) (stood n le) $
+          nothing ! $ fpack ! (n ≢ seen) (λ _. ftrue) miss $ move ! (0 ∷ 4 ∷ []) $ fjoin ! $ fpack ! Bool (won n) false $ move ! (2 ∷ 0 ∷ []) $ fjoin ! $ move ! (2 ∷ 0 ∷ []) $ fjoin ! $ move ! (1 ∷ 0 ∷ []) $ by ! (plainly j (Raised n)))))
 
   -- ---- the owner's end
   abbrev pub over : ℕ → Bool → Fml

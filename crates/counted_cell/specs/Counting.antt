@@ -60,27 +60,31 @@ abbrev pub number_out : List Bool → ℕ
 number_out [] = 0
 number_out (out ∷ outs) = cond out 1 0 + number_out outs
 
--- what a reference to a cell may do: nothing; read, and end the cell; read, and count as a share; or have the cell to itself
+-- what a reference to a cell may do: nothing; read, and end the cell; read, and count as a share; have the cell to itself; or add one share,
+-- by the permit that it keeps
 pub data Right : Type 0 where
   no_right : Right
   owner_right : Right
   share_right : Right
   sole_right : Right
+  permit_right : Right
 
 abbrev right_number : Right → ℕ
 right_number no_right = 0
 right_number owner_right = 1
 right_number share_right = 2
 right_number sole_right = 3
+right_number permit_right = 4
 
 abbrev right_of : ℕ → Right
-right_of n = cond (n == 0) no_right (cond (n == 1) owner_right (cond (n == 2) share_right sole_right))
+right_of n = cond (n == 0) no_right (cond (n == 1) owner_right (cond (n == 2) share_right (cond (n == 3) sole_right permit_right)))
 
 pub right_of-right_number : (r : Right) → right_of (right_number r) ≡ r
 right_of-right_number no_right = refl
 right_of-right_number owner_right = refl
 right_of-right_number share_right = refl
 right_of-right_number sole_right = refl
+right_of-right_number permit_right = refl
 
 abbrev pub right_coded : Coded Right
 right_coded = code_by ℕ coded_ℕ right_number right_of right_of-right_number
@@ -114,9 +118,15 @@ module _ (t : CellName) where
   abbrev pub receipt_owns : ℕ → Fml
   receipt_owns number = ticket t.receipts number
 
-  -- the receipt of one share or another
-  abbrev pub some_receipt : Fml
-  some_receipt = fex ℕ receipt_owns
+  -- What an addition spends. Where the cell gets more shares it is nothing. Else it is the receipt of some number: that lies in no seat, so
+  -- its seat has the claim, or the number is yet to come. The addition puts the receipt in and takes the claim out, as a subtraction turned
+  -- round. So nobody has it again who doesn't give a share back.
+  abbrev pub permit_by : Bool → ℕ → Fml
+  permit_by true number = ftrue
+  permit_by false number = receipt_owns number
+
+  abbrev pub permit_owns : ℕ → Fml
+  permit_owns number = permit_by t.grows number
 
   -- what a share has beside what it reads
   abbrev pub share_owns : ℕ → Fml
@@ -176,6 +186,7 @@ module _ (R : RattleType) (b o : ℕ) (x : R.Denot) (t : CellName) where
   right_to number owner_right = reads
   right_to number share_right = fsep reads (share_owns t number)
   right_to number sole_right = fsep (word b (o + 0) 0) (fdead (t.value_life ∷ []))
+  right_to number permit_right = permit_owns t number
 
   -- what a `&` to one of them has
   abbrev pub seen_by : Lft → Fml
@@ -186,6 +197,7 @@ module _ (R : RattleType) (b o : ℕ) (x : R.Denot) (t : CellName) where
   seen_with owner_right = seen_by
   seen_with share_right = beside seen_by (one (λ q. flft (t.share_life ∷ []) q))
   seen_with sole_right = nothing
+  seen_with permit_right = nothing
 
 abbrev pub ref_owns : (R : RattleType) → Ptr → R.Denot → CellName → ℕ → Right → Fml
 ref_owns R (block_ptr b o) x t number right = right_to R b o x t number right

@@ -3,7 +3,7 @@
 //! A step is one atomic operation: a load, a compare-and-exchange upwards, or a subtraction. All are sequentially consistent, and the
 //! proofs are of that ordering alone: they say nothing of a weaker one.
 ghost use Rattle.std.specs.Prelude.{◌≡◌, ◌≢◌, true, ℕ, ◌+◌, ◌^◌, ◌<◌};
-ghost use Rattle.counted_cell.specs.Counting.{CellName, cell_name_coded, Right, right_coded, CanRead, no_right, owner_right, share_right, sole_right, ref_owns, ref_shares, reading_owns, receipt_owns};
+ghost use Rattle.counted_cell.specs.Counting.{CellName, cell_name_coded, Right, right_coded, CanRead, no_right, owner_right, share_right, sole_right, permit_right, ref_owns, ref_shares, reading_owns, receipt_owns, permit_owns};
 ghost use Rattle.counted_cell.specs.BlockRight.{header_bytes};
 ghost use denote.RawPtr.{◌+ₚ◌};
 
@@ -56,7 +56,34 @@ impl Model for Receipt {
     ghost also_owns = { λ r. receipt_owns r.name r.number };
 }
 
+/// Leave to add one share to a cell. An addition spends it, and one that adds nothing hands it back. It takes no space.
+///
+/// For a cell that gets more shares, as each that is made, it is nothing, and `CellRef::free` makes one. But nothing that runs can tell such a
+/// cell from one that gets none of itself, and there each permit is one of a row that nobody can add to. So a body that adds a share has no
+/// permit to hand back.
+#[derive(Drop)]
+pub struct Permit {
+    marker: PhantomData<()>,
+    pub ghost name: { CellName } by { cell_name_coded },
+    pub ghost number: { ℕ },
+}
+
+impl Model for Permit {
+    ghost also_owns = { λ p. permit_owns p.name p.number };
+}
+
 impl<T> CellRef<T> {
+    /// A permit, where the cell gets more shares. It does nothing when it runs.
+    #[inline]
+    pub fn free(&self) -> Permit
+        requires { self.now.name.grows ≡ true }
+        ensures { result.name ≡ self.now.name }
+    {
+        Permit {
+            marker: PhantomData,
+        }
+    }
+
     /// What the cell holds, which never changes.
     pub fn get(&self) -> &T
         requires { CanRead self.now.right }
@@ -93,14 +120,15 @@ impl<T> CellRef<T> {
     }
 
     /// One share more, where the count is still `seen`, which is above 0 and below the limit: one exchange. Returns the count that
-    /// was found, and the right to the share where that is `seen`. The cell is one that gets more shares, as each that is made.
-    pub fn increment(&self, seen: u64) -> (u64, Reading, CellRef<T>)
+    /// was found, and the right to the share where that is `seen`. The permit is spent then, and else `unspent` hands it back.
+    pub fn increment(&self, seen: u64, permit: Permit) -> (u64, Reading, CellRef<T>)
         requires reads { CanRead self.now.right }
-        requires grows { self.now.name.grows ≡ true }
+        requires permit { permit.name ≡ self.now.name }
         requires room { (0 < seen) × (seen < self.now.name.limit) × (seen + 1 < 2 ^ 63) }
         ensures found { (result.1.name ≡ self.now.name) × (result.1.count ≡ result.0) × (result.2.value ≡ self.now.value) × (result.2.name ≡ self.now.name) × (result.2.ptr ≡ self.now.ptr) }
-        ensures gained { (result.0 ≡ seen → result.2.right ≡ share_right) × (result.0 ≢ seen → result.2.right ≡ no_right) }
+        ensures gained { (result.0 ≡ seen → result.2.right ≡ share_right) × (result.0 ≢ seen → (result.2.right ≡ permit_right) × (result.2.number ≡ permit.number)) }
     {
+        let Permit { marker: _ } = permit;
         let ptr = self.ptr;
         let more = seen + 1;
         let found = unsafe { exchange::<Brand>(&raw const (*ptr).count, seen, more) };
@@ -133,6 +161,18 @@ impl<T> CellRef<T> {
                 marker: PhantomData,
             },
         )
+    }
+
+    /// The end of a reference that gained no share: the permit again.
+    #[inline]
+    pub fn unspent(self) -> Permit
+        requires { self.right ≡ permit_right }
+        ensures { (result.name ≡ self.name) × (result.number ≡ self.number) }
+    {
+        let CellRef { ptr: _ } = self;
+        Permit {
+            marker: PhantomData,
+        }
     }
 
     /// The end of a reference that gained nothing.

@@ -1,10 +1,10 @@
 //! The owner of a cell.
-ghost use Rattle.std.specs.Prelude.{◌≡◌, ◌^◌, ◌<◌, ◌≤◌, length, IfErr, IfOk, IfSome};
+ghost use Rattle.std.specs.Prelude.{◌≡◌, true, ◌^◌, ◌<◌, ◌≤◌, length, IfErr, IfOk};
 ghost use Rattle.counted_cell.specs.Cell.{block_size, most_bytes};
 
 use crate::block::{FreeRight, allocate, deallocate};
 use crate::block_right::{BlockRight, begin, reclaim};
-use crate::cell_ref::CellRef;
+use crate::cell_ref::{CellRef, Permit};
 use crate::content::Content;
 use crate::ending::Ending;
 use crate::evidence::{CountSeen, NoShares, SharesLeft};
@@ -30,7 +30,7 @@ pub struct Owner<A: Allocator> {
 }
 
 impl<A: Allocator> Model for Owner<A> {
-    ghost use Rattle.std.specs.Prelude.{◌≡◌, true, ◌^◌, ◌<◌, ◌≤◌, length};
+    ghost use Rattle.std.specs.Prelude.{◌≡◌, ◌^◌, ◌<◌, ◌≤◌, length};
     ghost use Rattle.counted_cell.specs.Cell.{Cell, IsBehind, cell_of, most_bytes};
     ghost use Rattle.counted_cell.specs.Counting.{owner_right};
 
@@ -38,7 +38,7 @@ impl<A: Allocator> Model for Owner<A> {
 
     ghost view = { λ o. cell_of o.cell };
 
-    ghost invariant = { λ o. (o.cell.right ≡ owner_right) × (o.cell.value.label.limit ≡ o.cell.name.limit) × (o.cell.name.limit < 2 ^ 63) × (o.cell.name.grows ≡ true)
+    ghost invariant = { λ o. (o.cell.right ≡ owner_right) × (o.cell.value.label.limit ≡ o.cell.name.limit) × (o.cell.name.limit < 2 ^ 63)
         × ((o.block.name ≡ o.cell.name) × (o.block.value ≡ o.cell.value) × (o.block.ptr ≡ o.free.at) × (o.cell.ptr ≡ o.block.ptr))
         × ((o.free.alloc ≡ o.alloc) × IsBehind o.cell × (length o.block.value.text.places.slots ≡ o.free.len) × (o.free.len ≤ most_bytes)) };
 }
@@ -80,6 +80,7 @@ impl<A: Allocator> Owner<A> {
         requires { (1 ≤ label.limit) × (label.limit < 2 ^ 63) }
         ensures owner { IfOk result (λ made. (made.0.label ≡ label) × (made.0.note ≡ note) × (made.0.text ≡ text.now)) }
         ensures limit { IfOk result (λ made. made.0.name.limit ≡ label.limit) }
+        ensures grows { IfOk result (λ made. made.0.name.grows ≡ true) }
         ensures share { IfOk result (λ made. made.1.cell ≡ made.0) }
     {
         let len = text.len();
@@ -130,21 +131,33 @@ impl<A: Allocator> Owner<A> {
         CountSeen { seen, reading }
     }
 
-    /// One share more of the cell.
+    /// A permit, where the cell gets more shares, as each that `new` makes. It does nothing when it runs.
     #[inline]
-    pub fn add<R: Wait>(&self, rt: &R) -> ShareReply
-        ensures { IsReply self.now result }
+    pub fn permit(&self) -> Permit
+        requires { self.now.name.grows ≡ true }
+        ensures { result.name ≡ self.now.name }
     {
-        ShareReply::one_more(rt, &self.cell)
+        self.cell.free()
     }
 
-    /// One share more of the cell, by a single try that waits for nothing. `None` where another step on the count came between, or the cell
-    /// has no share, or as many as it may have: then nothing has changed. `add` tries on, and tells which.
+    /// One share more of the cell, for the permit.
     #[inline]
-    pub fn try_add(&self) -> Option<CellShare>
-        ensures { IfSome result (λ share. share.cell ≡ self.now) }
+    pub fn add<R: Wait>(&self, rt: &R, permit: Permit) -> ShareReply
+        requires { permit.name ≡ self.now.name }
+        ensures { IsReply self.now permit.number result }
     {
-        CellShare::tried(&self.cell)
+        ShareReply::one_more(rt, &self.cell, permit)
+    }
+
+    /// One share more of the cell, for the permit, by a single try that waits for nothing. The permit is there again where another step on the
+    /// count came between, or the cell has no share, or as many as it may have. `add` tries on, and tells which.
+    #[inline]
+    pub fn try_add(&self, permit: Permit) -> Result<CellShare, Permit>
+        requires { permit.name ≡ self.now.name }
+        ensures added { IfOk result (λ share. share.cell ≡ self.now) }
+        ensures left { IfErr result (λ left. (left.name ≡ self.now.name) × (left.number ≡ permit.number)) }
+    {
+        CellShare::tried(&self.cell, permit)
     }
 
     /// Where the count reads 0: that no share is left. Where it reads 1 or more: that one was.

@@ -1,9 +1,9 @@
 //! What an addition of a share answers.
-ghost use Rattle.std.specs.Prelude.{◌≡◌, true, ◌<◌, ◌^◌};
+ghost use Rattle.std.specs.Prelude.{◌≡◌, ◌<◌, ◌^◌};
 ghost use Rattle.counted_cell.specs.Counting.{CanRead};
 ghost use Rattle.counted_cell.specs.Cell.{IsBehind, cell_of};
 
-use crate::cell_ref::{CellRef, Reading};
+use crate::cell_ref::{CellRef, Permit, Reading};
 use crate::content::Content;
 use crate::evidence::{AtLimit, NoShares};
 use crate::share::CellShare;
@@ -13,10 +13,10 @@ use std::sync::Wait;
 pub enum ShareReply {
     /// The count is one more, for this share, and this is what it was.
     Added(CellShare, Reading),
-    /// The count was read as 0, so there are no shares any more. Nothing has changed.
-    Dying(NoShares),
-    /// The count was read as the limit. Nothing has changed.
-    Full(AtLimit),
+    /// The count was read as 0, so there are no shares any more. Nothing was added: the permit is there.
+    Dying(NoShares, Permit),
+    /// The count was read as the limit. Nothing was added: the permit is there.
+    Full(AtLimit, Permit),
 }
 
 impl ShareReply {
@@ -24,27 +24,28 @@ impl ShareReply {
 
     /// One share more of the cell. Where another step came between, it tries again from the count that it found.
     #[inline]
-    pub(crate) fn one_more<R: Wait>(rt: &R, cell: &CellRef<Content>) -> ShareReply
+    pub(crate) fn one_more<R: Wait>(rt: &R, cell: &CellRef<Content>, permit: Permit) -> ShareReply
         requires reads { CanRead cell.now.right }
-        requires grows { cell.now.name.grows ≡ true }
+        requires permit { permit.name ≡ cell.now.name }
         requires limit { (cell.now.value.label.limit ≡ cell.now.name.limit) × (cell.now.name.limit < 2 ^ 63) }
         requires place { IsBehind cell.now }
-        ensures { IsReply (cell_of cell.now) result }
+        ensures { IsReply (cell_of cell.now) permit.number result }
     {
         let limit = cell.get().label.limit;
         let (mut seen, mut reading) = cell.load();
+        let mut left = permit;
         for _ in rt.forever() {
             if seen == 0 {
-                return ShareReply::Dying(NoShares { reading });
+                return ShareReply::Dying(NoShares { reading }, left);
             }
             if seen >= limit {
-                return ShareReply::Full(AtLimit { reading });
+                return ShareReply::Full(AtLimit { reading }, left);
             }
-            let (found, next, more) = cell.increment(seen);
+            let (found, next, more) = cell.increment(seen, left);
             if found == seen {
                 return ShareReply::Added(CellShare::of_ref(more), next);
             }
-            more.done();
+            left = more.unspent();
             seen = found;
             reading = next;
         }

@@ -1,9 +1,9 @@
 //! The shares of a cell.
-ghost use Rattle.std.specs.Prelude.{◌≡◌, ◌≢◌, true, ◌^◌, ◌<◌, ◌++◌, ◌∷◌, [], IfErr, IfOk, IfSome};
+ghost use Rattle.std.specs.Prelude.{◌≡◌, ◌≢◌, true, ◌^◌, ◌<◌, ◌++◌, ◌∷◌, [], IfErr, IfOk};
 ghost use Rattle.std.specs.List.{AllByRecursion};
 
 use crate::cell_log::{CellLog, LogSeen, lives};
-use crate::cell_ref::{CellRef, Reading, Receipt};
+use crate::cell_ref::{CellRef, Permit, Reading, Receipt};
 use crate::content::Content;
 use crate::evidence::{AtLimit, NoShares};
 use crate::label::Label;
@@ -19,7 +19,7 @@ pub struct CellShare {
 }
 
 impl Model for CellShare {
-    ghost use Rattle.std.specs.Prelude.{◌≡◌, true, ◌^◌, ◌<◌};
+    ghost use Rattle.std.specs.Prelude.{◌≡◌, ◌^◌, ◌<◌};
     ghost use Rattle.counted_cell.specs.Cell.{OneShare, IsBehind, share_of};
     ghost use Rattle.counted_cell.specs.Counting.{share_right};
 
@@ -27,7 +27,7 @@ impl Model for CellShare {
 
     ghost view = { λ s. share_of s.cell };
 
-    ghost invariant = { λ s. (s.cell.right ≡ share_right) × (s.cell.name.grows ≡ true) × (s.cell.value.label.limit ≡ s.cell.name.limit) × (s.cell.name.limit < 2 ^ 63) × IsBehind s.cell };
+    ghost invariant = { λ s. (s.cell.right ≡ share_right) × (s.cell.value.label.limit ≡ s.cell.name.limit) × (s.cell.name.limit < 2 ^ 63) × IsBehind s.cell };
 }
 
 impl CellShare {
@@ -37,7 +37,7 @@ impl CellShare {
 
     /// The share whose right it is.
     pub(crate) fn of_ref(cell: CellRef<Content>) -> CellShare
-        requires { (cell.right ≡ share_right) × (cell.name.grows ≡ true) × (cell.value.label.limit ≡ cell.name.limit) × (cell.name.limit < 2 ^ 63) × IsBehind cell }
+        requires { (cell.right ≡ share_right) × (cell.value.label.limit ≡ cell.name.limit) × (cell.name.limit < 2 ^ 63) × IsBehind cell }
         ensures { result ≡ share_of cell }
     {
         CellShare { cell }
@@ -64,51 +64,63 @@ impl CellShare {
         self.cell.get().text.as_str(self.cell.end())
     }
 
-    /// One share more of the same cell. Where the cell has as many as it may have, nothing has changed.
+    /// A permit, where the cell gets more shares, as each that `Owner::new` makes. It does nothing when it runs.
     #[inline]
-    pub fn add<R: Wait>(&self, rt: &R) -> Result<CellShare, AtLimit>
-        ensures added { IfOk result (λ share. share.cell ≡ self.now.cell) }
-        ensures full { IfErr result (λ full. full ≡ self.now.cell.name) }
+    pub fn permit(&self) -> Permit
+        requires { self.now.cell.name.grows ≡ true }
+        ensures { result.name ≡ self.now.cell.name }
     {
-        match ShareReply::one_more(rt, &self.cell) {
+        self.cell.free()
+    }
+
+    /// One share more of the same cell, for the permit. Where the cell has as many as it may have, the permit is there again.
+    #[inline]
+    pub fn add<R: Wait>(&self, rt: &R, permit: Permit) -> Result<CellShare, (AtLimit, Permit)>
+        requires { permit.name ≡ self.now.cell.name }
+        ensures added { IfOk result (λ share. share.cell ≡ self.now.cell) }
+        ensures full { IfErr result (λ full. (full.0 ≡ self.now.cell.name) × (full.1.name ≡ self.now.cell.name) × (full.1.number ≡ permit.number)) }
+    {
+        match ShareReply::one_more(rt, &self.cell, permit) {
             ShareReply::Added(share, _) => Ok(share),
-            ShareReply::Full(full) => Err(full),
-            ShareReply::Dying(none) => {
+            ShareReply::Full(full, left) => Err((full, left)),
+            ShareReply::Dying(none, _) => {
                 none.excludes(self);
                 unreachable!()
             }
         }
     }
 
-    /// One share more of the same cell, by a single try that waits for nothing. `None` where another step on the count came between, or the
-    /// cell has as many as it may have: then nothing has changed. `add` tries on, and tells a full count.
+    /// One share more of the same cell, for the permit, by a single try that waits for nothing. The permit is there again where another step on
+    /// the count came between, or the cell has as many as it may have. `add` tries on, and tells a full count.
     #[inline]
-    pub fn try_add(&self) -> Option<CellShare>
-        ensures { IfSome result (λ share. share.cell ≡ self.now.cell) }
+    pub fn try_add(&self, permit: Permit) -> Result<CellShare, Permit>
+        requires { permit.name ≡ self.now.cell.name }
+        ensures added { IfOk result (λ share. share.cell ≡ self.now.cell) }
+        ensures left { IfErr result (λ left. (left.name ≡ self.now.cell.name) × (left.number ≡ permit.number)) }
     {
-        CellShare::tried(&self.cell)
+        CellShare::tried(&self.cell, permit)
     }
 
     /// One share more of the cell, by a load and an exchange, where the count stands between 0 and the limit and no step comes between.
     #[inline]
-    pub(crate) fn tried(cell: &CellRef<Content>) -> Option<CellShare>
+    pub(crate) fn tried(cell: &CellRef<Content>, permit: Permit) -> Result<CellShare, Permit>
         requires reads { CanRead cell.now.right }
-        requires grows { cell.now.name.grows ≡ true }
+        requires permit { permit.name ≡ cell.now.name }
         requires limit { (cell.now.value.label.limit ≡ cell.now.name.limit) × (cell.now.name.limit < 2 ^ 63) }
         requires place { IsBehind cell.now }
-        ensures { IfSome result (λ share. share.cell ≡ cell_of cell.now) }
+        ensures added { IfOk result (λ share. share.cell ≡ cell_of cell.now) }
+        ensures left { IfErr result (λ left. (left.name ≡ cell.now.name) × (left.number ≡ permit.number)) }
     {
         let content = cell.get();
         let (seen, _) = cell.load();
         if seen == 0 || seen >= content.label.limit {
-            return None;
+            return Err(permit);
         }
-        let (found, _, more) = cell.increment(seen);
+        let (found, _, more) = cell.increment(seen, permit);
         if found == seen {
-            return Some(CellShare::of_ref(more));
+            return Ok(CellShare::of_ref(more));
         }
-        more.done();
-        None
+        Err(more.unspent())
     }
 
     /// Enters its cell in a log.

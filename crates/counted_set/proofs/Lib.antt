@@ -1,4 +1,3 @@
-pub mod Names
 pub mod PassKeeps
 pub mod Passes
 pub mod Quiet

@@ -35,9 +35,9 @@ pub record IsRight (t : Tables) (e : Linked) : Type 0 where
   pub ticket : e.ticket ≡ ticket_of (serial_of e.ticket) (e.hash % 2 ^ e.bits)
   pub given : IsTicket (serial_of e.ticket) (e.hash % 2 ^ e.bits)
 
--- it is right, with these bits
-abbrev pub IsRightOf : Tables → ℕ → Linked → Type 0
-IsRightOf t bits e = (e.bits ≡ bits) × IsRight t e
+-- it is right, with these bits, and its cell is one of those to which a share may be added
+abbrev pub IsRightOf : Tables → (CellName → Type 0) → ℕ → Linked → Type 0
+IsRightOf t may bits e = (e.bits ≡ bits) × IsRight t e × may e.name
 
 -- no entry has this serial
 abbrev pub IsNew : ℕ → List Linked → Type 0
@@ -48,10 +48,10 @@ abbrev pub SerialsDiffer : List Linked → Type 0
 SerialsDiffer [] = Unit {0}
 SerialsDiffer (e ∷ es) = IsNew (serial_of e.ticket) es × SerialsDiffer es
 
--- what a bucket keeps under a static type with these tables
-pub record IsKept (t : Tables) (c : Chain) : Type 0 where
+-- what a bucket keeps under a static type with these tables, where shares may be added to these cells
+pub record IsKept (t : Tables) (may : CellName → Type 0) (c : Chain) : Type 0 where
   pub few : c.bits ≤ most_bits
-  pub right : AllByRecursion (IsRightOf t c.bits) c.entries
+  pub right : AllByRecursion (IsRightOf t may c.bits) c.entries
   pub differ : SerialsDiffer c.entries
   pub bound : AllByRecursion (λ e. serial_of e.ticket ≤ c.last) c.entries
   pub number : length c.entries ≤ c.last

@@ -1,6 +1,5 @@
 pub mod Chain
 pub mod Counted
-pub mod Find
 pub mod Link
 pub mod Memory
 pub mod PassLeft

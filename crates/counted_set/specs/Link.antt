@@ -1,5 +1,6 @@
 -- What linking a text does to a bucket, and what interning it does.
-use Rattle.std.specs.Prelude.{◌≡◌, ℕ, ◌+◌, ◌%◌, ◌^◌, ◌<◌, ◌≤◌, Bool, List, ◌∷◌, Some, Result, Ok, Err}
+use Rattle.std.specs.Prelude.{◌≡◌, ℕ, ◌+◌, ◌%◌, ◌^◌, ◌<◌, ◌≤◌, List, ◌∷◌, Some, Result, Ok, Err}
+use Rattle.text_forms.specs.Pass.{PassReply, Outcome, found, found_full, absent}
 use Rattle.text_forms.specs.Bounds.{Bounds}
 use Rattle.text_forms.specs.Word.{ticket_of}
 use Rattle.text_forms.specs.declared.faults.Fault.{Fault}
@@ -7,9 +8,11 @@ use Rattle.text_forms.specs.declared.faults.Fault.TheVariants.{Memory, FullCount
 use Rattle.counted_cell.specs.Counting.{CellName}
 use Rattle.counted_set.specs.Chain.{Linked, Chain}
 use Rattle.counted_set.specs.Counted.{IsPass}
-use Rattle.counted_set.specs.declared.dynamic_set.counts.CountReply.{CountReply}
-use Rattle.counted_set.specs.declared.dynamic_set.counts.Pass.{Pass}
-use Rattle.counted_set.specs.declared.dynamic_set.counts.Pass.TheVariants.{Found, Full, Absent}
+
+-- what was answered, beside the grant that an answer without a share hands back
+abbrev pub answer_of : {S G : Type 0} → Result S (Fault × G) → Result S Fault
+answer_of (Ok s) = Ok s
+answer_of (Err refused) = Err refused.0
 
 -- the next entry of a bucket for a text with this hash, with this limit of holders and this cell
 abbrev pub next_entry : Chain → List ℕ → ℕ → ℕ → CellName → Linked
@@ -28,16 +31,16 @@ IsLink limits text hash c (Err TicketsSpent) d = (limits.serials ≤ c.last) × 
 IsLink limits text hash c (Err FullCount) d = ⊥
 IsLink limits text hash c (Err NotText) d = ⊥
 
--- what interning answers and leaves after a pass with this answer
-abbrev pub GoesOn : Bounds → List ℕ → ℕ → Chain → Pass Linked → Result Linked Fault → Chain → Type 0
-GoesOn limits text hash c (Found s) r d = (r ≡ Ok s) × (d ≡ c)
-GoesOn limits text hash c Full r d = (r ≡ Err FullCount) × (d ≡ c)
-GoesOn limits text hash c Absent r d = IsLink limits text hash c r d
+-- what interning answers and leaves after a pass that finds this
+abbrev pub GoesOn : Bounds → List ℕ → ℕ → Chain → Outcome Linked → Result Linked Fault → Chain → Type 0
+GoesOn limits text hash c (found s) r d = (r ≡ Ok s) × (d ≡ c)
+GoesOn limits text hash c found_full r d = (r ≡ Err FullCount) × (d ≡ c)
+GoesOn limits text hash c absent r d = IsLink limits text hash c r d
 
 -- interning is a pass for the text, and links where it is absent
-pub record IsIntern {C : Type 0} (adds : C → Linked → CountReply Linked → C → Type 0) (dies : C → Linked → Bool → C → Type 0)
+pub record IsIntern {C : Type 0} (gives : C → Linked → PassReply Linked → C → Type 0)
     (limits : Bounds) (text : List ℕ) (hash : ℕ) (k : C) (c : Chain) (r : Result Linked Fault) (l : C) (d : Chain) : Type 0 where
-  pub answer : Pass Linked
+  pub finds : Outcome Linked
   pub left : List Linked
-  pub pass : IsPass adds dies (Some text) k c.entries answer l left
-  pub goes_on : GoesOn limits text hash (record { bits = c.bits; entries = left; last = c.last }) answer r d
+  pub pass : IsPass gives (Some text) k c.entries finds l left
+  pub goes_on : GoesOn limits text hash (record { bits = c.bits; entries = left; last = c.last }) finds r d

@@ -6,6 +6,7 @@ mod bucket;
 mod counts;
 mod entries;
 mod held;
+mod locked;
 mod quiet;
 mod set;
 mod share;
@@ -13,6 +14,8 @@ mod visits;
 
 #[doc(hidden)]
 pub use bucket::Bucket;
+#[doc(hidden)]
+pub use counted_cell::{FreeGrant, Grant};
 #[doc(hidden)]
 pub use counts::{CountReply, Counts, OwnCounts, Pass};
 pub use held::Held;

@@ -178,7 +178,10 @@ impl<'s, Static: StaticTables, N: SetName> NamedAtom<'s, Static, N> {
         let form = match &self.form {
             Repr::Inline(text) => Repr::Inline(*text),
             Repr::Static(index) => Repr::Static(*index),
-            Repr::Dynamic(share) => Repr::Dynamic(share.clone_held(rt)?),
+            Repr::Dynamic(cell) => match cell.clone_held(rt, cell.permit()) {
+                Ok(more) => Repr::Dynamic(more),
+                Err(_) => return Err(Fault::FullCount),
+            },
         };
         Ok(NamedAtom {
             word: self.word,

@@ -123,10 +123,10 @@ kept_with number linked es gone c text kept none is given ticket = record {
     one i e (inr b) = inr (subst (λ (f : Entry). IsLinked f (linked ++ c ∷ [])) b.1 (linked_last linked c))
 
 -- what was seen of a linked cell's log
-pub seen_at : (t : Tables) (logs : List ℕ) (number : ℕ) (linked : List Cell) (es : List Entry) (gone : List CellName) (s : LogSeen) (k : ℕ) (c : Cell) → IsKept number linked es gone → AllByRecursion (IsOf t (length logs) number) linked
+pub seen_at : (t : Tables) (may : CellName → Type 0) (logs : List ℕ) (number : ℕ) (linked : List Cell) (es : List Entry) (gone : List CellName) (s : LogSeen) (k : ℕ) (c : Cell) → IsKept number linked es gone → AllByRecursion (IsOf t may (length logs) number) linked
     → slice_get linked k ≡ Some c → s.name ≡ slice_index_or logs number 0 → s.entries ≡ es → s.gone ≡ gone → IsSeen t logs s c
-seen_at t logs number linked es gone s k c kept of at named e g =
-    let own = each_at (IsOf t (length logs) number) linked k c of at in
+seen_at t may logs number linked es gone s k c kept of at named e g =
+    let own = each_at (IsOf t may (length logs) number) linked k c of at in
     let one : bucket_of t (length logs) c.text ≡ number = own.bucket in
     record {
       hash = own.hash;

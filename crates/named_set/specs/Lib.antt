@@ -1,3 +1,4 @@
 pub mod Names
 pub mod Logged
 pub mod Words
+pub mod Answers

@@ -41,10 +41,11 @@ pub record IsKept (number : ℕ) (linked : List Cell) (es : List Entry) (gone : 
   pub logged : AllByRecursion (IsLogged number es gone) linked
   pub settled : (i : ℕ) (e : Entry) → slice_get es i ≡ Some e → IsGone gone e.name ⊎ IsLinked e linked
 
--- the cell has the hash of its text, whose bucket this is, one of so many
-pub record IsOf (t : Tables) (buckets : ℕ) (number : ℕ) (c : Cell) : Type 0 where
+-- the cell has the hash of its text, whose bucket this is, one of so many, and is one of those to which a share may be added
+pub record IsOf (t : Tables) (may : CellName → Type 0) (buckets : ℕ) (number : ℕ) (c : Cell) : Type 0 where
   pub hash : c.label.hash ≡ entry_hash t c.text
   pub bucket : bucket_of t buckets c.text ≡ number
+  pub granted : may c.name
 
 -- what a held word has: the hash of its text, and something that was seen of the log of its text's bucket, in which its cell stands
 pub record IsSeen (t : Tables) (logs : List ℕ) (s : LogSeen) (c : Cell) : Type 0 where

@@ -1,18 +1,20 @@
 //! A bucket: what one lock holds.
 
-ghost use Rattle.std.specs.Prelude.{◌≡◌, ◌+◌, ◌<◌, ◌≤◌, ℕ, length, slice_index_or, IfErr, IfOk, IfSome, None, Some, slice_get, IsTrue, ◌↔◌};
+ghost use Rattle.std.specs.Prelude.{◌≡◌, ◌+◌, ◌<◌, ◌≤◌, ℕ, true, length, slice_index_or, IfErr, IfOk, None, Some, slice_get, IsTrue, ◌↔◌};
 ghost use Rattle.text_forms.specs.Faults.{IsInternFault};
 ghost use Rattle.text_forms.specs.Layout.{most_buckets};
 ghost use Rattle.text_forms.specs.Tables.{bucket_of, entry_hash};
 ghost use Rattle.text_forms.specs.Word.{IsTicket, ticket_of};
-ghost use Rattle.text_forms.specs.declared.faults.Fault.TheVariants.{FullCount};
 ghost use Rattle.counted_cell.specs.Cell.{Cell};
 ghost use Rattle.counted_cell.specs.Reply.{IsReply};
+ghost use Rattle.named_set.specs.Answers.{IfAbsent, IfFull, IfHeld};
 ghost use Rattle.named_set.specs.Logged.{FoundAt, IsNew, IsSeen, LinksNoMore};
 ghost use Rattle.named_set.specs.Names.{IsEmpty};
 
 use crate::name::SetName;
-use counted_cell::{CellLog, CellShare, Label, LogSeen, NoShares, Owner, ShareReply};
+use counted_cell::{
+    AtLimit, CellLog, CellShare, Grant, Label, LogSeen, NoShares, Owner, ShareReply,
+};
 use std::alloc::{AllocError, Global};
 use std::marker::{Model, PhantomData};
 use std::mem::size_of;
@@ -22,21 +24,22 @@ use text_forms::static_sets::StaticTables;
 use text_forms::word::{Limits, ticket_word};
 
 /// What one lock of a set holds: the cells that are linked, in the order in which they were, and the log of all that ever were, which
-/// takes no memory.
+/// takes no memory. A share may be added to each cell by a grant of the last type.
 #[derive(Drop)]
-pub struct Bucket<Static: StaticTables, N: SetName> {
+pub struct Bucket<Static: StaticTables, N: SetName, G: Grant> {
     owners: Vec<Owner<Global>>,
     log: CellLog,
     last: u64,
     number: u16,
     alloc: Global,
-    of: PhantomData<(Static, N)>,
+    of: PhantomData<(Static, N, G)>,
 }
 
-impl<Static: StaticTables, N: SetName> Model for Bucket<Static, N> {
+impl<Static: StaticTables, N: SetName, G: Grant> Model for Bucket<Static, N, G> {
     ghost use Rattle.std.specs.Prelude.{◌≡◌, ◌<◌, length, slice_index_or};
     ghost use Rattle.std.specs.List.{AllByRecursion};
     ghost use Rattle.text_forms.specs.Layout.{most_buckets};
+    ghost use Rattle.named_set.specs.Answers.{IfAbsent, IfFull, IfHeld};
     ghost use Rattle.named_set.specs.Logged.{Kept, IsKept, IsOf};
 
     ghost Value = { Kept };
@@ -44,10 +47,20 @@ impl<Static: StaticTables, N: SetName> Model for Bucket<Static, N> {
     ghost view = { λ b. record { number = b.number; linked = b.owners.items; entries = b.log.entries; gone = b.log.gone } };
 
     ghost invariant = { λ b. (b.log.name ≡ slice_index_or N.logs b.number 0) × (b.last ≡ length b.log.entries) × (b.number < most_buckets)
-        × IsKept b.number b.owners.items b.log.entries b.log.gone × AllByRecursion (IsOf Static.tables (length N.logs) b.number) b.owners.items };
+        × IsKept b.number b.owners.items b.log.entries b.log.gone × AllByRecursion (IsOf Static.tables G.may (length N.logs) b.number) b.owners.items };
 }
 
-impl<Static: StaticTables, N: SetName> Bucket<Static, N> {
+/// What a bucket answers that was asked for a share. Where it added none, the grant is there.
+pub(crate) enum Answer<G> {
+    /// A share, which is of a cell of the bucket, and what was seen of the bucket's log.
+    Held(CellShare, LogSeen),
+    /// The cell has as many shares as it may have.
+    Full(AtLimit, G),
+    /// There is no cell that has a share.
+    Absent(G),
+}
+
+impl<Static: StaticTables, N: SetName, G: Grant> Bucket<Static, N, G> {
     /// A bucket without entries, of this number, with a log without any.
     pub(crate) fn new(alloc: Global, number: u16, log: CellLog) -> Self
         requires name { log.name ≡ slice_index_or N.logs number 0 }
@@ -79,47 +92,47 @@ impl<Static: StaticTables, N: SetName> Bucket<Static, N> {
     }
 
     /// A share of the text's cell, which is linked if none is, and what was seen of the log, which shows that no other cell of the text
-    /// is held. `hash` is that of the text.
+    /// is held. `hash` is that of the text. A refusal hands the grant back.
     pub(crate) fn intern<R: Wait>(
         &mut self,
         rt: &R,
         text: &str,
         hash: u64,
         limits: &Limits,
-    ) -> Result<(CellShare, LogSeen), Fault>
+        grant: G,
+    ) -> Result<(CellShare, LogSeen), (Fault, G)>
         requires hash { hash ≡ entry_hash Static.tables text.now }
         requires here { bucket_of Static.tables (length N.logs) text.now ≡ self.old.number }
         ensures text { IfOk result (λ made. made.0.cell.text ≡ text.now) }
         ensures seen { IfOk result (λ made. IsSeen Static.tables N.logs made.1 made.0.cell) }
-        ensures refused { IfErr result IsInternFault }
+        ensures may { IfOk result (λ made. G.may made.0.cell.name) }
+        ensures refused { IfErr result (λ refused. IsInternFault refused.0) }
     {
-        match self.find(rt, text, hash)? {
-            Some(found) => Ok(found),
-            None => self.link(text, hash, limits),
+        match self.find(rt, text, hash, grant) {
+            Answer::Held(share, seen) => Ok((share, seen)),
+            Answer::Full(_, grant) => Err((Fault::FullCount, grant)),
+            Answer::Absent(grant) => self.link(text, hash, limits, grant),
         }
     }
 
-    /// The same, where a cell of the text is linked that has a share. Each cell of the bucket is taken out that has none.
-    pub(crate) fn find<R: Wait>(
-        &mut self,
-        rt: &R,
-        text: &str,
-        hash: u64,
-    ) -> Result<Option<(CellShare, LogSeen)>, Fault>
+    /// A share of the text's cell, where one is linked that has a share. Each cell of the bucket is taken out that has none.
+    pub(crate) fn find<R: Wait>(&mut self, rt: &R, text: &str, hash: u64, grant: G) -> Answer<G>
         requires hash { hash ≡ entry_hash Static.tables text.now }
         requires here { bucket_of Static.tables (length N.logs) text.now ≡ self.old.number }
-        ensures text { IfOk result (λ found. IfSome found (λ made. made.0.cell.text ≡ text.now)) }
-        ensures seen { IfOk result (λ found. IfSome found (λ made. IsSeen Static.tables N.logs made.1 made.0.cell)) }
-        ensures absent { IfOk result (λ found. found ≡ None → IsNew text.now self.new.linked) }
+        ensures text { IfHeld result (λ share _. share.cell.text ≡ text.now) }
+        ensures seen { IfHeld result (λ share seen. IsSeen Static.tables N.logs seen share.cell) }
+        ensures may { IfHeld result (λ share _. G.may share.cell.name) }
+        ensures absent { IfAbsent result (IsNew text.now self.new.linked) }
         ensures same { self.new.number ≡ self.old.number }
-        ensures refused { IfErr result (λ fault. fault ≡ FullCount) }
     {
+        let mut unspent = grant;
         while let Some(at) = self.pruned_position(text, hash) {
-            if let Some(found) = self.share_at(rt, at)? {
-                return Ok(Some(found));
+            match self.share_at(rt, at, unspent) {
+                Answer::Absent(grant) => unspent = grant,
+                answer => return answer,
             }
         }
-        Ok(None)
+        Answer::Absent(unspent)
     }
 
     /// Takes out all cells that have no share left.
@@ -190,46 +203,42 @@ impl<Static: StaticTables, N: SetName> Bucket<Static, N> {
     }
 
     // A share of the cell that is linked there, and what was seen of the log. Where the cell has none left, it is taken out.
-    fn share_at<R: Wait>(
-        &mut self,
-        rt: &R,
-        at: usize,
-    ) -> Result<Option<(CellShare, LogSeen)>, Fault>
+    fn share_at<R: Wait>(&mut self, rt: &R, at: usize, grant: G) -> Answer<G>
         requires { at < length self.old.linked }
-        ensures cell { IfOk result (λ found. IfSome found (λ made. slice_get self.old.linked at ≡ Some made.0.cell)) }
-        ensures seen { IfOk result (λ found. IfSome found (λ made. IsSeen Static.tables N.logs made.1 made.0.cell)) }
-        ensures one { IfOk result (λ found. found ≡ None → length self.new.linked + 1 ≡ length self.old.linked) }
+        ensures cell { IfHeld result (λ share _. slice_get self.old.linked at ≡ Some share.cell) }
+        ensures seen { IfHeld result (λ share seen. IsSeen Static.tables N.logs seen share.cell) }
+        ensures may { IfHeld result (λ share _. G.may share.cell.name) }
+        ensures full { IfFull result (λ full. (c : Cell) × (slice_get self.old.linked at ≡ Some c) × (full ≡ c.name)) }
+        ensures one { IfAbsent result (length self.new.linked + 1 ≡ length self.old.linked) }
         ensures same { self.new.number ≡ self.old.number }
-        ensures refused { IfErr result (λ fault. fault ≡ FullCount) }
     {
         let owner = self.owner_at(at);
         // Another step seldom comes between, so nothing has to wait.
-        if let Some(share) = owner.try_add() {
-            return Ok(Some((share, self.seen())));
+        match owner.try_add(grant.permit(owner)) {
+            Ok(share) => Answer::Held(share, self.seen()),
+            Err(permit) => {
+                let reply = owner.add(rt, permit);
+                self.share_by(at, reply)
+            }
         }
-        let reply = owner.add(rt);
-        self.share_by(at, reply)
     }
 
-    // The same, by a reply of the cell that is linked there.
-    fn share_by(
-        &mut self,
-        at: usize,
-        reply: ShareReply,
-    ) -> Result<Option<(CellShare, LogSeen)>, Fault>
-        requires { (c : Cell) × (slice_get self.old.linked at ≡ Some c) × IsReply c reply }
-        ensures cell { IfOk result (λ found. IfSome found (λ made. slice_get self.old.linked at ≡ Some made.0.cell)) }
-        ensures seen { IfOk result (λ found. IfSome found (λ made. IsSeen Static.tables N.logs made.1 made.0.cell)) }
-        ensures one { IfOk result (λ found. found ≡ None → length self.new.linked + 1 ≡ length self.old.linked) }
+    // The same, by a reply of the cell that is linked there, which has a permit of the grant where nothing was added.
+    fn share_by(&mut self, at: usize, reply: ShareReply) -> Answer<G>
+        requires { (c : Cell) × (permit : ℕ) × (slice_get self.old.linked at ≡ Some c) × G.may c.name × G.permits c.name permit × IsReply c permit reply }
+        ensures cell { IfHeld result (λ share _. slice_get self.old.linked at ≡ Some share.cell) }
+        ensures seen { IfHeld result (λ share seen. IsSeen Static.tables N.logs seen share.cell) }
+        ensures may { IfHeld result (λ share _. G.may share.cell.name) }
+        ensures full { IfFull result (λ full. (c : Cell) × (slice_get self.old.linked at ≡ Some c) × (full ≡ c.name)) }
+        ensures one { IfAbsent result (length self.new.linked + 1 ≡ length self.old.linked) }
         ensures same { self.new.number ≡ self.old.number }
-        ensures refused { IfErr result (λ fault. fault ≡ FullCount) }
     {
         match reply {
-            ShareReply::Added(share, _) => Ok(Some((share, self.seen()))),
-            ShareReply::Full(_) => Err(Fault::FullCount),
-            ShareReply::Dying(no_shares) => {
+            ShareReply::Added(share, _) => Answer::Held(share, self.seen()),
+            ShareReply::Full(full, permit) => Answer::Full(full, G::of_permit(permit)),
+            ShareReply::Dying(no_shares, permit) => {
                 self.take_out(at, no_shares);
-                Ok(None)
+                Answer::Absent(G::of_permit(permit))
             }
         }
     }
@@ -249,6 +258,7 @@ impl<Static: StaticTables, N: SetName> Bucket<Static, N> {
         requires { at < length self.now.linked }
         ensures cell { slice_get self.now.linked at ≡ Some result.now }
         ensures hash { result.now.label.hash ≡ entry_hash Static.tables result.now.text }
+        ensures may { G.may result.now.name }
     {
         &self.owners[at]
     }
@@ -265,8 +275,30 @@ impl<Static: StaticTables, N: SetName> Bucket<Static, N> {
         drop(self.owners.remove(at));
     }
 
-    // Links a cell of a text of which none is linked, and enters it in the log.
+    // Links a cell of a text of which none is linked, and enters it in the log. A refusal hands the grant back.
     fn link(
+        &mut self,
+        text: &str,
+        hash: u64,
+        limits: &Limits,
+        grant: G,
+    ) -> Result<(CellShare, LogSeen), (Fault, G)>
+        requires new { IsNew text.now self.old.linked }
+        requires hash { hash ≡ entry_hash Static.tables text.now }
+        requires here { bucket_of Static.tables (length N.logs) text.now ≡ self.old.number }
+        ensures text { IfOk result (λ made. made.0.cell.text ≡ text.now) }
+        ensures seen { IfOk result (λ made. IsSeen Static.tables N.logs made.1 made.0.cell) }
+        ensures may { IfOk result (λ made. G.may made.0.cell.name) }
+        ensures refused { IfErr result (λ refused. IsInternFault refused.0) }
+    {
+        match self.link_next(text, hash, limits) {
+            Ok(made) => Ok(made),
+            Err(fault) => Err((fault, grant)),
+        }
+    }
+
+    // The same without a grant.
+    fn link_next(
         &mut self,
         text: &str,
         hash: u64,
@@ -277,6 +309,7 @@ impl<Static: StaticTables, N: SetName> Bucket<Static, N> {
         requires here { bucket_of Static.tables (length N.logs) text.now ≡ self.old.number }
         ensures text { IfOk result (λ made. made.0.cell.text ≡ text.now) }
         ensures seen { IfOk result (λ made. IsSeen Static.tables N.logs made.1 made.0.cell) }
+        ensures may { IfOk result (λ made. G.may made.0.cell.name) }
         ensures refused { IfErr result IsInternFault }
     {
         if self.last >= limits.serials() {
@@ -306,6 +339,7 @@ fn new_cell(
     ensures text { IfOk result (λ made. made.0.text ≡ text.now) }
     ensures hash { IfOk result (λ made. made.0.label.hash ≡ hash) }
     ensures ticket { IfOk result (λ made. made.0.label.ticket ≡ ticket_of serial number) }
+    ensures grows { IfOk result (λ made. made.0.name.grows ≡ true) }
     ensures share { IfOk result (λ made. made.1.cell ≡ made.0) }
 {
     let label = Label {

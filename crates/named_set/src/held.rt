@@ -3,30 +3,77 @@
 ghost use Rattle.std.proofs.Common.{rules};
 ghost use Rattle.std.specs.Cmp.Rules.{comparing, hashing};
 ghost use Rattle.std.specs.Hash as fed;
-ghost use Rattle.std.specs.Prelude.{◌≡◌, ◌↔◌, ◌==◌, length, IfErr, IfOk, IsTrue};
+ghost use Rattle.std.specs.List.{AllByRecursion};
+ghost use Rattle.std.specs.Prelude.{◌≡◌, ◌≢◌, ◌↔◌, ◌==◌, true, length, IfErr, IfOk, IsTrue};
+ghost use Rattle.counted_cell.specs.Counting.{receipt_owns};
 ghost use Rattle.text_forms.specs.Tables.{entry_hash};
 ghost use Rattle.text_forms.specs.declared.faults.Fault.TheVariants.{FullCount};
 ghost use Rattle.named_set.specs.Logged.{IsSeen};
 ghost use Rattle.named_set.specs.Words.{AreOneToOne, IsTicketOf};
+ghost use types.Logic.{sem};
 
 use crate::name::SetName;
 use crate::set::NamedSet;
-use counted_cell::{CellShare, LogSeen, Receipt};
+use counted_cell::{AtLimit, CellShare, LogSeen, Permit, Receipt};
 use std::hash::{Hash, Hasher};
 use std::marker::Model;
 use std::sync::Wait;
 use text_forms::Fault;
 use text_forms::static_sets::StaticTables;
 
+/// One share of a cell, with the set that it is of. Its drop takes it off the count: this very share, as its number shows, and no other
+/// one. In a clause it is its cell, and its number.
+struct SetShare<'s, Static: StaticTables, N: SetName> {
+    share: CellShare,
+    set: &'s NamedSet<Static, N>,
+}
+
+impl<'s, Static: StaticTables, N: SetName> Model for SetShare<'s, Static, N> {
+    ghost use Rattle.counted_cell.specs.Cell.{OneShare};
+
+    ghost Value = { OneShare };
+
+    ghost view = { λ h. h.share };
+}
+
+impl<'s, Static: StaticTables, N: SetName> Drop for SetShare<'s, Static, N> {
+    #[inline]
+    fn drop(self)
+        ensures* given { sem 𝓛 (receipt_owns self.entry.cell.name self.entry.number) }
+    {
+        let _ = self.give();
+    }
+}
+
+impl<'s, Static: StaticTables, N: SetName> SetShare<'s, Static, N> {
+    /// Takes the share off the cell's count, and tries the bucket's lock where it was the last.
+    #[inline]
+    fn give(self) -> Receipt
+        ensures { (result.name ≡ self.entry.cell.name) × (result.number ≡ self.entry.number) }
+    {
+        let Self { share, set } = self;
+        set.give_back(share)
+    }
+
+    /// A law: its cell is none of those that are gone.
+    #[inline]
+    fn outlives(&self, seen: &LogSeen)
+        ensures { AllByRecursion (λ t. t ≢ self.now.cell.name) seen.now.gone }
+    {
+        self.share.outlives(seen)
+    }
+}
+
 /// A cell of the set with this name, which is held: one share of it.
 ///
-/// It is what a `Held` is without its word, for those who keep the word elsewhere, and has 16 bytes. Its drop subtracts one from the cell's
-/// count and never waits. Where it was the last, the lock of the bucket is tried once; if it was free, cells without shares are taken out
-/// of the bucket, and otherwise a later call does that. In a clause it is its word, its text and the cell's name.
+/// It is what a `Held` is without its word, for those who keep the word elsewhere, and has 16 bytes. Its drop, which is that of its
+/// `SetShare`, subtracts one from the cell's count and never waits. If it was the last, the lock of the bucket is tried once; if that was
+/// free, cells without shares are taken out of the bucket, and otherwise a later call does that. In a clause it is its word, its text and
+/// the cell's name.
+#[derive(Drop)]
 pub struct HeldCell<'s, Static: StaticTables, N: SetName> {
-    share: CellShare,
+    own: SetShare<'s, Static, N>,
     seen: LogSeen,
-    set: &'s NamedSet<Static, N>,
 }
 
 impl<'s, Static: StaticTables, N: SetName> Model for HeldCell<'s, Static, N> {
@@ -35,63 +82,57 @@ impl<'s, Static: StaticTables, N: SetName> Model for HeldCell<'s, Static, N> {
 
     ghost Value = { HeldWord };
 
-    ghost view = { λ h. held_word h.share.cell };
+    ghost view = { λ h. held_word h.own.cell };
 
-    ghost invariant = { λ h. IsSeen Static.tables N.logs h.seen h.share.cell };
-}
-
-impl<'s, Static: StaticTables, N: SetName> Drop for HeldCell<'s, Static, N> {
-    #[inline]
-    fn drop(self) {
-        let _ = self.give();
-    }
+    ghost invariant = { λ h. IsSeen Static.tables N.logs h.seen h.own.cell };
 }
 
 impl<'s, Static: StaticTables, N: SetName> HeldCell<'s, Static, N> {
-    /// Takes the share off the cell's count, and tries the bucket's lock where it was the last.
-    #[inline]
-    fn give(self) -> Receipt
-        ensures { result.name ≡ self.entry.name }
-    {
-        let Self {
-            share,
-            seen: _,
-            set,
-        } = self;
-        set.give_back(share)
-    }
-
     /// The text.
     pub fn text(&self) -> &str
         ensures { result.now ≡ self.now.text }
     {
-        self.share.text()
+        self.own.share.text()
     }
 
     /// The hash of the text, which lies in its cell.
     pub fn text_hash(&self) -> u64
         ensures { result ≡ entry_hash Static.tables self.now.text }
     {
-        self.share.label().hash
+        self.own.share.label().hash
     }
 
-    /// One more that holds the same cell. It is refused for `FullCount` alone, where there are as many as there may be.
-    pub fn clone_held<R: Wait>(&self, rt: &R) -> Result<HeldCell<'s, Static, N>, Fault>
+    /// A permit for one more, where the cell gets more, as each does that a set interned. It does nothing when it runs.
+    #[inline]
+    pub fn permit(&self) -> Permit
+        requires { self.now.name.grows ≡ true }
+        ensures { result.name ≡ self.now.name }
+    {
+        self.own.share.permit()
+    }
+
+    /// One more that holds the same cell, for the permit. It is refused only where there are as many as there may be, as the error shows:
+    /// then the permit is there again, and nothing has changed.
+    pub fn clone_held<R: Wait>(
+        &self,
+        rt: &R,
+        permit: Permit,
+    ) -> Result<HeldCell<'s, Static, N>, (AtLimit, Permit)>
+        requires { permit.name ≡ self.now.name }
         ensures same { IfOk result (λ held. held ≡ self.now) }
-        ensures full { IfErr result (λ fault. fault ≡ FullCount) }
+        ensures full { IfErr result (λ full. (full.0 ≡ self.now.name) × (full.1.name ≡ self.now.name) × (full.1.number ≡ permit.number)) }
     {
         // Another step seldom comes between, so nothing has to wait.
-        let share = match self.share.try_add() {
-            Some(share) => share,
-            None => match self.share.add(rt) {
-                Ok(share) => share,
-                Err(_) => return Err(Fault::FullCount),
-            },
+        let share = match self.own.share.try_add(permit) {
+            Ok(share) => share,
+            Err(permit) => self.own.share.add(rt, permit)?,
         };
         Ok(HeldCell {
-            share,
+            own: SetShare {
+                share,
+                set: self.own.set,
+            },
             seen: self.seen.again(),
-            set: self.set,
         })
     }
 
@@ -101,8 +142,8 @@ impl<'s, Static: StaticTables, N: SetName> HeldCell<'s, Static, N> {
         ensures { AreOneToOne self.now.word other.now.word self.now.text other.now.text }
     {
         self.seen.meet(&other.seen);
-        self.share.outlives(&other.seen);
-        other.share.outlives(&self.seen);
+        self.own.outlives(&other.seen);
+        other.own.outlives(&self.seen);
     }
 }
 
@@ -117,14 +158,14 @@ pub struct Held<'s, Static: StaticTables, N: SetName> {
 }
 
 impl<'s, Static: StaticTables, N: SetName> Model for Held<'s, Static, N> {
-    ghost use Rattle.std.specs.Prelude.{◌≡◌, length};
+    ghost use Rattle.std.specs.Prelude.{◌≡◌, true, length};
     ghost use Rattle.named_set.specs.Words.{HeldWord, IsTicketOf};
 
     ghost Value = { HeldWord };
 
     ghost view = { λ h. h.cell };
 
-    ghost invariant = { λ h. (h.word ≡ h.cell.word) × IsTicketOf Static.tables (length N.logs) h.cell.text h.cell.word };
+    ghost invariant = { λ h. (h.word ≡ h.cell.word) × IsTicketOf Static.tables (length N.logs) h.cell.text h.cell.word × (h.cell.name.grows ≡ true) };
 }
 
 impl<'s, Static: StaticTables, N: SetName> Held<'s, Static, N> {
@@ -134,13 +175,17 @@ impl<'s, Static: StaticTables, N: SetName> Held<'s, Static, N> {
         seen: LogSeen,
         set: &'s NamedSet<Static, N>,
     ) -> Held<'s, Static, N>
-        requires { IsSeen Static.tables N.logs seen share.cell }
+        requires seen { IsSeen Static.tables N.logs seen share.cell }
+        requires grows { share.cell.name.grows ≡ true }
         ensures text { result.text ≡ share.cell.text }
         ensures ticket { IsTicketOf Static.tables (length N.logs) result.text result.word }
     {
         Held {
             word: share.label().ticket,
-            cell: HeldCell { share, seen, set },
+            cell: HeldCell {
+                own: SetShare { share, set },
+                seen,
+            },
         }
     }
 
@@ -173,6 +218,7 @@ impl<'s, Static: StaticTables, N: SetName> Held<'s, Static, N> {
         ensures word { result.0 ≡ self.entry.word }
         ensures cell { result.1 ≡ self.entry }
         ensures ticket { IsTicketOf Static.tables (length N.logs) self.entry.text result.0 }
+        ensures grows { result.1.name.grows ≡ true }
     {
         let Self { word, cell } = self;
         (word, cell)
@@ -183,10 +229,13 @@ impl<'s, Static: StaticTables, N: SetName> Held<'s, Static, N> {
         ensures same { IfOk result (λ held. held ≡ self.now) }
         ensures full { IfErr result (λ fault. fault ≡ FullCount) }
     {
-        Ok(Held {
-            word: self.word,
-            cell: self.cell.clone_held(rt)?,
-        })
+        match self.cell.clone_held(rt, self.cell.permit()) {
+            Ok(cell) => Ok(Held {
+                word: self.word,
+                cell,
+            }),
+            Err(_) => Err(Fault::FullCount),
+        }
     }
 
     /// A law: two that are held have one word exactly if they have one text. It does nothing when it runs.

@@ -8,6 +8,7 @@
 mod bucket;
 pub mod callers;
 mod held;
+mod locked;
 mod name;
 mod set;
 

@@ -9,10 +9,11 @@ ghost use Rattle.text_forms.specs.declared.faults.Fault.TheVariants.{FullCount, 
 ghost use Rattle.named_set.specs.Names.{AreFirst, IsEmpty};
 ghost use Rattle.named_set.specs.Words.{IsTicketOf};
 
-use crate::bucket::Bucket;
+use crate::bucket::{Answer, Bucket};
 use crate::held::Held;
+use crate::locked::{find_behind, intern_behind};
 use crate::name::{FreshName, SetName};
-use counted_cell::{CellLog, CellShare, Receipt};
+use counted_cell::{CellLog, CellShare, FreeGrant, Receipt};
 use std::alloc::Global;
 use std::marker::Model;
 use std::mem::size_of;
@@ -25,7 +26,7 @@ use text_forms::word::{Buckets, Limits};
 /// its limits and the bits of the number of its buckets.
 #[derive(Drop)]
 pub struct NamedSet<Static: StaticTables, N: SetName> {
-    buckets: Vec<Mutex<Bucket<Static, N>>>,
+    buckets: Vec<Mutex<Bucket<Static, N, FreeGrant>>>,
     count: Buckets,
     limits: Limits,
     alloc: Global,
@@ -65,7 +66,7 @@ impl<Static: StaticTables, N: SetName> NamedSet<Static, N> {
         alloc: Global,
         mut logs: Vec<CellLog>,
         count: Buckets,
-    ) -> Result<Vec<Mutex<Bucket<Static, N>>>, Fault>
+    ) -> Result<Vec<Mutex<Bucket<Static, N, FreeGrant>>>, Fault>
         requires names { N.logs ≡ map (λ l. l.name) logs.items }
         requires empty { AllByRecursion IsEmpty logs.items }
         requires number { vec_len logs ≡ 2 ^ count }
@@ -81,7 +82,7 @@ impl<Static: StaticTables, N: SetName> NamedSet<Static, N> {
     }
 
     // The bucket of the last log, which is taken off the logs.
-    fn last_bucket(alloc: Global, logs: &mut Vec<CellLog>) -> Option<Bucket<Static, N>>
+    fn last_bucket(alloc: Global, logs: &mut Vec<CellLog>) -> Option<Bucket<Static, N, FreeGrant>>
         requires first { AreFirst N.logs logs.old.items }
         requires few { vec_len logs.old ≤ most_buckets }
         ensures first { AreFirst N.logs logs.new.items }
@@ -131,12 +132,11 @@ impl<Static: StaticTables, N: SetName> NamedSet<Static, N> {
         ensures refused { IfErr result IsInternFault }
     {
         let number = self.count.bucket_of(hash);
-        let mut bucket = self.buckets[usize::from(number)].lock(rt);
-        if bucket.number() != number {
-            return Err(Fault::Memory);
+        let lock = &self.buckets[usize::from(number)];
+        match intern_behind(rt, lock, number, text, hash, &self.limits, FreeGrant) {
+            Ok((share, seen)) => Ok(Held::new(share, seen, self)),
+            Err((fault, _)) => Err(fault),
         }
-        let (share, seen) = bucket.intern(rt, text, hash, &self.limits)?;
-        Ok(Held::new(share, seen, self))
     }
 
     /// The held word of the text, if it is held. Nothing is linked. It is refused for `FullCount` alone.
@@ -166,13 +166,11 @@ impl<Static: StaticTables, N: SetName> NamedSet<Static, N> {
         ensures refused { IfErr result (λ fault. fault ≡ FullCount) }
     {
         let number = self.count.bucket_of(hash);
-        let mut bucket = self.buckets[usize::from(number)].lock(rt);
-        if bucket.number() != number {
-            return Ok(None);
-        }
-        match bucket.find(rt, text, hash)? {
-            Some((share, seen)) => Ok(Some(Held::new(share, seen, self))),
-            None => Ok(None),
+        let lock = &self.buckets[usize::from(number)];
+        match find_behind(rt, lock, number, text, hash, FreeGrant) {
+            Answer::Held(share, seen) => Ok(Some(Held::new(share, seen, self))),
+            Answer::Full(_, _) => Err(Fault::FullCount),
+            Answer::Absent(_) => Ok(None),
         }
     }
 
@@ -202,7 +200,7 @@ impl<Static: StaticTables, N: SetName> NamedSet<Static, N> {
     ///
     /// The set itself, which lies where its owner has it, isn't counted. Beside other threads, nothing is said of the sum.
     pub fn memory<R: Wait>(&self, rt: &R) -> u128 {
-        let bucket_size = size_of::<Mutex<Bucket<Static, N>>>() as u128;
+        let bucket_size = size_of::<Mutex<Bucket<Static, N, FreeGrant>>>() as u128;
         let mut sum = bucket_size.saturating_mul(self.buckets.capacity() as u128);
         for bucket in &self.buckets {
             sum = sum.saturating_add(bucket.lock(rt).memory());
@@ -222,7 +220,7 @@ impl<Static: StaticTables, N: SetName> NamedSet<Static, N> {
     /// Gives a share back. Where it was its cell's last, tries the lock of the cell's bucket, once, and prunes the bucket.
     #[inline]
     pub(crate) fn give_back(&self, share: CellShare) -> Receipt
-        ensures { result.name ≡ share.cell.name }
+        ensures { (result.name ≡ share.cell.name) × (result.number ≡ share.number) }
     {
         let hash = share.label().hash;
         let (receipt, last) = share.give().parts();

@@ -3,7 +3,6 @@ pub use Rattle.string_cache_core.specs.Calls
 pub use Rattle.counted_set.specs.Chain
 pub use Rattle.counted_set.specs.Counted
 pub use Rattle.text_forms.specs.Faults
-pub use Rattle.counted_set.specs.Find
 pub use Rattle.text_forms.specs.Form
 pub use Rattle.text_forms.specs.InlineText
 pub use Rattle.string_cache_core.specs.Kept

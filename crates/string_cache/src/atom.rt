@@ -1,6 +1,6 @@
 //! An atom: a text that is inline, static, or an entry of a set.
 
-ghost use Rattle.std.specs.Prelude.{◌≡◌, ◌↔◌, ◌+◌, ◌*◌, ◌<◌, [], length, string_bytes, IsTrue, IsSome, IfSome, IfOk, IfErr, OnErr, Ok, None, Some, nat_eq};
+ghost use Rattle.std.specs.Prelude.{◌≡◌, ◌↔◌, ◌+◌, ◌*◌, ◌<◌, [], true, length, string_bytes, IsTrue, IsSome, IfSome, IfOk, IfErr, OnErr, Ok, None, Some, nat_eq};
 ghost use Rattle.std.specs.List.{Contains};
 ghost use Rattle.std.specs.Cmp;
 ghost use Rattle.std.specs.Cmp.{on_equiv};
@@ -74,7 +74,8 @@ impl<'s, Static: StaticTables> Atom<'s, Static> {
 
     /// The atom of an entry of a text with this hash, by a share of it.
     fn of_held(hash: u64, held: Held<'s, Static>) -> Self
-        requires { (form_of_text Static.tables held.text ≡ Dynamic hash) × IsRight Static.tables held }
+        requires form { (form_of_text Static.tables held.text ≡ Dynamic hash) × IsRight Static.tables held }
+        requires grows { held.name.grows ≡ true }
         ensures { result ≡ record { text = held.entry.text; word = held.entry.ticket; bits = Some held.entry.bits } }
     {
         Self::of_form(Repr::Dynamic((hash % (1 << 32)) as u32, held))
@@ -162,9 +163,12 @@ impl<'s, Static: StaticTables> Atom<'s, Static> {
             Repr::Inline(text) => Repr::Inline(*text),
             Repr::Static(index) => Repr::Static(*index),
             // Another step seldom comes between, so nothing has to wait.
-            Repr::Dynamic(half, held) => match held.try_clone_share() {
-                Some(held) => Repr::Dynamic(*half, held),
-                None => Repr::Dynamic(*half, held.clone_share(rt)?),
+            Repr::Dynamic(half, held) => match held.try_clone_share(held.permit()) {
+                Ok(more) => Repr::Dynamic(*half, more),
+                Err(permit) => match held.clone_share(rt, permit) {
+                    Ok(more) => Repr::Dynamic(*half, more),
+                    Err(_) => return Err(Fault::FullCount),
+                },
             },
         };
         Ok(Self::of_form(form))

@@ -7,7 +7,9 @@ use std::alloc::Global;
 use std::process::Abort;
 use std::sync::Wait;
 use string_cache::Fault;
-use string_cache::dynamic_set::{Bucket, CountReply, Counts, Entry, OwnCounts, Pass, Share};
+use string_cache::dynamic_set::{
+    Bucket, CountReply, Counts, Entry, FreeGrant, Grant, OwnCounts, Pass, Share,
+};
 use string_cache::static_sets::EmptyStaticAtomSet;
 use string_cache::word::{Buckets, Limits, ticket_word};
 use test_calls::hash_of;
@@ -35,30 +37,36 @@ impl Fake {
     }
 }
 
-impl Counts for Fake {
+impl<G: Grant> Counts<G> for Fake {
     ghost use Rattle.std.specs.Prelude.{⊤};
 
     type Share = u64;
 
-    ghost adds = { λ _ _ _ _. ⊤ };
+    type Gone = ();
 
-    ghost dies = { λ _ _ _ _. ⊤ };
+    type Full = ();
 
-    fn add<R: Wait>(&mut self, _rt: &R, entry: &Entry) -> CountReply<u64> {
+    ghost gives = { λ _ _ _ _. ⊤ };
+
+    ghost shows_gone = { λ _ _. ⊤ };
+
+    ghost shows_full = { λ _ _. ⊤ };
+
+    fn add<R: Wait>(&mut self, _rt: &R, entry: &Entry, grant: G) -> CountReply<u64, (), (), G> {
         match entry.ticket() {
             ticket if ticket == self.added => CountReply::Added(ticket),
-            ticket if ticket == self.full => CountReply::Full,
-            _ => CountReply::Dying,
+            ticket if ticket == self.full => CountReply::Full((), grant),
+            _ => CountReply::Dying((), grant),
         }
     }
 
-    fn dying(&mut self, entry: &Entry) -> bool {
+    fn dying(&mut self, entry: &Entry) -> Option<()> {
         let ticket = entry.ticket();
         if let Some(place) = self.tickets.get_mut(self.asked) {
             *place = ticket;
         }
         self.asked = self.asked.saturating_add(1);
-        ticket == self.gone
+        if ticket == self.gone { Some(()) } else { None }
     }
 }
 
@@ -78,24 +86,34 @@ fn link(
     text: &str,
     limits: &Limits,
 ) -> Result<Share, Fault> {
-    bucket.link(text, hash_of::<EmptyStaticAtomSet>(text), limits)
+    let hash = hash_of::<EmptyStaticAtomSet>(text);
+    without_grant(bucket.link(text, hash, limits, FreeGrant))
 }
 
-fn pass<R: Wait, C: Counts>(
+/// What was answered, without the grant that a refusal hands back.
+fn without_grant(answer: Result<Share, (Fault, FreeGrant)>) -> Result<Share, Fault> {
+    match answer {
+        Ok(share) => Ok(share),
+        Err((fault, _)) => Err(fault),
+    }
+}
+
+fn pass<R: Wait, C: Counts<FreeGrant>>(
     rt: &R,
     bucket: &mut Bucket<EmptyStaticAtomSet>,
     text: &str,
     counts: &mut C,
-) -> Pass<C::Share> {
-    bucket.pass(rt, text, hash_of::<EmptyStaticAtomSet>(text), counts)
+) -> Pass<C::Share, FreeGrant> {
+    let hash = hash_of::<EmptyStaticAtomSet>(text);
+    bucket.pass(rt, text, hash, counts, FreeGrant)
 }
 
 /// The ticket that was found; 1 where the entry is full, and 0 where there is none.
-fn found(answer: Pass<u64>) -> u64 {
+fn found(answer: Pass<u64, FreeGrant>) -> u64 {
     match answer {
         Pass::Found(ticket) => ticket,
-        Pass::Full => 1,
-        Pass::Absent => 0,
+        Pass::Full(_) => 1,
+        Pass::Absent(_) => 0,
     }
 }
 
@@ -174,7 +192,7 @@ fn intern<R: Wait>(
     limits: &Limits,
 ) -> Result<Share, Fault> {
     let hash = hash_of::<EmptyStaticAtomSet>(text);
-    bucket.intern(rt, text, hash, limits, &mut OwnCounts)
+    without_grant(bucket.intern(rt, text, hash, limits, &mut OwnCounts, FreeGrant))
 }
 
 /// Checks that the share is of the text, under the ticket.

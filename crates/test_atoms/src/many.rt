@@ -5,7 +5,7 @@ use crate::{assert_for, assert_that};
 use std::alloc::Global;
 use std::process::Abort;
 use std::sync::Wait;
-use string_cache::dynamic_set::{Bucket, Share};
+use string_cache::dynamic_set::{Bucket, FreeGrant, Share};
 use string_cache::static_sets::EmptyStaticAtomSet;
 use string_cache::word::Limits;
 use string_cache::{DefaultAtom, Fault};
@@ -71,7 +71,10 @@ fn one_text_has_many_holders(rt: HostRuntime) {
 fn link(alloc: Global, bucket: &mut Bucket<EmptyStaticAtomSet>, n: u32) -> Result<Share, Fault> {
     let text = format!(in alloc; "the text {n:06}")?;
     let hash = hash_of::<EmptyStaticAtomSet>(&text);
-    bucket.link(&text, hash, &Limits::greatest())
+    match bucket.link(&text, hash, &Limits::greatest(), FreeGrant) {
+        Ok(share) => Ok(share),
+        Err((fault, _)) => Err(fault),
+    }
 }
 
 /// Links so many texts in a bucket, which no pass goes over meanwhile.

@@ -1,5 +1,7 @@
 //! Shares with their set that are cloned by a single try.
 
+ghost use Rattle.std.specs.Prelude.{◌≡◌, true};
+
 use crate::assert_that;
 use crate::samples::{DefaultSet, limited_set};
 use std::process::Abort;
@@ -12,22 +14,30 @@ use test_calls::{hash_of, links};
 type Held<'s> = dynamic_set::Held<'s, EmptyStaticAtomSet>;
 
 /// Whether the third share is of the text and the first one's entry, and a single try gives none beside it.
-fn is_third(first: &Held<'_>, third: &Held<'_>, text: &str) -> bool {
-    first.try_clone_share().is_none() && third.text() == text && third.ticket() == first.ticket()
+fn is_third(first: &Held<'_>, third: &Held<'_>, text: &str) -> bool
+    requires { first.now.name.grows ≡ true }
+{
+    first.try_clone_share(first.permit()).is_err()
+        && third.text() == text
+        && third.ticket() == first.ticket()
 }
 
 /// Whether a single try gives a third share beside the first and the second, and none then.
-fn has_third(first: &Held<'_>, second: &Held<'_>, text: &str) -> bool {
-    match second.try_clone_share() {
-        Some(third) => is_third(first, &third, text),
-        None => false,
+fn has_third(first: &Held<'_>, second: &Held<'_>, text: &str) -> bool
+    requires { (first.now.name.grows ≡ true) × (second.now.name.grows ≡ true) }
+{
+    match second.try_clone_share(second.permit()) {
+        Ok(third) => is_third(first, &third, text),
+        Err(_) => false,
     }
 }
 
-fn has_second(first: &Held<'_>, text: &str) -> bool {
-    match first.try_clone_share() {
-        Some(second) => has_third(first, &second, text),
-        None => false,
+fn has_second(first: &Held<'_>, text: &str) -> bool
+    requires { first.now.name.grows ≡ true }
+{
+    match first.try_clone_share(first.permit()) {
+        Ok(second) => has_third(first, &second, text),
+        Err(_) => false,
     }
 }
 

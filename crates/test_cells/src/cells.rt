@@ -1,19 +1,22 @@
 //! What no clause says: that a cell is made, that an addition below the limit succeeds, that `dying` answers as soon as the count
 //! is 0, that a block is really freed, and what threads do to one count.
-ghost use Rattle.std.specs.Prelude.{◌≤◌, ◌<◌, ◌^◌};
+ghost use Rattle.std.specs.Prelude.{◌≡◌, true, ℕ, ◌≤◌, ◌<◌, ◌^◌, IfOk};
+ghost use Rattle.counted_cell.specs.Cell.{Cell};
+ghost use Rattle.counted_cell.specs.Reply.{IsReply};
 
 use crate::receipts::first_receipt;
 use crate::{assert_for, assert_that};
-use counted_cell::{AtLimit, CellShare, Ending, Label, Owner, ShareReply};
+use counted_cell::{AtLimit, CellShare, Ending, Label, Owner, Permit, ShareReply};
 use linked_list_allocator::LocalHeap;
 use std::alloc::{AllocError, Allocator, Global};
 use std::process::Abort;
 use std::sync::Wait;
 use std::thread::{self, Threads};
 
-/// A share that is given back at its drop.
+/// A share that is given back at its drop. Its cell gets more shares.
 struct ShareGuard {
     share: CellShare,
+    ghost grows: { share.cell.name.grows ≡ true },
 }
 
 impl Drop for ShareGuard {
@@ -29,7 +32,9 @@ impl ShareGuard {
     }
 
     /// The share, which isn't given back.
-    fn into_share(self) -> CellShare {
+    fn into_share(self) -> CellShare
+        ensures { result.cell.name.grows ≡ true }
+    {
         let Self { share } = self;
         share
     }
@@ -40,12 +45,15 @@ impl ShareGuard {
 
     /// A share more of its cell.
     fn one_more<R: Wait + Abort>(&self, rt: &R) -> ShareGuard {
-        share_answer(self.share.add(rt)).share(rt)
+        share_answer(self.share.add(rt, self.share.permit())).share(rt)
     }
 
     /// Whether a share more is refused, since there are as many as there may be.
     fn is_full<R: Wait>(&self, rt: &R) -> bool {
-        matches!(share_answer(self.share.add(rt)), Answer::Full)
+        matches!(
+            share_answer(self.share.add(rt, self.share.permit())),
+            Answer::Full
+        )
     }
 }
 
@@ -57,15 +65,19 @@ enum Answer {
     Full,
 }
 
-fn reply_answer(reply: ShareReply) -> Answer {
+fn reply_answer(reply: ShareReply) -> Answer
+    requires { (c : Cell) × (permit : ℕ) × IsReply c permit reply × (c.name.grows ≡ true) }
+{
     match reply {
         ShareReply::Added(share, _) => Answer::Added(ShareGuard { share }),
-        ShareReply::Dying(_) => Answer::Dying,
-        ShareReply::Full(_) => Answer::Full,
+        ShareReply::Dying(_, _) => Answer::Dying,
+        ShareReply::Full(_, _) => Answer::Full,
     }
 }
 
-fn share_answer(reply: Result<CellShare, AtLimit>) -> Answer {
+fn share_answer(reply: Result<CellShare, (AtLimit, Permit)>) -> Answer
+    requires { IfOk reply (λ share. share.cell.name.grows ≡ true) }
+{
     match reply {
         Ok(share) => Answer::Added(ShareGuard { share }),
         Err(_) => Answer::Full,
@@ -89,6 +101,7 @@ fn make<A: Allocator>(
     text: &str,
 ) -> Result<(Owner<A>, ShareGuard), AllocError>
     requires { (1 ≤ limit) × (limit < 2 ^ 63) }
+    ensures { IfOk result (λ made. made.0.name.grows ≡ true) }
 {
     let label = Label {
         hash: 8,
@@ -100,18 +113,24 @@ fn make<A: Allocator>(
 }
 
 /// A cell of a short text, with its first share.
-fn made(rt: &impl Abort, alloc: Global) -> (Owner<Global>, ShareGuard) {
+fn made(rt: &impl Abort, alloc: Global) -> (Owner<Global>, ShareGuard)
+    ensures { result.0.name.grows ≡ true }
+{
     make(alloc, 2, "interned").expect(rt, "an answer")
 }
 
 /// A share more of the owner's cell.
-fn one_more<A: Allocator, R: Wait + Abort>(rt: &R, owner: &Owner<A>) -> ShareGuard {
-    reply_answer(owner.add(rt)).share(rt)
+fn one_more<A: Allocator, R: Wait + Abort>(rt: &R, owner: &Owner<A>) -> ShareGuard
+    requires { owner.now.name.grows ≡ true }
+{
+    reply_answer(owner.add(rt, owner.permit())).share(rt)
 }
 
 /// Whether a share more is refused, since there are as many as there may be.
-fn is_full<A: Allocator, R: Wait>(rt: &R, owner: &Owner<A>) -> bool {
-    matches!(reply_answer(owner.add(rt)), Answer::Full)
+fn is_full<A: Allocator, R: Wait>(rt: &R, owner: &Owner<A>) -> bool
+    requires { owner.now.name.grows ≡ true }
+{
+    matches!(reply_answer(owner.add(rt, owner.permit())), Answer::Full)
 }
 
 /// Whether the count reads 0.
@@ -120,8 +139,10 @@ fn is_dying<A: Allocator>(owner: &Owner<A>) -> bool {
 }
 
 /// Whether a share more is refused, since there is none.
-fn is_over<A: Allocator, R: Wait>(rt: &R, owner: &Owner<A>) -> bool {
-    matches!(reply_answer(owner.add(rt)), Answer::Dying)
+fn is_over<A: Allocator, R: Wait>(rt: &R, owner: &Owner<A>) -> bool
+    requires { owner.now.name.grows ≡ true }
+{
+    matches!(reply_answer(owner.add(rt, owner.permit())), Answer::Dying)
 }
 
 /// Whether the owner reads so many shares.
@@ -165,7 +186,9 @@ fn a_cell_keeps_its_text(rt: HostRuntime) {
 }
 
 /// Whether the count stays at 0, and no share is added.
-fn stays_over<A: Allocator, R: Wait>(rt: &R, owner: &Owner<A>) -> bool {
+fn stays_over<A: Allocator, R: Wait>(rt: &R, owner: &Owner<A>) -> bool
+    requires { owner.now.name.grows ≡ true }
+{
     is_dying(owner) && is_over(rt, owner) && is_dying(owner)
 }
 
@@ -186,18 +209,18 @@ fn replies(rt: HostRuntime) {
 }
 
 /// A share more by a single try.
-fn tried(share: &CellShare) -> Option<ShareGuard> {
-    let share = share.try_add()?;
+fn tried(first: &ShareGuard) -> Option<ShareGuard> {
+    let share = first.share.try_add(first.share.permit()).ok()?;
     Some(ShareGuard { share })
 }
 
 /// Single tries on a cell of the text, at a limit of 3.
 fn tries<R: Wait + Abort>(rt: &R, alloc: Global, text: &str) -> Result<(), AllocError> {
     let (owner, first) = make(alloc, 3, text)?;
-    let second = tried(&first.share).expect(rt, "a share");
+    let second = tried(&first).expect(rt, "a share");
     assert_that(rt, second.has_text(text));
-    let third = tried(&second.share).expect(rt, "a share");
-    assert_that(rt, tried(&first.share).is_none());
+    let third = tried(&second).expect(rt, "a share");
+    assert_that(rt, tried(&first).is_none());
     assert_that(rt, is_full(rt, &owner));
     assert_that(rt, !first.gives_last());
     assert_that(rt, !third.gives_last());
@@ -217,13 +240,17 @@ fn single_tries(rt: HostRuntime) {
 }
 
 /// A share more of the owner's cell by a single try.
-fn owner_tried<A: Allocator>(owner: &Owner<A>) -> Option<ShareGuard> {
-    let share = owner.try_add()?;
+fn owner_tried<A: Allocator>(owner: &Owner<A>) -> Option<ShareGuard>
+    requires { owner.now.name.grows ≡ true }
+{
+    let share = owner.try_add(owner.permit()).ok()?;
     Some(ShareGuard { share })
 }
 
 /// Whether a single try gives none.
-fn has_no_try<A: Allocator>(owner: &Owner<A>) -> bool {
+fn has_no_try<A: Allocator>(owner: &Owner<A>) -> bool
+    requires { owner.now.name.grows ≡ true }
+{
     owner_tried(owner).is_none()
 }
 
@@ -251,10 +278,10 @@ fn both_are_given_back(rt: HostRuntime) {
 }
 
 /// Adds a share and gives it back, again and again. How many were refused.
-fn clone_and_give<R: Wait>(rt: &R, share: &CellShare) -> u64 {
+fn clone_and_give<R: Wait>(rt: &R, first: &ShareGuard) -> u64 {
     let mut refused = 0u64;
     for _ in 0..30_000 {
-        if let Answer::Full = share_answer(share.add(rt)) {
+        if first.is_full(rt) {
             refused = refused.wrapping_add(1);
         }
     }
@@ -262,11 +289,11 @@ fn clone_and_give<R: Wait>(rt: &R, share: &CellShare) -> u64 {
 }
 
 /// How many additions were refused to each of two threads at one count.
-fn refused_at_once<R: Threads + Wait + Sync>(rt: &R, share: &CellShare) -> (u64, u64) {
+fn refused_at_once<R: Threads + Wait + Sync>(rt: &R, first: &ShareGuard) -> (u64, u64) {
     thread::join(
         rt,
-        || clone_and_give(rt, share),
-        || clone_and_give(rt, share),
+        || clone_and_give(rt, first),
+        || clone_and_give(rt, first),
     )
 }
 
@@ -274,7 +301,7 @@ fn refused_at_once<R: Threads + Wait + Sync>(rt: &R, share: &CellShare) -> (u64,
 #[test]
 fn one_count_in_two_threads(rt: HostRuntime) {
     let (owner, first) = make(rt.alloc(), 3, "interned").expect(&rt, "an answer");
-    assert_that(&rt, refused_at_once(&rt, &first.share) == (0, 0));
+    assert_that(&rt, refused_at_once(&rt, &first) == (0, 0));
     let second = first.one_more(&rt);
     let third = one_more(&rt, &owner);
     assert_that(&rt, is_full(&rt, &owner));

@@ -1,13 +1,13 @@
 //! A bucket: what one lock holds.
 
-ghost use Rattle.std.specs.Prelude.{◌≡◌, ◌+◌, ◌^◌, ◌<◌, ◌≤◌, [], ◌∷◌, ◌++◌, length, IfOk, IfErr, IfSome, Some, None};
+ghost use Rattle.std.specs.Prelude.{◌≡◌, ◌+◌, ◌^◌, ◌<◌, ◌≤◌, [], ◌∷◌, ◌++◌, length, IfOk, IfErr, Some, None};
 ghost use Rattle.std.specs.List.{AllByRecursion};
 ghost use Rattle.text_forms.specs.Layout.{holder_bound, serial_bound};
+ghost use Rattle.text_forms.specs.Pass.{absent};
 ghost use Rattle.text_forms.specs.Tables.{entry_hash};
 ghost use Rattle.counted_set.specs.Chain.{IsKept, IsRightOf};
-ghost use Rattle.counted_set.specs.Counted.{GivesShares, IfFound, IsPass};
-ghost use Rattle.counted_set.specs.Find.{IsFind};
-ghost use Rattle.counted_set.specs.Link.{IsLink, IsIntern, next_entry};
+ghost use Rattle.counted_set.specs.Counted.{GivesShares, IfDying, IfFound, IsPass, ShowsFirst, found_by};
+ghost use Rattle.counted_set.specs.Link.{IsLink, IsIntern, answer_of, next_entry};
 ghost use Rattle.counted_set.specs.Memory.{IsMemory};
 ghost use Rattle.counted_set.specs.PassLeft.{GoesOnAfter, IsPassLeft};
 ghost use Rattle.counted_set.specs.Quiet.{PassesOthers};
@@ -19,6 +19,7 @@ use super::entries::Entries;
 use super::quiet::Met;
 use super::share::{Entry, Share};
 use super::visits::{memory_of, number_of, visit_each};
+use counted_cell::{FreeGrant, Grant};
 use node_chain::{Pack, StoredChain};
 use std::alloc::{AllocError, AllocFailed, Global};
 use std::marker::{Model, PhantomData};
@@ -33,17 +34,18 @@ use text_forms::word::{Buckets, Limits, ticket_word};
 /// It is one of some number of buckets. Each entry names that number, its hash is that of its text, its ticket is that of its serial in
 /// the bucket of the hash, and no serial is given twice. Which lock a bucket stands under isn't known here.
 ///
-/// Its entries are at rest: a walk over them takes them out, and puts them back. So it has 24 bytes.
-pub struct Bucket<Static: StaticTables> {
+/// Its entries are at rest: a walk over them takes them out, and puts them back. So it has 24 bytes. A share may be added to each by a
+/// grant of the second type.
+pub struct Bucket<Static: StaticTables, G: Grant = FreeGrant> {
     nodes: StoredChain<Pack<Entry>>,
     last: u64,
     number: u32, // of nodes
     buckets: Buckets,
     alloc: Global,
-    of: PhantomData<Static>,
+    of: PhantomData<(Static, G)>,
 }
 
-impl<Static: StaticTables> Model for Bucket<Static> {
+impl<Static: StaticTables, G: Grant> Model for Bucket<Static, G> {
     ghost use Rattle.counted_set.specs.Chain.{Chain, IsKept};
     ghost use Rattle.counted_set.specs.Stored.{AreStored};
     ghost use Rattle.node_chain.specs.Packs.{joined};
@@ -52,10 +54,10 @@ impl<Static: StaticTables> Model for Bucket<Static> {
 
     ghost view = { λ b. record { bits = b.buckets; entries = joined b.nodes; last = b.last } };
 
-    ghost invariant = { λ b. AreStored b.number b.nodes × IsKept Static.tables (record { bits = b.buckets; entries = joined b.nodes; last = b.last }) };
+    ghost invariant = { λ b. AreStored b.number b.nodes × IsKept Static.tables G.may (record { bits = b.buckets; entries = joined b.nodes; last = b.last }) };
 }
 
-impl<Static: StaticTables> Drop for Bucket<Static> {
+impl<Static: StaticTables, G: Grant> Drop for Bucket<Static, G> {
     fn drop(mut self) {
         drop(self.take_entries());
         let Self {
@@ -69,7 +71,7 @@ impl<Static: StaticTables> Drop for Bucket<Static> {
     }
 }
 
-impl<Static: StaticTables> Bucket<Static> {
+impl<Static: StaticTables, G: Grant> Bucket<Static, G> {
     /// A bucket without entries, which has given no serial: one of this many.
     pub fn new(alloc: Global, buckets: Buckets) -> Self
         ensures { result ≡ record { bits = buckets; entries = []; last = 0 } }
@@ -99,7 +101,7 @@ impl<Static: StaticTables> Bucket<Static> {
     /// Takes its entries out, for a walk over them, which begins at the first. It has none until it gets them back.
     fn take_entries(&mut self) -> Entries
         ensures entries { result ≡ at_start self.old.entries }
-        ensures kept { IsKept Static.tables self.old }
+        ensures kept { IsKept Static.tables G.may self.old }
         ensures few { length self.old.entries < 2 ^ 64 }
         ensures left { self.new ≡ record { bits = self.old.bits; entries = []; last = self.old.last } }
     {
@@ -110,7 +112,7 @@ impl<Static: StaticTables> Bucket<Static> {
 
     /// Puts entries back, from the first on, in the place of those that it had.
     fn put_entries(&mut self, entries: Entries)
-        requires { IsKept Static.tables (record { bits = self.old.bits; entries = entries.passed ++ entries.left; last = self.old.last }) }
+        requires { IsKept Static.tables G.may (record { bits = self.old.bits; entries = entries.passed ++ entries.left; last = self.old.last }) }
         ensures { self.new ≡ record { bits = self.old.bits; entries = entries.passed ++ entries.left; last = self.old.last } }
     {
         let (nodes, number) = entries.store();
@@ -122,28 +124,29 @@ impl<Static: StaticTables> Bucket<Static> {
     /// answers as dying. Entries of the text are asked by `add` until one was added or is full, and all others by `dying`.
     /// `hash` is that of the text: its `entry_hash` under the key of the tables.
     ///
-    /// It takes no memory. What stays linked stays in order.
-    pub fn pass<R: Wait, C: Counts>(
+    /// It takes no memory. What stays linked stays in order. The grant is spent where a share was added, and is there again otherwise.
+    pub fn pass<R: Wait, C: Counts<G>>(
         &mut self,
         rt: &R,
         text: &str,
         hash: u64,
         counts: &mut C,
-    ) -> Pass<C::Share>
+        grant: G,
+    ) -> Pass<C::Share, G>
         requires { hash ≡ entry_hash Static.tables text.now }
-        ensures pass { IsPass C.adds C.dies (Some text.now) counts.old self.old.entries result counts.new self.new.entries }
+        ensures pass { IsPass C.gives (Some text.now) counts.old self.old.entries (found_by result) counts.new self.new.entries }
         ensures bits { self.new.bits ≡ self.old.bits }
         ensures last { self.new.last ≡ self.old.last }
     {
         let mut entries = self.take_entries();
-        let answer = pass_left(rt, &mut entries, text, hash, counts);
+        let answer = pass_left(rt, &mut entries, text, hash, counts, grant);
         self.put_entries(entries);
         answer
     }
 
     /// One pass over all entries, which looks for no text: asks `counts` of each by `dying`, and unlinks those that are.
-    pub fn prune<C: Counts>(&mut self, counts: &mut C)
-        ensures pass { IsPass C.adds C.dies None counts.old self.old.entries Pass.Absent counts.new self.new.entries }
+    pub fn prune<C: Counts<G>>(&mut self, counts: &mut C)
+        ensures pass { IsPass C.gives None counts.old self.old.entries absent counts.new self.new.entries }
         ensures bits { self.new.bits ≡ self.old.bits }
         ensures last { self.new.last ≡ self.old.last }
     {
@@ -180,11 +183,29 @@ impl<Static: StaticTables> Bucket<Static> {
     /// as for `pass`. The entry has the limit of holders that is handed in.
     ///
     /// `TicketsSpent` comes exactly where the last serial isn't below the limit, and otherwise `Memory` alone. A refusal
-    /// leaves the bucket as it was.
-    pub fn link(&mut self, text: &str, hash: u64, limits: &Limits) -> Result<Share, Fault>
+    /// leaves the bucket as it was, and hands the grant back.
+    pub fn link(
+        &mut self,
+        text: &str,
+        hash: u64,
+        limits: &Limits,
+        grant: G,
+    ) -> Result<Share, (Fault, G)>
+        requires { hash ≡ entry_hash Static.tables text.now }
+        ensures link { IsLink limits.now text.now hash self.old (answer_of result) self.new }
+        ensures right { IfOk result (λ s. IsRightOf Static.tables G.may self.old.bits s) }
+    {
+        match self.link_next(text, hash, limits) {
+            Ok(share) => Ok(share),
+            Err(fault) => Err((fault, grant)),
+        }
+    }
+
+    /// The same without a grant.
+    fn link_next(&mut self, text: &str, hash: u64, limits: &Limits) -> Result<Share, Fault>
         requires { hash ≡ entry_hash Static.tables text.now }
         ensures link { IsLink limits.now text.now hash self.old result self.new }
-        ensures right { IfOk result (λ s. IsRightOf Static.tables self.old.bits s) }
+        ensures right { IfOk result (λ s. IsRightOf Static.tables G.may self.old.bits s) }
     {
         let greatest = limits.serials();
         if self.last >= greatest {
@@ -209,8 +230,8 @@ impl<Static: StaticTables> Bucket<Static> {
         requires holders { (1 ≤ holders) × (holders < holder_bound) }
         ensures entry { IfOk result (λ made. made.0 ≡ next_entry self.now text.now hash holders made.0.name) }
         ensures share { IfOk result (λ made. made.1 ≡ made.0) }
-        ensures right { IfOk result (λ made. IsRightOf Static.tables self.now.bits made.1) }
-        ensures kept { IfOk result (λ made. IsKept Static.tables (record { bits = self.now.bits; entries = made.0 ∷ self.now.entries; last = serial })) }
+        ensures right { IfOk result (λ made. IsRightOf Static.tables G.may self.now.bits made.1) }
+        ensures kept { IfOk result (λ made. IsKept Static.tables G.may (record { bits = self.now.bits; entries = made.0 ∷ self.now.entries; last = serial })) }
     {
         let ticket = ticket_word(serial, self.buckets.bucket_of(hash));
         Entry::new(self.alloc, self.buckets, ticket, text, hash, holders)
@@ -218,7 +239,7 @@ impl<Static: StaticTables> Bucket<Static> {
 
     /// Links an entry as the first, which has this serial, and gives its only share. A refusal changes nothing.
     fn link_shared(&mut self, entry: Entry, share: Share, serial: u64) -> Result<Share, AllocError>
-        requires { IsKept Static.tables (record { bits = self.old.bits; entries = entry ∷ self.old.entries; last = serial }) }
+        requires { IsKept Static.tables G.may (record { bits = self.old.bits; entries = entry ∷ self.old.entries; last = serial }) }
         ensures linked { IfOk result (λ s. (s ≡ share) × (self.new ≡ record { bits = self.old.bits; entries = entry ∷ self.old.entries; last = serial })) }
         ensures refused { IfErr result (λ _. self.new ≡ self.old) }
     {
@@ -233,7 +254,7 @@ impl<Static: StaticTables> Bucket<Static> {
 
     /// Links an entry as the first, which has this serial. A refusal changes nothing, and gives the entry back.
     fn link_entry(&mut self, entry: Entry, serial: u64) -> Result<(), AllocFailed<Entry>>
-        requires { IsKept Static.tables (record { bits = self.old.bits; entries = entry ∷ self.old.entries; last = serial }) }
+        requires { IsKept Static.tables G.may (record { bits = self.old.bits; entries = entry ∷ self.old.entries; last = serial }) }
         ensures linked { IfOk result (λ _. self.new ≡ record { bits = self.old.bits; entries = entry ∷ self.old.entries; last = serial }) }
         ensures refused { IfErr result (λ e. (e.value ≡ entry) × (self.new ≡ self.old)) }
     {
@@ -251,133 +272,126 @@ impl<Static: StaticTables> Bucket<Static> {
         }
     }
 
-    /// A pass for the text by counts whose shares are those of entries: it tells of what it finds. `hash` is that of the text.
-    fn pass_for_share<R: Wait, C: Counts<Share = Share>>(
+    /// A pass for the text by counts whose shares are those of entries, and no more: nothing is linked. `hash` is that of the text, as for
+    /// `pass`. Where the counts give shares of the entries that they are asked about, what it finds is a share of the text.
+    pub fn find<R: Wait, C: Counts<G, Share = Share>>(
         &mut self,
         rt: &R,
         text: &str,
         hash: u64,
         counts: &mut C,
-    ) -> Pass<Share>
+        grant: G,
+    ) -> Pass<Share, G>
         requires { hash ≡ entry_hash Static.tables text.now }
-        ensures pass { IsPass C.adds C.dies (Some text.now) counts.old self.old.entries result counts.new self.new.entries }
+        ensures pass { IsPass C.gives (Some text.now) counts.old self.old.entries (found_by result) counts.new self.new.entries }
         ensures bits { self.new.bits ≡ self.old.bits }
         ensures last { self.new.last ≡ self.old.last }
-        ensures share { GivesShares C.adds → IfFound result (λ s. (s.text ≡ text.now) × IsRightOf Static.tables self.old.bits s) }
+        ensures share { GivesShares C.gives → IfFound (found_by result) (λ s. (s.text ≡ text.now) × IsRightOf Static.tables G.may self.old.bits s) }
     {
         let _ = &self.nodes; // so that the proof sees what the bucket keeps
-        self.pass(rt, text, hash, counts)
+        self.pass(rt, text, hash, counts, grant)
     }
 
     /// A pass for the text, which goes on to `link` where it is absent. `hash` is that of the text, as for
     /// `pass`.
     ///
     /// It gives the share that the pass found, and `FullCount` where the pass found the entry full. Other refusals are those
-    /// of `link`. Where the counts give shares of the entries that they are asked about, the share is of the text.
-    pub fn intern<R: Wait, C: Counts<Share = Share>>(
+    /// of `link`. Where the counts give shares of the entries that they are asked about, the share is of the text. A refusal hands the grant
+    /// back.
+    pub fn intern<R: Wait, C: Counts<G, Share = Share>>(
         &mut self,
         rt: &R,
         text: &str,
         hash: u64,
         limits: &Limits,
         counts: &mut C,
-    ) -> Result<Share, Fault>
+        grant: G,
+    ) -> Result<Share, (Fault, G)>
         requires { hash ≡ entry_hash Static.tables text.now }
-        ensures intern { IsIntern C.adds C.dies limits.now text.now hash counts.old self.old result counts.new self.new }
-        ensures share { GivesShares C.adds → IfOk result (λ s. (s.text ≡ text.now) × IsRightOf Static.tables self.old.bits s) }
+        ensures intern { IsIntern C.gives limits.now text.now hash counts.old self.old (answer_of result) counts.new self.new }
+        ensures share { GivesShares C.gives → IfOk result (λ s. (s.text ≡ text.now) × IsRightOf Static.tables G.may self.old.bits s) }
     {
-        match self.pass_for_share(rt, text, hash, counts) {
+        match self.find(rt, text, hash, counts, grant) {
             Pass::Found(share) => Ok(share),
-            Pass::Full => Err(Fault::FullCount),
-            Pass::Absent => self.link(text, hash, limits),
-        }
-    }
-
-    /// A pass for the text, and no more: nothing is linked. `hash` is that of the text, as for `pass`.
-    ///
-    /// It gives the share that the pass found, `None` exactly where the pass finds the text absent, and `FullCount` exactly where it
-    /// finds the entry full. Where the counts give shares of the entries that they are asked about, the share is of the text.
-    pub fn find<R: Wait, C: Counts<Share = Share>>(
-        &mut self,
-        rt: &R,
-        text: &str,
-        hash: u64,
-        counts: &mut C,
-    ) -> Result<Option<Share>, Fault>
-        requires { hash ≡ entry_hash Static.tables text.now }
-        ensures find { IsFind C.adds C.dies text.now counts.old self.old result counts.new self.new }
-        ensures share { GivesShares C.adds → IfOk result (λ found. IfSome found (λ s. (s.text ≡ text.now) × IsRightOf Static.tables self.old.bits s)) }
-    {
-        match self.pass_for_share(rt, text, hash, counts) {
-            Pass::Found(share) => Ok(Some(share)),
-            Pass::Full => Err(Fault::FullCount),
-            Pass::Absent => Ok(None),
+            Pass::Full(grant) => Err((Fault::FullCount, grant)),
+            Pass::Absent(grant) => self.link(text, hash, limits, grant),
         }
     }
 }
 
+// What a pass does after the reply about an entry of the text: it has its answer, or goes on with the grant.
+enum Next<S, G> {
+    Answer(Pass<S, G>),
+    GoOn(G),
+}
+
 // Goes over the entries that are left as a pass for the text does.
-fn pass_left<R: Wait, C: Counts>(
+fn pass_left<R: Wait, G: Grant, C: Counts<G>>(
     rt: &R,
     entries: &mut Entries,
     text: &str,
     hash: u64,
     counts: &mut C,
-) -> Pass<C::Share>
-    requires { AllByRecursion (λ e. e.text ≡ text.now → e.hash ≡ hash) entries.old.left }
-    ensures { IsPassLeft C.adds C.dies (Some text.now) counts.old entries.old result counts.new entries.new }
+    grant: G,
+) -> Pass<C::Share, G>
+    requires { AllByRecursion (λ e. (e.text ≡ text.now → e.hash ≡ hash) × G.may e.name) entries.old.left }
+    ensures { IsPassLeft C.gives (Some text.now) counts.old entries.old (found_by result) counts.new entries.new }
 {
+    let mut unspent = grant;
     while let Some(entry) = entries.look() {
         if entry.is_of(text, hash) {
-            let reply = counts.add(rt, entry);
-            if let Some(answer) = go_on_after(reply, entries, counts) {
-                return answer;
+            let reply = counts.add(rt, entry, unspent);
+            match go_on_after(reply, entries, counts) {
+                Next::Answer(answer) => return answer,
+                Next::GoOn(grant) => unspent = grant,
             }
         } else if !entry.has_hash(hash) {
             pass_others(hash, entries, counts);
-        } else if counts.dying(entry) {
-            entries.take_out();
         } else {
-            entries.keep();
+            match counts.dying(entry) {
+                Some(gone) => entries.take_out::<G, C>(gone),
+                None => entries.keep(),
+            }
         }
     }
-    Pass::Absent
+    Pass::Absent(unspent)
 }
 
 // Goes on after this reply about the next entry, which is of the text. It takes out an entry that is dying, and the pass has no answer
 // yet. Any other reply is the answer, and those after the entry which are dying are taken out.
 #[inline]
-fn go_on_after<C: Counts>(
-    reply: CountReply<C::Share>,
+fn go_on_after<G: Grant, C: Counts<G>>(
+    reply: CountReply<C::Share, C::Gone, C::Full, G>,
     asked: &mut Entries,
     counts: &mut C,
-) -> Option<Pass<C::Share>>
-    requires { 0 < length asked.old.left }
-    ensures { GoesOnAfter C.adds C.dies reply counts.old asked.old result counts.new asked.new }
+) -> Next<C::Share, G>
+    requires some { 0 < length asked.old.left }
+    requires dying { IfDying reply (λ gone. ShowsFirst C.shows_gone gone asked.old.left) }
+    ensures { GoesOnAfter C.gives reply counts.old asked.old result counts.new asked.new }
 {
     match reply {
         CountReply::Added(share) => {
             prune_after(asked, counts);
-            Some(Pass::Found(share))
+            Next::Answer(Pass::Found(share))
         }
-        CountReply::Full => {
+        CountReply::Full(_, grant) => {
             prune_after(asked, counts);
-            Some(Pass::Full)
+            Next::Answer(Pass::Full(grant))
         }
-        CountReply::Dying => {
-            asked.take_out();
-            None
+        CountReply::Dying(gone, grant) => {
+            asked.take_out::<G, C>(gone);
+            Next::GoOn(grant)
         }
     }
 }
 
 // Passes entries of the next node by that haven't the hash, and takes out the first that is dying.
 #[inline(always)] // as `keep_quiet` is
-fn pass_others<C: Counts>(hash: u64, entries: &mut Entries, counts: &mut C)
-    ensures { PassesOthers C.dies (Some hash) counts.old entries.old counts.new entries.new }
+fn pass_others<G: Grant, C: Counts<G>>(hash: u64, entries: &mut Entries, counts: &mut C)
+    ensures { PassesOthers C.gives C.shows_gone (Some hash) counts.old entries.old counts.new entries.new }
 {
     match entries.keep_quiet(Some(hash), counts) {
-        Some(Met::Dying(_)) => entries.take_out(),
+        Some(Met::Dying(_, gone)) => entries.take_out::<G, C>(gone),
         Some(Met::Nothing) => {}
         Some(Met::Alike(_)) => {}
         None => {}
@@ -386,9 +400,9 @@ fn pass_others<C: Counts>(hash: u64, entries: &mut Entries, counts: &mut C)
 
 // Takes out those after the next entry which are dying. Often there are none after it, and then nothing moves.
 #[inline]
-fn prune_after<C: Counts>(decided: &mut Entries, counts: &mut C)
+fn prune_after<G: Grant, C: Counts<G>>(decided: &mut Entries, counts: &mut C)
     requires { 0 < length decided.old.left }
-    ensures { IsPassLeft C.adds C.dies None counts.old (passed_by decided.old decided.old.left) Pass.Absent counts.new decided.new }
+    ensures { IsPassLeft C.gives None counts.old (passed_by decided.old decided.old.left) absent counts.new decided.new }
 {
     if decided.has_more() {
         prune_behind(decided, counts);
@@ -397,22 +411,22 @@ fn prune_after<C: Counts>(decided: &mut Entries, counts: &mut C)
 
 // Passes the next entry by, and takes out those after it which are dying.
 #[inline(never)]
-fn prune_behind<C: Counts>(decided: &mut Entries, counts: &mut C)
+fn prune_behind<G: Grant, C: Counts<G>>(decided: &mut Entries, counts: &mut C)
     requires { 0 < length decided.old.left }
-    ensures { IsPassLeft C.adds C.dies None counts.old (passed_by decided.old decided.old.left) Pass.Absent counts.new decided.new }
+    ensures { IsPassLeft C.gives None counts.old (passed_by decided.old decided.old.left) absent counts.new decided.new }
 {
     decided.keep();
     prune_left(decided, counts);
 }
 
 // Takes out those of the entries that are left which are dying.
-fn prune_left<C: Counts>(entries: &mut Entries, counts: &mut C)
-    ensures { IsPassLeft C.adds C.dies None counts.old entries.old Pass.Absent counts.new entries.new }
+fn prune_left<G: Grant, C: Counts<G>>(entries: &mut Entries, counts: &mut C)
+    ensures { IsPassLeft C.gives None counts.old entries.old absent counts.new entries.new }
 {
     while let Some(met) = entries.keep_quiet(None, counts) {
         match met {
             Met::Nothing => {}
-            Met::Dying(_) => entries.take_out(),
+            Met::Dying(_, gone) => entries.take_out::<G, C>(gone),
             Met::Alike(_) => unreachable!(),
         }
     }

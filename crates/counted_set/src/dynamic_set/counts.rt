@@ -1,81 +1,110 @@
 //! What a pass asks of the entries' counts.
 
 use super::share::{Entry, Share};
+use counted_cell::{AtLimit, Grant, NoShares};
 use std::sync::Wait;
 
-/// What `add` answers about an entry.
+/// What `add` answers about an entry. An answer without a share has what shows it, and the grant, which wasn't spent.
 #[derive(Drop)]
-pub enum CountReply<S> {
+pub enum CountReply<S, D, F, G> {
     /// It has one share more, this one.
     Added(S),
     /// It has no share left, and gets none any more.
-    Dying,
+    Dying(D, G),
     /// It has as many shares as it may have.
-    Full,
+    Full(F, G),
 }
 
-/// What a pass for a text finds.
+/// What a pass for a text finds. Where it adds no share, it hands the grant back.
 #[derive(Drop)]
-pub enum Pass<S> {
+pub enum Pass<S, G> {
     /// An entry of the text got one share more, this one.
     Found(S),
     /// An entry of the text has as many shares as it may have.
-    Full,
+    Full(G),
     /// Each entry of the text is dying.
-    Absent,
+    Absent(G),
 }
 
-/// Who is asked about the counts of entries.
-pub trait Counts {
-    ghost use Rattle.std.specs.Prelude.{Bool};
+/// Who is asked about the counts of entries. An addition takes a grant, and spends it or hands it back.
+pub trait Counts<G: Grant> {
+    ghost use Rattle.text_forms.specs.Pass.{PassReply};
     ghost use Rattle.counted_set.specs.Chain.{Linked};
-    ghost use Rattle.counted_set.specs.declared.dynamic_set.counts.CountReply.{CountReply};
+    ghost use Rattle.counted_set.specs.Counted.{IfDying, IfFull, reply_by, reply_of};
+    ghost use Rattle.std.specs.Prelude.{IfSome};
 
     /// What `add` gives.
     type Share;
 
-    /// By which replies about an entry `add` leaves which counts.
-    ghost adds: { Self → Linked → CountReply Self.Share → Self → Type 0 };
+    /// What shows that an entry has no share left, and will never have one: without it no entry is taken out.
+    type Gone: Drop;
 
-    /// By which answers about an entry `dying` leaves which counts.
-    ghost dies: { Self → Linked → Bool → Self → Type 0 };
+    /// What shows that an entry has as many shares as it may have.
+    type Full: Drop;
+
+    /// By which replies about an entry `add` and `dying` leave which counts.
+    ghost gives: { Self → Linked → PassReply Self.Share → Self → Type 0 };
+
+    /// What shows of an entry that it has no share left.
+    ghost shows_gone: { Linked → Self.Gone → Type 0 };
+
+    /// What shows of an entry that it has as many as it may have.
+    ghost shows_full: { Linked → Self.Full → Type 0 };
 
     /// One share more of the entry, unless it is dying or full.
-    fn add<R: Wait>(&mut self, rt: &R, entry: &Entry) -> CountReply<Self::Share>
-        ensures { adds self.old entry.now result self.new };
+    fn add<R: Wait>(
+        &mut self,
+        rt: &R,
+        entry: &Entry,
+        grant: G,
+    ) -> CountReply<Self::Share, Self::Gone, Self::Full, G>
+        requires { G.may entry.now.name }
+        ensures gives { gives self.old entry.now (reply_of result) self.new }
+        ensures dying { IfDying result (shows_gone entry.now) }
+        ensures full { IfFull result (shows_full entry.now) };
 
-    /// Whether the entry has no share left.
-    fn dying(&mut self, entry: &Entry) -> bool
-        ensures { dies self.old entry.now result self.new };
+    /// What shows that the entry has no share left, if it has none.
+    fn dying(&mut self, entry: &Entry) -> Option<Self::Gone>
+        ensures gives { gives self.old entry.now (reply_by result) self.new }
+        ensures dying { IfSome result (shows_gone entry.now) };
 }
 
 /// The counts that the entries have themselves. What is added is a share of the entry: by a single try, and where that gives none, by what the
-/// entry's `add` asks.
+/// entry's `add` asks. Each answer is of that entry's own cell.
 #[derive(Drop)]
 pub struct OwnCounts;
 
-impl Counts for OwnCounts {
-    ghost use Rattle.std.specs.Prelude.{◌≡◌, ⊤};
+impl<G: Grant> Counts<G> for OwnCounts {
+    ghost use Rattle.std.specs.Prelude.{◌≡◌};
     ghost use Rattle.counted_set.specs.Counted.{IfAdded};
 
     type Share = Share;
 
-    ghost adds = { λ _ entry reply _. IfAdded reply (λ share. share ≡ entry) };
+    type Gone = NoShares;
 
-    ghost dies = { λ _ _ _ _. ⊤ };
+    type Full = AtLimit;
 
-    fn add<R: Wait>(&mut self, rt: &R, entry: &Entry) -> CountReply<Share> {
+    ghost gives = { λ _ entry reply _. IfAdded reply (λ share. share ≡ entry) };
+
+    ghost shows_gone = { λ entry none. none ≡ entry.name };
+
+    ghost shows_full = { λ entry full. full ≡ entry.name };
+
+    fn add<R: Wait>(
+        &mut self,
+        rt: &R,
+        entry: &Entry,
+        grant: G,
+    ) -> CountReply<Share, NoShares, AtLimit, G> {
         // Another step seldom comes between, so nothing has to wait.
-        match entry.try_add() {
-            Some(share) => CountReply::Added(share),
-            None => {
-                let (reply, _) = entry.asked(rt);
-                reply
-            }
+        let owner = entry.owner();
+        match owner.try_add(grant.permit(owner)) {
+            Ok(share) => CountReply::Added(Share::of_cell(share)),
+            Err(permit) => entry.asked(rt, permit),
         }
     }
 
-    fn dying(&mut self, entry: &Entry) -> bool {
+    fn dying(&mut self, entry: &Entry) -> Option<NoShares> {
         entry.dying()
     }
 }

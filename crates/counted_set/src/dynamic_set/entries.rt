@@ -1,6 +1,7 @@
 //! The entries of a bucket, with a place in them. Only this file knows how they are kept.
 
 ghost use Rattle.std.specs.Prelude.{◌≡◌, ◌+◌, ◌<◌, ◌≤◌, ◌↔◌, ◌∷◌, ◌++◌, [], length, IsTrue, IfOk, IfErr};
+ghost use Rattle.counted_set.specs.Counted.{ShowsFirst};
 ghost use Rattle.counted_set.specs.Quiet.{PassesQuiet};
 ghost use Rattle.counted_set.specs.Stored.{AreStored};
 ghost use Rattle.node_chain.specs.Packs.{joined};
@@ -9,6 +10,7 @@ ghost use Rattle.node_chain.specs.Walked.{IsNext, at_start, passed_by, taken_out
 use super::counts::Counts;
 use super::quiet::{Met, meet_from};
 use super::share::Entry;
+use counted_cell::Grant;
 use node_chain::{Node, NodeChain, Pack, StoredChain};
 use std::alloc::{AllocFailed, Global};
 use std::marker::Model;
@@ -108,28 +110,42 @@ impl Entries {
     /// Asks the entries that are left of the first node whether they are dying, in order, and passes those by that aren't, until one is or
     /// has the wanted hash: that one is then the next. `None` where no entry is left.
     #[inline(always)] // so that what is wanted is known in its loops
-    pub(super) fn keep_quiet<C: Counts>(
+    pub(super) fn keep_quiet<G: Grant, C: Counts<G>>(
         &mut self,
         wanted: Option<u64>,
         counts: &mut C,
-    ) -> Option<Met>
-        ensures { PassesQuiet C.dies wanted counts.old self.old result counts.new self.new }
+    ) -> Option<Met<C::Gone>>
+        ensures { PassesQuiet C.gives C.shows_gone wanted counts.old self.old result counts.new self.new }
     {
         let node = self.chain.look()?;
-        let met = meet_from(node, self.at, wanted, counts);
-        match met {
+        match meet_from(node, self.at, wanted, counts) {
             Met::Nothing => {
                 self.chain.keep();
                 self.at = 0;
+                Some(Met::Nothing)
             }
-            Met::Dying(place) => self.at = place,
-            Met::Alike(place) => self.at = place,
+            Met::Dying(place, gone) => {
+                self.at = place;
+                Some(Met::Dying(place, gone))
+            }
+            Met::Alike(place) => {
+                self.at = place;
+                Some(Met::Alike(place))
+            }
         }
-        Some(met)
     }
 
-    /// Takes the next entry out, and frees it, and its node where that has no other.
-    pub(super) fn take_out(&mut self)
+    /// Takes the next entry out, which has no share left, as the counts show, and frees it, and its node where that has no other.
+    pub(super) fn take_out<G: Grant, C: Counts<G>>(&mut self, _gone: C::Gone)
+        requires { ShowsFirst C.shows_gone _gone self.old.left }
+        ensures { self.new ≡ taken_out self.old self.old.left }
+    {
+        self.remove_next();
+    }
+
+    /// The same without a look at what shows it.
+    #[inline]
+    fn remove_next(&mut self)
         requires { 0 < length self.old.left }
         ensures { self.new ≡ taken_out self.old self.old.left }
     {

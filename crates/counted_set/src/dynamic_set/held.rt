@@ -1,24 +1,67 @@
 //! A share with its set: what a dynamic atom holds.
 
-ghost use Rattle.std.specs.Prelude.{◌≡◌, IfErr, IfOk, IfSome};
-ghost use Rattle.counted_cell.specs.Counting.{some_receipt};
+ghost use Rattle.std.specs.Prelude.{◌≡◌, true, IfErr, IfOk};
+ghost use Rattle.counted_cell.specs.Counting.{receipt_owns};
 ghost use types.Logic.{sem};
 
 use super::set::Set;
 use super::share::Share;
-use counted_cell::{CellShare, Receipt};
+use counted_cell::{AtLimit, CellShare, Permit, Receipt};
 use std::marker::{Model, PhantomData};
 use std::sync::Wait;
-use text_forms::Fault;
 use text_forms::static_sets::StaticTables;
+
+/// One share of a cell, with the set that it is of. Its drop takes it off the count: this very share, as its number shows, and no other
+/// one. In a clause it is its cell, and its number.
+struct SetShare<'s, Static: StaticTables> {
+    share: CellShare,
+    set: &'s Set<Static>,
+}
+
+impl<'s, Static: StaticTables> Model for SetShare<'s, Static> {
+    ghost use Rattle.counted_cell.specs.Cell.{OneShare};
+
+    ghost Value = { OneShare };
+
+    ghost view = { λ h. h.share };
+}
+
+impl<'s, Static: StaticTables> Drop for SetShare<'s, Static> {
+    #[inline]
+    fn drop(self)
+        ensures* given { sem 𝓛 (receipt_owns self.entry.cell.name self.entry.number) }
+    {
+        let _ = self.give();
+    }
+}
+
+impl<'s, Static: StaticTables> SetShare<'s, Static> {
+    /// Takes the share off the count, and tries the bucket's lock where it was the last.
+    #[inline]
+    fn give(self) -> Receipt
+        ensures { (result.name ≡ self.entry.cell.name) × (result.number ≡ self.entry.number) }
+    {
+        let Self { share, set } = self;
+        set.give_back(share)
+    }
+
+    /// The share alone, which has no drop.
+    #[inline]
+    fn into_counted(self) -> CellShare
+        ensures { result ≡ self.entry }
+    {
+        let Self { share, set: _ } = self;
+        share
+    }
+}
 
 /// One share of an entry, with the set that it is of.
 ///
-/// Its drop subtracts one and never waits. Where it was the entry's last share, the bucket's lock is tried once; if it was
-/// free, dying entries are taken out of the bucket, and otherwise the next pass over the bucket does that.
+/// Its drop, which is that of its `SetShare`, subtracts one and never waits. Where it was the entry's last share, the bucket's lock is
+/// tried once; if it was free, dying entries are taken out of the bucket, and otherwise the next pass over the bucket does that.
+#[derive(Drop)]
 pub struct Held<'s, Static: StaticTables> {
-    share: CellShare,
-    set: &'s Set<Static>,
+    own: SetShare<'s, Static>,
 }
 
 impl<'s, Static: StaticTables> Model for Held<'s, Static> {
@@ -28,30 +71,24 @@ impl<'s, Static: StaticTables> Model for Held<'s, Static> {
 
     ghost use Rattle.counted_set.specs.Share.{linked_of};
 
-    ghost view = { λ h. linked_of h.share.cell };
+    ghost view = { λ h. linked_of h.own.cell };
 
-    ghost invariant = { λ h. IsRight Static.tables (linked_of h.share.cell) };
-}
-
-impl<'s, Static: StaticTables> Drop for Held<'s, Static> {
-    #[inline]
-    fn drop(self)
-        ensures* given { sem 𝓛 (some_receipt self.entry.name) }
-    {
-        let _ = self.give();
-    }
+    ghost invariant = { λ h. IsRight Static.tables (linked_of h.own.cell) };
 }
 
 impl<'s, Static: StaticTables> Held<'s, Static> {
     ghost use Rattle.counted_set.specs.Chain.{IsRight};
+    ghost use Rattle.counted_set.specs.Share.{linked_of};
 
     pub(super) fn new(share: Share, set: &'s Set<Static>) -> Held<'s, Static>
         requires { IsRight Static.tables share }
         ensures { result ≡ share }
     {
         Held {
-            share: share.into_counted(),
-            set,
+            own: SetShare {
+                share: share.into_counted(),
+                set,
+            },
         }
     }
 
@@ -61,9 +98,9 @@ impl<'s, Static: StaticTables> Held<'s, Static> {
     pub fn into_share(self) -> HeldShare<Static>
         ensures { result ≡ self.entry }
     {
-        let Self { share, set: _ } = self;
+        let Self { own } = self;
         HeldShare {
-            counted: share,
+            counted: own.into_counted(),
             of: PhantomData,
         }
     }
@@ -76,18 +113,11 @@ impl<'s, Static: StaticTables> Held<'s, Static> {
     {
         let HeldShare { counted, of: _ } = share;
         Held {
-            share: counted,
-            set,
+            own: SetShare {
+                share: counted,
+                set,
+            },
         }
-    }
-
-    /// Takes the share off the entry's count, and tries the bucket's lock where it was the last.
-    #[inline]
-    fn give(self) -> Receipt
-        ensures { result.name ≡ self.entry.name }
-    {
-        let Self { share, set } = self;
-        set.give_back(share)
     }
 
     /// The entry's ticket.
@@ -95,14 +125,14 @@ impl<'s, Static: StaticTables> Held<'s, Static> {
     pub fn ticket(&self) -> u64
         ensures { result ≡ self.now.ticket }
     {
-        self.share.label().ticket
+        self.own.share.label().ticket
     }
 
     /// The entry's text.
     pub fn text(&self) -> &str
         ensures { result.now ≡ self.now.text }
     {
-        self.share.text()
+        self.own.share.text()
     }
 
     /// The hash of the entry's text.
@@ -110,35 +140,63 @@ impl<'s, Static: StaticTables> Held<'s, Static> {
     pub fn hash(&self) -> u64
         ensures { result ≡ self.now.hash }
     {
-        self.share.label().hash
+        self.own.share.label().hash
     }
 
-    /// One share more of the same entry, by a single try that waits for nothing. `None` where another step on the count came between, or the
-    /// entry has as many as it may have: then nothing has changed. `clone_share` tries on, and tells a full count.
+    /// A permit for one share more, where the entry's cell gets more, as each does that a set interned. It does nothing when it runs.
     #[inline]
-    pub fn try_clone_share(&self) -> Option<Held<'s, Static>>
-        ensures { IfSome result (λ held. held ≡ self.now) }
+    pub fn permit(&self) -> Permit
+        requires { self.now.name.grows ≡ true }
+        ensures { result.name ≡ self.now.name }
     {
-        let share = self.share.try_add()?;
-        Some(Held {
-            share,
-            set: self.set,
-        })
+        self.own.share.permit()
     }
 
-    /// One share more of the same entry. It is refused for `FullCount` alone, where the entry has as many as it may have.
+    /// One share more of the same entry, for the permit, by a single try that waits for nothing. The permit is there again where another step
+    /// on the count came between, or the entry has as many as it may have: then nothing has changed. `clone_share` tries on, and tells a
+    /// full count.
+    #[inline]
+    pub fn try_clone_share(&self, permit: Permit) -> Result<Held<'s, Static>, Permit>
+        requires { permit.name ≡ self.now.name }
+        ensures same { IfOk result (λ held. held ≡ self.now) }
+        ensures left { IfErr result (λ left. (left.name ≡ self.now.name) × (left.number ≡ permit.number)) }
+    {
+        match self.own.share.try_add(permit) {
+            Ok(share) => Ok(self.with(share)),
+            Err(permit) => Err(permit),
+        }
+    }
+
+    /// One share more of the same entry, for the permit. It is refused only where the entry has as many as it may have, as the error shows:
+    /// then the permit is there again, and nothing has changed.
     #[cold]
     #[inline(never)]
-    pub fn clone_share<R: Wait>(&self, rt: &R) -> Result<Held<'s, Static>, Fault>
+    pub fn clone_share<R: Wait>(
+        &self,
+        rt: &R,
+        permit: Permit,
+    ) -> Result<Held<'s, Static>, (AtLimit, Permit)>
+        requires { permit.name ≡ self.now.name }
         ensures same { IfOk result (λ held. held ≡ self.now) }
-        ensures full { IfErr result (λ fault. fault ≡ Fault.FullCount) }
+        ensures full { IfErr result (λ full. (full.0 ≡ self.now.name) × (full.1.name ≡ self.now.name) × (full.1.number ≡ permit.number)) }
     {
-        match self.share.add(rt) {
-            Ok(share) => Ok(Held {
+        match self.own.share.add(rt, permit) {
+            Ok(share) => Ok(self.with(share)),
+            Err(full) => Err(full),
+        }
+    }
+
+    /// Another share of the same cell, with the set.
+    #[inline]
+    fn with(&self, share: CellShare) -> Held<'s, Static>
+        requires { linked_of share.cell ≡ self.now }
+        ensures { result ≡ self.now }
+    {
+        Held {
+            own: SetShare {
                 share,
-                set: self.set,
-            }),
-            Err(_) => Err(Fault::FullCount),
+                set: self.own.set,
+            },
         }
     }
 }
@@ -172,24 +230,34 @@ impl<Static: StaticTables> HeldShare<Static> {
         self.counted.text()
     }
 
-    /// One share more of the same entry, with its set, which is the one that this share was taken from. It is refused for `FullCount`
-    /// alone, where the entry has as many as it may have.
+    /// A permit for one share more, as `Held::permit` gives it.
+    #[inline]
+    pub fn permit(&self) -> Permit
+        requires { self.now.name.grows ≡ true }
+        ensures { result.name ≡ self.now.name }
+    {
+        self.counted.permit()
+    }
+
+    /// One share more of the same entry, for the permit, with its set, which is the one that this share was taken from. It is refused as
+    /// `Held::clone_share` is.
     pub fn clone_held<'s, R: Wait>(
         &self,
         rt: &R,
         set: &'s Set<Static>,
-    ) -> Result<Held<'s, Static>, Fault>
+        permit: Permit,
+    ) -> Result<Held<'s, Static>, (AtLimit, Permit)>
+        requires { permit.name ≡ self.now.name }
         ensures same { IfOk result (λ held. held ≡ self.now) }
-        ensures full { IfErr result (λ fault. fault ≡ Fault.FullCount) }
+        ensures full { IfErr result (λ full. (full.0 ≡ self.now.name) × (full.1.name ≡ self.now.name) × (full.1.number ≡ permit.number)) }
     {
         // Another step seldom comes between, so nothing has to wait.
-        let share = match self.counted.try_add() {
-            Some(share) => share,
-            None => match self.counted.add(rt) {
-                Ok(share) => share,
-                Err(_) => return Err(Fault::FullCount),
-            },
+        let share = match self.counted.try_add(permit) {
+            Ok(share) => share,
+            Err(permit) => self.counted.add(rt, permit)?,
         };
-        Ok(Held { share, set })
+        Ok(Held {
+            own: SetShare { share, set },
+        })
     }
 }

@@ -6,28 +6,29 @@ ghost use Rattle.node_chain.specs.Packs.{most_items};
 
 use super::counts::Counts;
 use super::share::Entry;
+use counted_cell::Grant;
 use node_chain::Pack;
 
 /// What a walk over entries meets that ends it. An entry that was asked and isn't dying is quiet.
-#[derive(Clone, Copy, Drop)]
-pub(super) enum Met {
+#[derive(Drop)]
+pub(super) enum Met<D> {
     /// Nothing: all are quiet.
     Nothing,
-    /// The entry at this place of its node, which was asked, and is dying.
-    Dying(usize),
+    /// The entry at this place of its node, which was asked, and is dying, as the other shows.
+    Dying(usize, D),
     /// The entry at this place of its node, which has the wanted hash. It wasn't asked.
     Alike(usize),
 }
 
 /// Asks the entries of a node from a place on, at which there is one, until one is dying or has the wanted hash.
-pub(super) fn meet_from<C: Counts>(
+pub(super) fn meet_from<G: Grant, C: Counts<G>>(
     node: &Pack<Entry>,
     place: usize,
     wanted: Option<u64>,
     counts: &mut C,
-) -> Met
+) -> Met<C::Gone>
     requires { place < length node.now }
-    ensures { Meets C.dies wanted place counts.old (drop place node.now) result counts.new }
+    ensures { Meets C.gives C.shows_gone wanted place counts.old (drop place node.now) result counts.new }
 {
     match place {
         0 => meet_all(node, wanted, counts),
@@ -38,8 +39,12 @@ pub(super) fn meet_from<C: Counts>(
 }
 
 // All entries of a node.
-fn meet_all<C: Counts>(node: &Pack<Entry>, wanted: Option<u64>, counts: &mut C) -> Met
-    ensures { Meets C.dies wanted 0 counts.old (drop 0 node.now) result counts.new }
+fn meet_all<G: Grant, C: Counts<G>>(
+    node: &Pack<Entry>,
+    wanted: Option<u64>,
+    counts: &mut C,
+) -> Met<C::Gone>
+    ensures { Meets C.gives C.shows_gone wanted 0 counts.old (drop 0 node.now) result counts.new }
 {
     match node.get(0) {
         Some(entry) => match meet(entry, 0, wanted, counts) {
@@ -51,8 +56,12 @@ fn meet_all<C: Counts>(node: &Pack<Entry>, wanted: Option<u64>, counts: &mut C) 
 }
 
 // Those behind the first.
-fn meet_from_second<C: Counts>(node: &Pack<Entry>, wanted: Option<u64>, counts: &mut C) -> Met
-    ensures { Meets C.dies wanted 1 counts.old (drop 1 node.now) result counts.new }
+fn meet_from_second<G: Grant, C: Counts<G>>(
+    node: &Pack<Entry>,
+    wanted: Option<u64>,
+    counts: &mut C,
+) -> Met<C::Gone>
+    ensures { Meets C.gives C.shows_gone wanted 1 counts.old (drop 1 node.now) result counts.new }
 {
     match node.get(1) {
         Some(entry) => match meet(entry, 1, wanted, counts) {
@@ -64,8 +73,12 @@ fn meet_from_second<C: Counts>(node: &Pack<Entry>, wanted: Option<u64>, counts: 
 }
 
 // Those behind the second.
-fn meet_from_third<C: Counts>(node: &Pack<Entry>, wanted: Option<u64>, counts: &mut C) -> Met
-    ensures { Meets C.dies wanted 2 counts.old (drop 2 node.now) result counts.new }
+fn meet_from_third<G: Grant, C: Counts<G>>(
+    node: &Pack<Entry>,
+    wanted: Option<u64>,
+    counts: &mut C,
+) -> Met<C::Gone>
+    ensures { Meets C.gives C.shows_gone wanted 2 counts.old (drop 2 node.now) result counts.new }
 {
     match node.get(2) {
         Some(entry) => match meet(entry, 2, wanted, counts) {
@@ -77,8 +90,12 @@ fn meet_from_third<C: Counts>(node: &Pack<Entry>, wanted: Option<u64>, counts: &
 }
 
 // The fourth, behind which there is none.
-fn meet_fourth<C: Counts>(node: &Pack<Entry>, wanted: Option<u64>, counts: &mut C) -> Met
-    ensures met { Meets C.dies wanted 3 counts.old (drop 3 node.now) result counts.new }
+fn meet_fourth<G: Grant, C: Counts<G>>(
+    node: &Pack<Entry>,
+    wanted: Option<u64>,
+    counts: &mut C,
+) -> Met<C::Gone>
+    ensures met { Meets C.gives C.shows_gone wanted 3 counts.old (drop 3 node.now) result counts.new }
     ensures few { length node.now ≤ most_items }
 {
     match node.get(3) {
@@ -88,15 +105,21 @@ fn meet_fourth<C: Counts>(node: &Pack<Entry>, wanted: Option<u64>, counts: &mut 
 }
 
 // One entry, at this place of its node.
-fn meet<C: Counts>(entry: &Entry, place: usize, wanted: Option<u64>, counts: &mut C) -> Met
-    ensures { Meets C.dies wanted place counts.old (entry.now ∷ []) result counts.new }
+fn meet<G: Grant, C: Counts<G>>(
+    entry: &Entry,
+    place: usize,
+    wanted: Option<u64>,
+    counts: &mut C,
+) -> Met<C::Gone>
+    ensures { Meets C.gives C.shows_gone wanted place counts.old (entry.now ∷ []) result counts.new }
 {
     if is_alike(entry, wanted) {
         Met::Alike(place)
-    } else if counts.dying(entry) {
-        Met::Dying(place)
     } else {
-        Met::Nothing
+        match counts.dying(entry) {
+            Some(gone) => Met::Dying(place, gone),
+            None => Met::Nothing,
+        }
     }
 }
 

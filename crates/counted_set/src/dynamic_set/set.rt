@@ -1,16 +1,16 @@
 //! The set: buckets behind locks.
 
-ghost use Rattle.std.specs.Prelude.{◌≡◌, ◌-◌, ◌^◌, length, vec_len, IfOk, IfErr, IfSome};
+ghost use Rattle.std.specs.Prelude.{◌≡◌, ◌-◌, ◌^◌, true, length, vec_len, IfOk, IfErr, IfSome};
 ghost use Rattle.text_forms.specs.Faults.{IsInternFault};
 ghost use Rattle.text_forms.specs.Layout.{holder_bound, serial_bound, usual_bits};
 ghost use Rattle.text_forms.specs.Tables.{entry_hash};
 ghost use Rattle.counted_set.specs.Chain.{IsRight};
 
 use super::bucket::Bucket;
-use super::counts::OwnCounts;
+use super::counts::{OwnCounts, Pass};
 use super::held::Held;
-use super::share::Share;
-use counted_cell::{CellShare, Receipt};
+use super::locked::{find_behind, intern_behind};
+use counted_cell::{CellShare, FreeGrant, Receipt};
 use std::alloc::Global;
 use std::marker::Model;
 use std::mem::size_of;
@@ -103,7 +103,7 @@ impl<Static: StaticTables> Set<Static> {
     pub fn buckets(&self) -> &[Mutex<Bucket<Static>>]
         ensures { length result.now ≡ 2 ^ self.now.bits }
     {
-        &self.buckets
+        self.buckets.as_slice()
     }
 
     /// Takes each bucket once, from the first to the last, with one pass over it: entries without shares go.
@@ -162,21 +162,13 @@ impl<Static: StaticTables> Set<Static> {
         requires { hash ≡ entry_hash Static.tables text.now }
         ensures text { IfOk result (λ held. held.text ≡ text.now) }
         ensures right { IfOk result (λ held. IsRight Static.tables held) }
+        ensures grows { IfOk result (λ held. held.name.grows ≡ true) }
         ensures refused { IfErr result IsInternFault }
     {
-        let share = self.intern_share(rt, text, hash)?;
-        Ok(Held::new(share, self))
-    }
-
-    /// The same, without its set.
-    fn intern_share<R: Wait>(&self, rt: &R, text: &str, hash: u64) -> Result<Share, Fault>
-        requires { hash ≡ entry_hash Static.tables text.now }
-        ensures text { IfOk result (λ share. share.text ≡ text.now) }
-        ensures right { IfOk result (IsRight Static.tables) }
-        ensures refused { IfErr result IsInternFault }
-    {
-        let mut bucket = self.buckets[usize::from(self.count.bucket_of(hash))].lock(rt);
-        bucket.intern(rt, text, hash, &self.limits, &mut OwnCounts)
+        match intern_behind(rt, self.lock_of(hash), text, hash, &self.limits, FreeGrant) {
+            Ok(share) => Ok(Held::new(share, self)),
+            Err((fault, _)) => Err(fault),
+        }
     }
 
     /// A share of the entry of a text with this hash, in the bucket of the hash, if one is linked there that isn't dying. Atoms ask
@@ -191,29 +183,26 @@ impl<Static: StaticTables> Set<Static> {
         requires { hash ≡ entry_hash Static.tables text.now }
         ensures text { IfOk result (λ found. IfSome found (λ held. held.text ≡ text.now)) }
         ensures right { IfOk result (λ found. IfSome found (λ held. IsRight Static.tables held)) }
+        ensures grows { IfOk result (λ found. IfSome found (λ held. held.name.grows ≡ true)) }
         ensures refused { IfErr result (λ fault. fault ≡ Fault.FullCount) }
     {
-        match self.find_share(rt, text, hash)? {
-            Some(share) => Ok(Some(Held::new(share, self))),
-            None => Ok(None),
+        match find_behind(rt, self.lock_of(hash), text, hash, FreeGrant) {
+            Pass::Found(share) => Ok(Some(Held::new(share, self))),
+            Pass::Full(_) => Err(Fault::FullCount),
+            Pass::Absent(_) => Ok(None),
         }
     }
 
-    /// The same, without its set.
-    fn find_share<R: Wait>(&self, rt: &R, text: &str, hash: u64) -> Result<Option<Share>, Fault>
-        requires { hash ≡ entry_hash Static.tables text.now }
-        ensures text { IfOk result (λ found. IfSome found (λ share. share.text ≡ text.now)) }
-        ensures right { IfOk result (λ found. IfSome found (IsRight Static.tables)) }
-        ensures refused { IfErr result (λ fault. fault ≡ Fault.FullCount) }
-    {
-        let bucket = &self.buckets[usize::from(self.count.bucket_of(hash))];
-        bucket.lock(rt).find(rt, text, hash, &mut OwnCounts)
+    /// The lock of the bucket of a hash.
+    #[inline]
+    fn lock_of(&self, hash: u64) -> &Mutex<Bucket<Static>> {
+        &self.buckets[usize::from(self.count.bucket_of(hash))]
     }
 
     /// Gives a share back. Where it was its entry's last, tries the lock of the entry's bucket, once, and prunes the bucket.
     #[inline]
     pub(super) fn give_back(&self, share: CellShare) -> Receipt
-        ensures { result.name ≡ share.cell.name }
+        ensures { (result.name ≡ share.cell.name) × (result.number ≡ share.number) }
     {
         let hash = share.label().hash;
         let (receipt, last) = share.give().parts();
@@ -228,8 +217,7 @@ impl<Static: StaticTables> Set<Static> {
     #[cold]
     #[inline(never)]
     fn try_prune(&self, hash: u64) {
-        let at = usize::from(self.count.bucket_of(hash));
-        if let Some(mut bucket) = self.buckets[at].try_lock() {
+        if let Some(mut bucket) = self.lock_of(hash).try_lock() {
             bucket.prune(&mut OwnCounts);
         }
     }

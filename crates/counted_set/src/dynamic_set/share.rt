@@ -1,15 +1,16 @@
 //! Counted entries, and the shares of them.
 
-ghost use Rattle.std.specs.Prelude.{◌≡◌, ◌≤◌, ◌<◌, ◌^◌, ◌↔◌, length, IsTrue, IfErr, IfOk, IfSome};
+ghost use Rattle.std.specs.Prelude.{◌≡◌, true, ◌≤◌, ◌<◌, ◌^◌, ◌↔◌, length, IsTrue, IfOk, IfSome};
 ghost use Rattle.text_forms.specs.Layout.{holder_bound};
 ghost use Rattle.counted_cell.specs.Cell.{block_size};
-ghost use Rattle.counted_cell.specs.Counting.{CellName, none_left, some_receipt};
-ghost use Rattle.counted_set.specs.Counted.{IfAdded, IsDying, IsReadAs};
-ghost use base.Fml.{fall};
+ghost use Rattle.counted_cell.specs.Counting.{receipt_owns};
+ghost use Rattle.counted_set.specs.Counted.{IfAdded, IfDying, IfFull, reply_of};
 ghost use types.Logic.{sem};
 
 use super::counts::CountReply;
-use counted_cell::{CellShare, Label, NoShares, Owner, Reading, Receipt, ShareReply, SharesLeft};
+use counted_cell::{
+    AtLimit, CellShare, Grant, Label, NoShares, Owner, Permit, Receipt, ShareReply,
+};
 use std::alloc::{AllocError, Global};
 use std::marker::Model;
 use std::sync::Wait;
@@ -36,6 +37,8 @@ impl Model for Entry {
 }
 
 impl Entry {
+    ghost use Rattle.counted_set.specs.Share.{linked_of};
+
     /// An entry of this text in one of this many buckets, and its first share. It makes a copy of the text. There may be as many
     /// shares as `holders`.
     pub(super) fn new(
@@ -48,6 +51,7 @@ impl Entry {
     ) -> Result<(Entry, Share), AllocError>
         requires { (1 ≤ holders) × (holders < holder_bound) }
         ensures entry { IfOk result (λ made. made.0 ≡ record { ticket = ticket; text = text.now; hash = hash; bits = buckets; limit = holders; name = made.0.name }) }
+        ensures grows { IfOk result (λ made. made.0.name.grows ≡ true) }
         ensures share { IfOk result (λ made. made.1 ≡ made.0) }
     {
         let label = Label {
@@ -57,7 +61,7 @@ impl Entry {
         };
         let bits = u64::from(buckets.bits());
         let (owner, share) = Owner::new(alloc, label, bits, text)?;
-        Ok((Entry { owner }, Share { share }))
+        Ok((Entry { owner }, Share::of_cell(share)))
     }
 
     /// The ticket.
@@ -101,73 +105,103 @@ impl Entry {
         self.has_hash(hash) && self.owner.text() == text
     }
 
-    /// One share more, unless the entry is dying or has as many as it may have: what its cell answers.
+    /// One share more, unless the entry is dying or has as many as it may have: what its cell answers. It spends the grant, or hands it back.
     ///
     /// `Added` gives a share of this entry. `Dying` comes only where the count was read as 0, so that no share is left and none will
     /// ever be, and `Full` only where it was read as the entry's limit; both change nothing.
-    pub fn add<R: Wait>(&self, rt: &R) -> CountReply<Share>
-        ensures* dying { sem 𝓛 (fall (IsDying result) (λ _. none_left self.now.name)) }
-        ensures added { IfAdded result (λ share. share ≡ self.now) }
+    pub fn add<R: Wait, G: Grant>(
+        &self,
+        rt: &R,
+        grant: G,
+    ) -> CountReply<Share, NoShares, AtLimit, G>
+        requires { G.may self.now.name }
+        ensures added { IfAdded (reply_of result) (λ share. share ≡ self.now) }
+        ensures dying { IfDying result (λ none. none ≡ self.now.name) }
+        ensures full { IfFull result (λ full. full ≡ self.now.name) }
     {
-        let (reply, _) = self.asked(rt);
-        reply
+        self.asked(rt, grant.permit(&self.owner))
     }
 
-    /// One share more, by a single try that waits for nothing. `None` where another step on the count came between, or the entry is dying or
-    /// has as many as it may have: then nothing has changed.
+    /// The owner of its cell, which adds shares.
     #[inline]
-    pub(super) fn try_add(&self) -> Option<Share>
-        ensures { IfSome result (λ share. share ≡ self.now) }
+    pub(super) fn owner(&self) -> &Owner<Global>
+        ensures { linked_of result.now ≡ self.now }
     {
-        let share = self.owner.try_add()?;
-        Some(Share { share })
+        &self.owner
     }
 
-    /// What `add` answers, with what was read.
+    /// What `add` answers, by a permit of the grant.
     #[cold]
     #[inline(never)]
-    pub(super) fn asked<R: Wait>(&self, rt: &R) -> (CountReply<Share>, Reading)
-        ensures read { (result.1.name ≡ self.now.name) × IsReadAs result.1.count self.now.limit result.0 }
-        ensures added { IfAdded result.0 (λ share. share ≡ self.now) }
+    pub(super) fn asked<R: Wait, G: Grant>(
+        &self,
+        rt: &R,
+        permit: Permit,
+    ) -> CountReply<Share, NoShares, AtLimit, G>
+        requires { (permit.name ≡ self.now.name) × G.permits permit.name permit.number }
+        ensures added { IfAdded (reply_of result) (λ share. share ≡ self.now) }
+        ensures dying { IfDying result (λ none. none ≡ self.now.name) }
+        ensures full { IfFull result (λ full. full ≡ self.now.name) }
     {
-        match self.owner.add(rt) {
-            ShareReply::Added(share, reading) => (CountReply::Added(Share { share }), reading),
-            ShareReply::Dying(none) => (CountReply::Dying, none.reading()),
-            ShareReply::Full(full) => (CountReply::Full, full.reading()),
+        match self.owner.add(rt, permit) {
+            ShareReply::Added(share, _) => CountReply::Added(Share::of_cell(share)),
+            ShareReply::Dying(none, left) => CountReply::Dying(none, G::of_permit(left)),
+            ShareReply::Full(full, left) => CountReply::Full(full, G::of_permit(left)),
         }
     }
 
-    /// Whether no share is left. Then none will ever be.
-    pub fn dying(&self) -> bool
-        ensures* gone { sem 𝓛 (fall (IsTrue result) (λ _. none_left self.now.name)) }
+    /// What shows that no share is left, if none is. Then none will ever be.
+    pub fn dying(&self) -> Option<NoShares>
+        ensures { IfSome result (λ none. none ≡ self.now.name) }
     {
-        let (dying, _) = self.looked();
-        dying
-    }
-
-    /// The same, with what was read.
-    fn looked(&self) -> (bool, Reading)
-        ensures { (result.1.name ≡ self.now.name) × (IsTrue result.0 ↔ (result.1.count ≡ 0)) }
-    {
-        none_left_by(self.owner.dying())
+        self.owner.dying().ok()
     }
 }
 
-// Whether no share is left by what a cell answers, with what was read.
-#[inline]
-fn none_left_by(answer: Result<NoShares, SharesLeft>) -> (bool, Reading)
-    ensures name { (n : CellName) → IfOk answer (λ none. none ≡ n) → IfErr answer (λ some. some ≡ n) → result.1.name ≡ n }
-    ensures read { IsTrue result.0 ↔ (result.1.count ≡ 0) }
-{
-    match answer {
-        Ok(none) => (true, none.reading()),
-        Err(some) => (false, some.reading()),
-    }
-}
-
-/// One share of an entry. Its drop takes it off the entry's count, and tries no lock.
-pub struct Share {
+/// One share of a cell. Its drop takes it off the count: this very share, as its number shows, and no other one.
+/// In a clause it is its cell, and its number.
+struct OwnShare {
     share: CellShare,
+}
+
+impl Model for OwnShare {
+    ghost use Rattle.counted_cell.specs.Cell.{OneShare};
+
+    ghost Value = { OneShare };
+
+    ghost view = { λ s. s.share };
+}
+
+impl Drop for OwnShare {
+    fn drop(self)
+        ensures* given { sem 𝓛 (receipt_owns self.cell.name self.number) }
+    {
+        let _ = self.give();
+    }
+}
+
+impl OwnShare {
+    /// Takes the share off the count.
+    fn give(self) -> Receipt
+        ensures { (result.name ≡ self.cell.name) × (result.number ≡ self.number) }
+    {
+        let (receipt, _) = self.into_counted().give().parts();
+        receipt
+    }
+
+    /// The same without a drop.
+    fn into_counted(self) -> CellShare
+        ensures { result ≡ self }
+    {
+        let Self { share } = self;
+        share
+    }
+}
+
+/// One share of an entry. Its drop is that of its `OwnShare`: it takes the share off the entry's count, and tries no lock.
+#[derive(Drop)]
+pub struct Share {
+    own: OwnShare,
 }
 
 impl Model for Share {
@@ -176,47 +210,40 @@ impl Model for Share {
 
     ghost Value = { Linked };
 
-    ghost view = { λ s. linked_of s.share.cell };
-}
-
-impl Drop for Share {
-    fn drop(self)
-        ensures* given { sem 𝓛 (some_receipt self.name) }
-    {
-        let _ = self.give();
-    }
+    ghost view = { λ s. linked_of s.own.cell };
 }
 
 impl Share {
     ghost use Rattle.counted_set.specs.Share.{linked_of};
 
+    /// The share of an entry's cell.
+    pub(super) fn of_cell(share: CellShare) -> Share
+        ensures { result ≡ linked_of share.cell }
+    {
+        Share {
+            own: OwnShare { share },
+        }
+    }
+
     /// The entry's ticket.
     pub fn ticket(&self) -> u64
         ensures { result ≡ self.now.ticket }
     {
-        self.share.label().ticket
+        self.own.share.label().ticket
     }
 
     /// The entry's text.
     pub fn text(&self) -> &str
         ensures { result.now ≡ self.now.text }
     {
-        self.share.text()
-    }
-
-    /// Takes the share off the entry's count.
-    fn give(self) -> Receipt
-        ensures { result.name ≡ self.name }
-    {
-        let (receipt, _) = self.into_counted().give().parts();
-        receipt
+        self.own.share.text()
     }
 
     /// The share of the entry's cell, which has no drop: it is given back.
     pub(super) fn into_counted(self) -> CellShare
         ensures { linked_of result.cell ≡ self }
     {
-        let Self { share } = self;
-        share
+        let Self { own } = self;
+        own.into_counted()
     }
 }

@@ -75,7 +75,10 @@ impl<Static: StaticTables> Place<Static> {
         let form = match &self.form {
             Repr::Inline(text) => Repr::Inline(*text),
             Repr::Static(index) => Repr::Static(*index),
-            Repr::Dynamic(half, share) => Repr::Dynamic(*half, share.clone_held(rt, set)?),
+            Repr::Dynamic(half, share) => match share.clone_held(rt, set, share.permit()) {
+                Ok(held) => Repr::Dynamic(*half, held),
+                Err(_) => return Err(Fault::FullCount),
+            },
         };
         Ok(Atom::of_form(form))
     }

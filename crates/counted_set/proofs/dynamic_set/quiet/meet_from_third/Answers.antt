@@ -4,8 +4,8 @@ use Rattle.counted_set.proofs.dynamic_set.quiet.meet_from_third.Goals as goal
 
 pub returns-in-Nothing : goal.returns-in-Nothing
 returns-in-Nothing g c =
-    meets_on g.C.Counts.dies c.args.wanted 2 3 _ _ _ c.in-Some.entry.now _ _ c.meet_fourth.result refl c.in-Some.ensures.item c.in-Nothing.ensures c.meet_fourth.ensures.met
+    meets_on g.C.Counts.gives g.C.Counts.shows_gone c.args.wanted 2 3 _ _ _ c.in-Some.entry.now _ _ c.meet_fourth.result refl c.in-Some.ensures.item c.in-Nothing.ensures c.meet_fourth.ensures.met
 
 pub returns-in_default : goal.returns-in_default
 returns-in_default g c =
-    meets_stop g.C.Counts.dies c.args.wanted 2 _ _ c.in-Some.entry.now _ _ c.meet.result c.in-Some.ensures.item c.in_default.not-Nothing c.meet.ensures
+    meets_stop g.C.Counts.gives g.C.Counts.shows_gone c.args.wanted 2 _ _ c.in-Some.entry.now _ _ c.meet.result c.in-Some.ensures.item c.in_default.not-Nothing c.meet.ensures

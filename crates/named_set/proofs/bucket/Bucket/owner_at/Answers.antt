@@ -10,5 +10,5 @@ returns g c =
     let x = c.index.result.now in
     let within : c.args.at < length items = subst (λ (s : Kept). c.args.at < length s.linked) (sym c.self.view_is) c.requires in
     let at : slice_get items c.args.at ≡ Some x = slice_get_read items (length items) c.args.at x refl within c.index.ensures in
-    let of = each_at (IsOf g.Static.StaticTables.tables (length g.N.SetName.logs) c.self.inside.number) items c.args.at x c.self.invariant.4 at in
-    record { cell = subst (λ (s : Kept). slice_get s.linked c.args.at ≡ Some x) c.self.view_is at; hash = of.hash }
+    let of = each_at (IsOf g.Static.StaticTables.tables g.G.Grant.may (length g.N.SetName.logs) c.self.inside.number) items c.args.at x c.self.invariant.4 at in
+    record { cell = subst (λ (s : Kept). slice_get s.linked c.args.at ≡ Some x) c.self.view_is at; hash = of.hash; may = of.granted }

@@ -16,7 +16,7 @@ invariant_of-self g c =
       inv.1 ∙ ap length (sym told.1),
       inv.2,
       rw (c.remove.ensures.items, told.1, told.2, here.2) kept,
-      rw (c.remove.ensures.items) (each_without (IsOf g.Static.StaticTables.tables (length g.N.SetName.logs) inside.number) inside.owners.items c.args.at inv.4),
+      rw (c.remove.ensures.items) (each_without (IsOf g.Static.StaticTables.tables g.G.Grant.may (length g.N.SetName.logs) inside.number) inside.owners.items c.args.at inv.4),
     )
 
 pub returns-clause-below : goal.returns-clause-below

@@ -1,9 +1,10 @@
-use Rattle.std.proofs.Common.{refl}
-use Rattle.counted_set.specs.declared.dynamic_set.counts.Pass.TheVariants.{Absent, Found}
+use Rattle.std.proofs.Common.{subst}
+use Rattle.counted_set.specs.Chain.{Chain, IsKept, IsRightOf}
+use Rattle.counted_set.proofs.Shares.{share_found}
 use Rattle.counted_set.proofs.dynamic_set.bucket.Bucket.find.Goals as goal
 
-pub returns-in-Found-clause-find : goal.returns-in-Found-clause-find
-returns-in-Found-clause-find g c = let e = c.in-Found.ensures in record { answer = Found c.in-Found.share; pass = e.pass; answers = refl; bits = e.bits; last = e.last }
-
-pub returns-in-Absent-clause-find : goal.returns-in-Absent-clause-find
-returns-in-Absent-clause-find g c = let e = c.in-Absent.ensures in record { answer = Absent; pass = e.pass; answers = refl; bits = e.bits; last = e.last }
+pub returns-clause-share : goal.returns-clause-share
+returns-clause-share g c =
+    let tables = g.Static.StaticTables.tables in let may = g.G.Grant.may in
+    let kept = subst (λ (b : Chain). IsKept tables may b) c.self.view_is c.self.invariant.1 in
+    λ shares. share_found g.C.Counts.gives shares (IsRightOf tables may c.args.self.now.bits) c.args.text.now _ _ _ _ _ kept.right c.pass.ensures.pass

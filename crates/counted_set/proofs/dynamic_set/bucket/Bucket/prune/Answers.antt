@@ -6,5 +6,5 @@ use Rattle.counted_set.proofs.dynamic_set.bucket.Bucket.prune.Goals as goal
 pub put_entries-requires : goal.put_entries-requires
 put_entries-requires g c =
     let taken = c.take_entries-entries.ensures in let v = c.prune_left.new.entries in
-    subst (λ (b : Chain). IsKept g.Static.StaticTables.tables (record { bits = b.bits; entries = v.passed ++ v.left; last = b.last })) (sym taken.left)
-    (is_kept_after g.C.Counts.adds g.C.Counts.dies _ _ _ _ _ _ _ _ taken.entries c.prune_left.ensures taken.kept)
+    subst (λ (b : Chain). IsKept g.Static.StaticTables.tables g.G.Grant.may (record { bits = b.bits; entries = v.passed ++ v.left; last = b.last })) (sym taken.left)
+    (is_kept_after g.C.Counts.gives _ _ _ _ _ _ _ _ _ taken.entries c.prune_left.ensures taken.kept)

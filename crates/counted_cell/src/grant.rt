@@ -1,0 +1,56 @@
+//! Grants: leave to add one share to whichever of some cells it turns out to be.
+ghost use Rattle.std.specs.Prelude.{◌≡◌, true, ℕ};
+ghost use Rattle.counted_cell.specs.Counting.{CellName};
+
+use crate::cell_ref::Permit;
+use crate::owner::Owner;
+use std::alloc::Global;
+
+/// Leave to add one share to one of some cells, for who can't tell beforehand which cell it will be, as a pass over a bucket.
+///
+/// A call that is generic over it takes one, and either gives a share or hands it back. It can't make one itself, nor turn one into two, so
+/// what it answers is all that it added.
+pub trait Grant: Drop {
+    /// The cells that it is good for.
+    ghost may: { CellName → Type 0 };
+
+    /// The permits that are made of one.
+    ghost permits: { CellName → ℕ → Type 0 };
+
+    /// The permit for a cell.
+    fn permit(self, owner: &Owner<Global>) -> Permit
+        requires { may owner.now.name }
+        ensures name { result.name ≡ owner.now.name }
+        ensures permits { permits result.name result.number };
+
+    /// What an unspent permit was made of.
+    fn of_permit(permit: Permit) -> Self
+        requires { permits permit.name permit.number };
+
+    /// It is good for each cell that gets more shares.
+    ghost covers: { (t : CellName) → t.grows ≡ true → may t };
+}
+
+/// A grant for cells that get more shares, as all that are made. It costs nothing, and anybody has as many as he likes.
+#[derive(Drop)]
+pub struct FreeGrant;
+
+impl Grant for FreeGrant {
+    ghost use Rattle.std.specs.Prelude.{⊤};
+
+    ghost may = { λ t. t.grows ≡ true };
+
+    ghost permits = { λ _ _. ⊤ };
+
+    #[inline]
+    fn permit(self, owner: &Owner<Global>) -> Permit {
+        owner.permit()
+    }
+
+    #[inline]
+    fn of_permit(_permit: Permit) -> FreeGrant {
+        FreeGrant
+    }
+
+    ghost covers = { λ _ grows. grows };
+}
