@@ -39,15 +39,20 @@ module _ {M : Type 1} {𝓤 : Ura M} (𝓛 : Logic 𝓤) (t : CellName) where
   before : (k m n : ℕ) (out : Bool) → ((outs : List Bool) → number_out outs ≡ m → number_out (out ∷ outs) ≡ n) → ⟦ seat t k out ⟧ ∗ ⟦ book t (suc k) m ⟧ ⊢ ⟦ book t k n ⟧
   before k m n out adds = qed 𝓛 (‵ (seat t k out) ∷ ‵ (book t (suc k) m) ∷ []) ∵ move ! (1 ∷ []) $ fpick ! (λ outs. fsplit ! $ fpick ! (λ is. drop ! $ move ! (1 ∷ 0 ∷ []) $ fjoin ! $ by ! (packs k n (out ∷ outs) (adds outs is))))
 
+  -- what is left of the receipts to come, where the cell gets more shares, and where it doesn't
+  spares : (g : Bool) (k : ℕ) → ⟦ tickets_from t.receipts k ⟧ ⊢ ⟦ spare t g k ⟧
+  spares true k = qed 𝓛 (‵ (tickets_from t.receipts k) ∷ []) ∵ done !
+  spares false k = qed 𝓛 (‵ (tickets_from t.receipts k) ∷ []) ∵ drop ! $ nothing ! $ done !
+
+  -- the next number: its claim is handed out, and its receipt lies in its seat
+  pub opens : (k : ℕ) → ⟦ tickets_from t.claims k ⟧ ∗ ⟦ tickets_from t.receipts k ⟧ ⊢ ⟦ claim t k ⟧ ∗ ⟦ book t k 1 ⟧
+  opens k = qed 𝓛 (‵ (tickets_from t.claims k) ∷ ‵ (tickets_from t.receipts k) ∷ []) ∵ use1 𝓛 (‵ (claim t k) ⊛ ‵ (tickets_from t.claims (suc k))) (entries_take token 𝓛 t.claims k (λ _. tt)) $ split ! $ move ! (2 ∷ []) $
+      use1 𝓛 (‵ (receipt_owns t k) ⊛ ‵ (tickets_from t.receipts (suc k))) (entries_take token 𝓛 t.receipts k (λ _. tt)) $ split ! $ move ! (1 ∷ []) $ use1 𝓛 (‵ (spare t t.grows (suc k))) (spares t.grows (suc k)) $
+      -- [the receipts to come; the receipt; the claim, and those to come]
+      move ! (3 ∷ 0 ∷ []) $ fjoin ! $ move ! (1 ∷ 0 ∷ []) $ fjoin ! $ use1 𝓛 (‵ (book t k 1)) (packs k 1 (true ∷ []) refl) $ move ! (1 ∷ []) $ done !
+
   -- ---- a share more, where more may come
   module _ (grows : t.grows ≡ true) where
-    -- the next number: its claim is handed out, and its receipt lies in its seat
-    pub opens : (k : ℕ) → ⟦ tickets_from t.claims k ⟧ ∗ ⟦ tickets_from t.receipts k ⟧ ⊢ ⟦ claim t k ⟧ ∗ ⟦ book t k 1 ⟧
-    opens k = qed 𝓛 (‵ (tickets_from t.claims k) ∷ ‵ (tickets_from t.receipts k) ∷ []) ∵ use1 𝓛 (‵ (claim t k) ⊛ ‵ (tickets_from t.claims (suc k))) (entries_take token 𝓛 t.claims k (λ _. tt)) $ split ! $ move ! (2 ∷ []) $
-        use1 𝓛 (‵ (receipt_owns t k) ⊛ ‵ (tickets_from t.receipts (suc k))) (entries_take token 𝓛 t.receipts k (λ _. tt)) $ split ! $ rewrite ! 1 (λ (g : Bool). ‵ (spare t g (suc k))) (sym grows) refl $
-        -- [the receipt, and those to come; the claim, and those to come]
-        move ! (3 ∷ 1 ∷ []) $ fjoin ! $ move ! (1 ∷ 0 ∷ []) $ fjoin ! $ use1 𝓛 (‵ (book t k 1)) (packs k 1 (true ∷ []) refl) $ move ! (1 ∷ []) $ done !
-
     -- the same behind the seats that are there
     numbers : (k : ℕ) (outs : List Bool) → ⟦ seats t k outs ⟧ ⊢ ⟦ Numbered t ⟧ ∗ ⟦ book t k (suc (number_out outs)) ⟧
     numbers k [] = qed 𝓛 (‵ (seats t k []) ∷ []) ∵ fsplit ! $ rewrite ! 1 (λ (g : Bool). ‵ (spare t g k)) grows refl $ use2 𝓛 (‵ (claim t k) ⊛ ‵ (book t k 1)) (opens k) $ split ! $ fpack ! ℕ (claim t) k $ done !

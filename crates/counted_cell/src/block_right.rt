@@ -1,5 +1,5 @@
 //! The right to have a cell's block back.
-ghost use Rattle.std.specs.Prelude.{◌≡◌, ◌≤◌, true, ℕ};
+ghost use Rattle.std.specs.Prelude.{◌≡◌, ◌≤◌, Bool, ℕ};
 ghost use denote.RawPtr.{Ptr};
 ghost use Rattle.counted_cell.specs.Counting.{CellName, cell_name_coded, owner_right, share_right, sole_right};
 ghost use Rattle.counted_cell.specs.BlockRight.{block_right_owns};
@@ -24,11 +24,11 @@ impl<T> Model for BlockRight<T> {
 }
 
 /// Makes a cell of a block whose count is 1: the right to have the block back, the owner's reference, and the first share's. From
-/// here on there are at most `limit` shares, and more may come.
+/// here on there are at most as many shares as its kind says, and more come freely if the kind says so.
 pub fn begin<T>(whole: PlacedValue<Header<T>>) -> (BlockRight<T>, CellRef<T>, CellRef<T>)
-    ghost limit: { ℕ }
-    requires { (whole.value.count ≡ 1) × (1 ≤ limit) }
-    ensures { (result.0.name.limit ≡ limit) × (result.0.name.grows ≡ true) × (result.0.ptr ≡ whole.ptr) × (result.1.ptr ≡ whole.ptr) × (result.2.ptr ≡ whole.ptr) × (result.0.value ≡ whole.value.value) × (result.1.value ≡ whole.value.value) × (result.2.value ≡ whole.value.value) × (result.1.name ≡ result.0.name) × (result.2.name ≡ result.0.name) × (result.1.right ≡ owner_right) × (result.2.right ≡ share_right) }
+    ghost kind: { ℕ × Bool }
+    requires { (whole.value.count ≡ 1) × (1 ≤ kind.0) }
+    ensures { (result.0.name.limit ≡ kind.0) × (result.0.name.grows ≡ kind.1) × (result.0.ptr ≡ whole.ptr) × (result.1.ptr ≡ whole.ptr) × (result.2.ptr ≡ whole.ptr) × (result.0.value ≡ whole.value.value) × (result.1.value ≡ whole.value.value) × (result.2.value ≡ whole.value.value) × (result.1.name ≡ result.0.name) × (result.2.name ≡ result.0.name) × (result.1.right ≡ owner_right) × (result.2.right ≡ share_right) }
 {
     let PlacedValue { ptr } = whole;
     (

@@ -1,5 +1,5 @@
 //! Grants: leave to add one share to whichever of some cells it turns out to be.
-ghost use Rattle.std.specs.Prelude.{◌≡◌, true, ℕ};
+ghost use Rattle.std.specs.Prelude.{◌≡◌, Bool, true, ℕ};
 ghost use Rattle.counted_cell.specs.Counting.{CellName};
 
 use crate::cell_ref::Permit;
@@ -14,6 +14,9 @@ pub trait Grant: Drop {
     /// The cells that it is good for.
     ghost may: { CellName → Type 0 };
 
+    /// Whether those get more shares freely that are made for it.
+    ghost grows: { Bool };
+
     /// The permits that are made of one.
     ghost permits: { CellName → ℕ → Type 0 };
 
@@ -27,8 +30,8 @@ pub trait Grant: Drop {
     fn of_permit(permit: Permit) -> Self
         requires { permits permit.name permit.number };
 
-    /// It is good for each cell that gets more shares.
-    ghost covers: { (t : CellName) → t.grows ≡ true → may t };
+    /// It is good for each cell that is made for it.
+    ghost covers: { (t : CellName) → t.grows ≡ grows → may t };
 }
 
 /// A grant for cells that get more shares, as all that are made. It costs nothing, and anybody has as many as he likes.
@@ -39,6 +42,8 @@ impl Grant for FreeGrant {
     ghost use Rattle.std.specs.Prelude.{⊤};
 
     ghost may = { λ t. t.grows ≡ true };
+
+    ghost grows = { true };
 
     ghost permits = { λ _ _. ⊤ };
 

@@ -8,6 +8,7 @@ use crate::cell_ref::{CellRef, Permit};
 use crate::content::Content;
 use crate::ending::Ending;
 use crate::evidence::{CountSeen, NoShares, SharesLeft};
+use crate::grant::Grant;
 use crate::header::Header;
 use crate::label::Label;
 use crate::note::Note;
@@ -70,8 +71,8 @@ impl<A: Allocator> Owner<A> {
     ghost use Rattle.counted_cell.specs.Ending.{IsEnding};
 
     /// A cell with a copy of the text, and its first share. Without memory nothing is made. The note is for clauses alone, and
-    /// takes no memory.
-    pub fn new(
+    /// takes no memory. The grant says whether the cell gets more shares freely: a caller to whom that is a parameter can add none here.
+    pub fn new<G: Grant>(
         alloc: A,
         label: Label,
         note: u64,
@@ -80,7 +81,7 @@ impl<A: Allocator> Owner<A> {
         requires { (1 ≤ label.limit) × (label.limit < 2 ^ 63) }
         ensures owner { IfOk result (λ made. (made.0.label ≡ label) × (made.0.note ≡ note) × (made.0.text ≡ text.now)) }
         ensures limit { IfOk result (λ made. made.0.name.limit ≡ label.limit) }
-        ensures grows { IfOk result (λ made. made.0.name.grows ≡ true) }
+        ensures grows { IfOk result (λ made. made.0.name.grows ≡ G.grows) }
         ensures share { IfOk result (λ made. made.1.cell ≡ made.0) }
     {
         let len = text.len();
@@ -131,7 +132,7 @@ impl<A: Allocator> Owner<A> {
         CountSeen { seen, reading }
     }
 
-    /// A permit, where the cell gets more shares, as each that `new` makes. It does nothing when it runs.
+    /// A permit, where the cell gets more shares, as each that `new` makes for free grants. It does nothing when it runs.
     #[inline]
     pub fn permit(&self) -> Permit
         requires { self.now.name.grows ≡ true }

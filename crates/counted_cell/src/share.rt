@@ -64,7 +64,7 @@ impl CellShare {
         self.cell.get().text.as_str(self.cell.end())
     }
 
-    /// A permit, where the cell gets more shares, as each that `Owner::new` makes. It does nothing when it runs.
+    /// A permit, where the cell gets more shares, as each that `Owner::new` makes for free grants. It does nothing when it runs.
     #[inline]
     pub fn permit(&self) -> Permit
         requires { self.now.cell.name.grows ≡ true }

@@ -1,5 +1,5 @@
 -- Entries that are asked in order.
-use Rattle.std.proofs.Common.{◌≡◌, ◌≢◌, ℕ, ◌+◌, ◌<◌, List, [], ◌∷◌, ◌++◌, length, drop, Option, Some, None, refl, sym, ◌∙◌, ap, subst, append_assoc, arith}
+use Rattle.std.proofs.Common.{◌≡◌, ◌≢◌, ℕ, ◌+◌, ◌<◌, ◌≤◌, List, [], ◌∷◌, ◌++◌, length, drop, Option, Some, None, refl, sym, ◌∙◌, ap, subst, append_assoc, arith}
 use Rattle.std.proofs.lemmas.List.{append-nil, length-drop}
 use Rattle.std.specs.List.{AllByRecursion}
 use Rattle.std.specs.Prelude.{⊤}
@@ -24,6 +24,17 @@ module _ {C S D : Type 0} (gives : C → Linked → PassReply S → C → Type 0
   -- no entry is at the place
   pub meets_none : (place : ℕ) (c : C) (es : List Linked) → es ≡ [] → Meets gives shows wanted place c es Nothing c
   meets_none place c es none = record { quiet = []; left = []; before = c; split = none; asked = refl; ends = (refl, refl); at = tt }
+
+  -- nothing stands behind the last place of a node
+  none_behind : (rest : List Linked) → length rest ≡ 0 → rest ≡ []
+  none_behind [] is = refl
+  none_behind (e ∷ es) is = absurd (omega (arith, is))
+
+  pub meets_last : (place : ℕ) (c d : C) (e : Linked) (node rest : List Linked) (met : Met D) → drop place node ≡ e ∷ rest → length node ≤ place + 1 → Meets gives shows wanted place c (e ∷ []) met d → Meets gives shows wanted place c (drop place node) met d
+  meets_last place c d e node rest met is few m =
+      let n = length-drop place node in
+      let none : rest ≡ [] = none_behind rest (omega (arith, n, ap length is, few)) in
+      subst (λ es. Meets gives shows wanted place c es met d) (sym (is ∙ ap (λ l. e ∷ l) none)) m
 
   -- what is met at an entry is met at it and those behind
   ends_more : (c d : C) (es more : List Linked) (met : Met D) → met ≢ Nothing → Ends gives shows wanted c es met d → Ends gives shows wanted c (es ++ more) met d

@@ -317,7 +317,7 @@ impl<Static: StaticTables, N: SetName, G: Grant> Bucket<Static, N, G> {
         }
         self.owners.reserve(1)?;
         let serial = self.last + 1;
-        let (owner, share) = new_cell(self.alloc, serial, self.number, text, hash, limits)?;
+        let (owner, share) = new_cell::<G>(self.alloc, serial, self.number, text, hash, limits)?;
         share.enter(&mut self.log);
         self.owners.push_reserved(owner);
         self.last = serial;
@@ -326,8 +326,9 @@ impl<Static: StaticTables, N: SetName, G: Grant> Bucket<Static, N, G> {
     }
 }
 
-// A cell of this text and its hash, which has the ticket of this serial in the bucket of this number, and its first share.
-fn new_cell(
+// A cell of this text and its hash, which has the ticket of this serial in the bucket of this number, and its first share. Each further
+// share is by a grant.
+fn new_cell<G: Grant>(
     alloc: Global,
     serial: u64,
     number: u16,
@@ -339,7 +340,7 @@ fn new_cell(
     ensures text { IfOk result (λ made. made.0.text ≡ text.now) }
     ensures hash { IfOk result (λ made. made.0.label.hash ≡ hash) }
     ensures ticket { IfOk result (λ made. made.0.label.ticket ≡ ticket_of serial number) }
-    ensures grows { IfOk result (λ made. made.0.name.grows ≡ true) }
+    ensures may { IfOk result (λ made. G.may made.0.name) }
     ensures share { IfOk result (λ made. made.1.cell ≡ made.0) }
 {
     let label = Label {
@@ -347,5 +348,5 @@ fn new_cell(
         ticket: ticket_word(serial, number),
         limit: limits.holders(),
     };
-    Owner::new(alloc, label, 0, text)
+    Owner::new::<G>(alloc, label, 0, text)
 }

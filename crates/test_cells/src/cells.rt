@@ -6,7 +6,7 @@ ghost use Rattle.counted_cell.specs.Reply.{IsReply};
 
 use crate::receipts::first_receipt;
 use crate::{assert_for, assert_that};
-use counted_cell::{AtLimit, CellShare, Ending, Label, Owner, Permit, ShareReply};
+use counted_cell::{AtLimit, CellShare, Ending, FreeGrant, Label, Owner, Permit, ShareReply};
 use linked_list_allocator::LocalHeap;
 use std::alloc::{AllocError, Allocator, Global};
 use std::process::Abort;
@@ -108,7 +108,7 @@ fn make<A: Allocator>(
         ticket: 7,
         limit,
     };
-    let (owner, share) = Owner::new(alloc, label, 9, text)?;
+    let (owner, share) = Owner::new::<FreeGrant>(alloc, label, 9, text)?;
     Ok((owner, ShareGuard { share }))
 }
 

@@ -234,7 +234,7 @@ impl<Static: StaticTables, G: Grant> Bucket<Static, G> {
         ensures kept { IfOk result (λ made. IsKept Static.tables G.may (record { bits = self.now.bits; entries = made.0 ∷ self.now.entries; last = serial })) }
     {
         let ticket = ticket_word(serial, self.buckets.bucket_of(hash));
-        Entry::new(self.alloc, self.buckets, ticket, text, hash, holders)
+        Entry::new::<G>(self.alloc, self.buckets, ticket, text, hash, holders)
     }
 
     /// Links an entry as the first, which has this serial, and gives its only share. A refusal changes nothing.

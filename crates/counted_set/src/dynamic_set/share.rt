@@ -40,8 +40,8 @@ impl Entry {
     ghost use Rattle.counted_set.specs.Share.{linked_of};
 
     /// An entry of this text in one of this many buckets, and its first share. It makes a copy of the text. There may be as many
-    /// shares as `holders`.
-    pub(super) fn new(
+    /// shares as `holders`, each by a grant.
+    pub(super) fn new<G: Grant>(
         alloc: Global,
         buckets: Buckets,
         ticket: u64,
@@ -51,7 +51,7 @@ impl Entry {
     ) -> Result<(Entry, Share), AllocError>
         requires { (1 ≤ holders) × (holders < holder_bound) }
         ensures entry { IfOk result (λ made. made.0 ≡ record { ticket = ticket; text = text.now; hash = hash; bits = buckets; limit = holders; name = made.0.name }) }
-        ensures grows { IfOk result (λ made. made.0.name.grows ≡ true) }
+        ensures may { IfOk result (λ made. G.may made.0.name) }
         ensures share { IfOk result (λ made. made.1 ≡ made.0) }
     {
         let label = Label {
@@ -60,7 +60,7 @@ impl Entry {
             limit: holders,
         };
         let bits = u64::from(buckets.bits());
-        let (owner, share) = Owner::new(alloc, label, bits, text)?;
+        let (owner, share) = Owner::new::<G>(alloc, label, bits, text)?;
         Ok((Entry { owner }, Share::of_cell(share)))
     }
 

@@ -31,7 +31,7 @@ invariant_of-self-2 g c =
       omega (arith, inv.1, ap length n.1, length-append entries (entry_of c.in_ok-owner.share.cell ∷ [])),
       inv.2,
       rw (c.push_reserved.ensures.items, c.reserve.ensures.items, n.1, n.2, o.share) kept,
-      rw (c.push_reserved.ensures.items, c.reserve.ensures.items) (each_snoc (IsOf T g.G.Grant.may (length logs) inside.number) linked cell inv.4 (record { hash = hash; bucket = ap (bucket_of T (length logs)) o.text ∙ here; granted = g.met.G.Grant.covers cell.name o.grows })),
+      rw (c.push_reserved.ensures.items, c.reserve.ensures.items) (each_snoc (IsOf T g.G.Grant.may (length logs) inside.number) linked cell inv.4 (record { hash = hash; bucket = ap (bucket_of T (length logs)) o.text ∙ here; granted = o.may })),
     )
 
 pub returns-clause-seen : goal.returns-clause-seen
