@@ -2,16 +2,25 @@
 //! tables.
 #![tactic(auto)]
 
-use commands::program::{arguments, run};
+use commands::program::{arguments, random_keys, run};
 use std::process::ExitCode;
 use text_streams::streams::Io;
 
-/// Hands over the arguments, the streams and the status.
+/// Draws the keys, and hands them over with the arguments, the streams and the status.
 fn main(rt: HostRuntime) -> ExitCode {
+    let keys = random_keys(&rt);
     let args = arguments(&rt);
     let mut input = Io::new(rt.stdin());
     let mut output = Io::new(rt.stdout());
     let mut faults = Io::new(rt.stderr());
-    let status = run(&rt, rt.alloc(), args, &mut input, &mut output, &mut faults);
+    let status = run(
+        &rt,
+        rt.alloc(),
+        keys,
+        args,
+        &mut input,
+        &mut output,
+        &mut faults,
+    );
     ExitCode::from(status)
 }

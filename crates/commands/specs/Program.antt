@@ -20,6 +20,14 @@ IsOutputOf Replay = IsReplay empty_tables
 IsOutputOf (Generate key bound) = IsTableOutput key bound
 IsOutputOf Check = IsAnswer
 
+-- it hashes words
+abbrev pub NeedsKeys : Command → Type 0
+NeedsKeys Words = Unit {0}
+NeedsKeys (Count n) = Unit {0}
+NeedsKeys Replay = ⊥
+NeedsKeys (Generate key bound) = ⊥
+NeedsKeys Check = ⊥
+
 module _ {S K : Type 0}
     (remaining : S → Option (List ℕ))  -- the bytes that reads give from here on, where they are known
     (contents : K → Option (List ℕ)) where  -- the bytes that the writer holds, where they are known

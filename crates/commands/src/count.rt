@@ -11,6 +11,7 @@ ghost use Rattle.word_counts.specs.WordCounts.{counted_texts};
 
 use crate::buckets::buckets_for;
 use std::alloc::{AllocError, Global};
+use std::hash::RandomState;
 use std::sync::Wait;
 use std::thread::{Threads, for_each_mut};
 use string_cache::dynamic_set::Set;
@@ -92,6 +93,7 @@ fn write_all<R: Threads + Sync, Static: StaticTables + Send + Sync, K: Sink>(
 fn write_counts<R: Threads + Wait + Sync, K: Sink>(
     rt: &R,
     alloc: Global,
+    keys: RandomState,
     n: u32,
     text: &str,
     writer: &mut K,
@@ -106,18 +108,20 @@ fn write_counts<R: Threads + Wait + Sync, K: Sink>(
 {
     let buckets = buckets_for(text.len());
     let set = Set::<EmptyStaticAtomSet>::with_buckets(alloc, Limits::greatest(), buckets)?;
-    let mut counts = count(rt, &set, text, n, &Open)?;
+    let mut counts = count(rt, &set, keys, text, n, &Open)?;
     write_all(rt, alloc, &mut counts, n, writer)
 }
 
 /// Reads all, counts its words by `n` workers, and writes a line for each distinct one. They are interned in a set of this
-/// call's own, whose number of buckets fits the input.
+/// call's own, whose number of buckets fits the input. While they are counted, words are hashed under these keys, on which nothing depends
+/// but the time it takes: under random ones nobody can choose an input that takes long.
 ///
 /// `Read` and `Text`, input that isn't UTF-8, come before anything is written, and so does `Intern(Memory)` while the
 /// input is read. After another fault a beginning of the lines is written.
 pub fn count_command<R: Threads + Wait + Sync, S: Source, K: Sink>(
     rt: &R,
     alloc: Global,
+    keys: RandomState,
     n: u32,
     reader: &mut S,
     writer: &mut K,
@@ -130,5 +134,5 @@ pub fn count_command<R: Threads + Wait + Sync, S: Source, K: Sink>(
         AreCountLines IsUnwrittenFault IsCountCommandFault reader.old reader.new writer.old writer.new result }
 {
     let text = read_text(alloc, reader)?;
-    write_counts(rt, alloc, n, &text, writer)
+    write_counts(rt, alloc, keys, n, &text, writer)
 }

@@ -1,8 +1,8 @@
 //! All that the program does, over any reader and writers.
 
 ghost use Rattle.std.specs.Prelude.{◌≡◌, ◌≢◌, ℕ, ◌≤◌, codes, false, IfOk, IfSome, IsErr, IfErr, MatchOption, MatchResult, OnOk, OnErr};
-ghost use Rattle.commands.specs.Commands.{AreCheck, AreCount, AreGenerate, AreWords, AreReplay, IsRequest, IsWorkers};
-ghost use Rattle.commands.specs.Program.{IsOutputOf, Runs, Yields};
+ghost use Rattle.commands.specs.Commands.{AreCheck, AreCount, AreGenerate, AreWords, AreReplay, IsRequest, IsWorkers, NeedKeys};
+ghost use Rattle.commands.specs.Program.{IsOutputOf, NeedsKeys, Runs, Yields};
 
 use crate::count::count_command;
 use crate::generate::{check_command, generate_command};
@@ -10,7 +10,9 @@ use crate::replay::replay;
 use crate::words::words_command;
 use std::alloc::Global;
 use std::fmt::Write;
+use std::hash::RandomState;
 use std::io::ErrorKind;
+use std::random::RandomSource;
 use std::rt::Env;
 use std::sync::Wait;
 use std::thread::Threads;
@@ -39,6 +41,11 @@ pub fn arguments(rt: &(impl Env + AllocGlobal)) -> Result<Option<Vec<String>>, A
         args.push(arg)?;
     }
     Ok(Some(args))
+}
+
+/// Random keys for the maps of one run, drawn from the system. `None` if it gives none.
+pub fn random_keys(rt: &impl RandomSource) -> Option<RandomState> {
+    RandomState::new(rt).ok()
 }
 
 /// What the arguments ask for.
@@ -185,10 +192,11 @@ pub fn usage<F: Sink>(faults: &mut F) -> u8
     2
 }
 
-/// Carries a command out.
+/// Carries a command out. `Keys` comes if it needs keys and there are none, before anything is read or written.
 fn carry_out<R: Threads + Wait + Sync, S: Source, K: Sink>(
     rt: &R,
     alloc: Global,
+    keys: Option<RandomState>,
     command: Command,
     input: &mut S,
     output: &mut K,
@@ -196,11 +204,19 @@ fn carry_out<R: Threads + Wait + Sync, S: Source, K: Sink>(
     requires input { S.has_failed input.old ≡ false }
     requires output { K.has_failed output.old ≡ false }
     requires workers { (n : ℕ) → command ≡ Command.Count n → (1 ≤ n) × (n ≤ 64) }
-    ensures { Yields S.remaining K.contents (IsOutputOf command) input.old output.old output.new result }
+    ensures yields { Yields S.remaining K.contents (IsOutputOf command) input.old output.old output.new result }
+    ensures keyless { keys ≡ None → NeedsKeys command → (result ≡ Err AppFault.Keys) × (input.new ≡ input.old) × (output.new ≡ output.old) }
 {
     match command {
-        Command::Words => words_command(rt, alloc, input, output),
-        Command::Count(n) => count_command(rt, alloc, n, input, output),
+        Command::Words => words_command(rt, alloc, keys.ok_or(AppFault::Keys)?, input, output),
+        Command::Count(n) => count_command(
+            rt,
+            alloc,
+            keys.ok_or(AppFault::Keys)?,
+            n,
+            input,
+            output,
+        ),
         Command::Replay => replay(alloc, input, output),
         Command::Generate(key, bound) => generate_command(alloc, key, bound, input, output),
         Command::Check => check_command(alloc, input, output),
@@ -218,10 +234,12 @@ fn status_of<F: Sink>(faults: &mut F, outcome: Result<(), AppFault>) -> u8
 }
 
 /// Runs the command that the arguments, without the program's name, ask for, and answers the exit status: 0, or 1 after
-/// a fault's line, or 2 after the usage line, where nothing was read or written.
+/// a fault's line, or 2 after the usage line, where nothing was read or written. `words` and `count` need keys, under which they hash words;
+/// without them they are refused before anything is read. What is written doesn't depend on the keys.
 pub fn program<R: Threads + Wait + Sync, S: Source, K: Sink, F: Sink>(
     rt: &R,
     alloc: Global,
+    keys: Option<RandomState>,
     args: &[String],
     input: &mut S,
     output: &mut K,
@@ -230,20 +248,22 @@ pub fn program<R: Threads + Wait + Sync, S: Source, K: Sink, F: Sink>(
     requires input { S.has_failed input.old ≡ false }
     requires output { K.has_failed output.old ≡ false }
     requires faults { F.has_failed faults.old ≡ false }
-    ensures { Runs S.remaining K.contents args.now input.old input.new output.old output.new result }
+    ensures runs { Runs S.remaining K.contents args.now input.old input.new output.old output.new result }
+    ensures keyless { keys ≡ None → NeedKeys args.now → (result ≡ 1) × (input.new ≡ input.old) × (output.new ≡ output.old) }
 {
     let Some(command) = command_of(args) else {
         return usage(faults);
     };
-    let outcome = carry_out(rt, alloc, command, input, output);
+    let outcome = carry_out(rt, alloc, keys, command, input, output);
     status_of(faults, outcome)
 }
 
 /// All that main does once its arguments are read, with the exit status as its answer: it runs the program on them, and
-/// where they aren't UTF-8 it writes the usage line. That they found no room is a fault.
+/// where they aren't UTF-8 it writes the usage line. That they found no room is a fault. `keys` are what `random_keys` gave.
 pub fn run<R: Threads + Wait + Sync, S: Source, K: Sink, F: Sink>(
     rt: &R,
     alloc: Global,
+    keys: Option<RandomState>,
     args: Result<Option<Vec<String>>, AppFault>,
     input: &mut S,
     output: &mut K,
@@ -254,11 +274,13 @@ pub fn run<R: Threads + Wait + Sync, S: Source, K: Sink, F: Sink>(
     requires faults { F.has_failed faults.old ≡ false }
     ensures ran { IfOk args (λ given. IfSome given (λ list.
         Runs S.remaining K.contents list.items input.old input.new output.old output.new result)) }
+    ensures keyless { keys ≡ None → IfOk args (λ given. IfSome given (λ list. NeedKeys list.items
+        → (result ≡ 1) × (input.new ≡ input.old) × (output.new ≡ output.old))) }
     ensures refused { IsErr args → (result ≡ 1) × (input.new ≡ input.old) × (output.new ≡ output.old) }
     ensures usage { args ≡ Ok None → (result ≡ 2) × (input.new ≡ input.old) × (output.new ≡ output.old) }
 {
     match args {
-        Ok(Some(args)) => program(rt, alloc, &args, input, output, faults),
+        Ok(Some(args)) => program(rt, alloc, keys, &args, input, output, faults),
         Ok(None) => usage(faults),
         Err(no_room) => refuse(faults, no_room),
     }

@@ -1,5 +1,6 @@
 //! For each word of a text, a line that tells how often it came before.
 
+ghost use Rattle.std.specs.HashMap.{hasher_of, IsEmpty};
 ghost use Rattle.std.specs.Prelude.{◌≡◌, ◌↔◌, ◌+◌, ◌^◌, ◌<◌, ◌++◌, IfOk, IfSome, OnOk, OnErr, IfErr, false, true, string_bytes};
 ghost use Rattle.std.specs.Io.KnownBytes.{Appends};
 ghost use Rattle.std.specs.Str.{IsUtf8};
@@ -13,6 +14,7 @@ ghost use Rattle.commands.specs.WordLines.{AreWordLines, seen_line, word_lines};
 use crate::buckets::buckets_for;
 use std::alloc::{AllocError, Global};
 use std::collections::HashMap;
+use std::hash::RandomState;
 use std::sync::Wait;
 use string_cache::dynamic_set::Set;
 use string_cache::table::Table;
@@ -60,8 +62,17 @@ impl<R: Wait, Static: StaticTables> Interner for Holder<'_, '_, R, Static> {
     }
 }
 
-/// How often each word came, found by the word where it lies in the text.
-type TimesSeen<'t> = HashMap<&'t str, u64>;
+/// How often each word came, found by the word where it lies in the text. Words are hashed under random keys, so that nobody can choose
+/// words that collide.
+type TimesSeen<'t> = HashMap<&'t str, u64, RandomState>;
+
+/// No word was seen yet. Words will be hashed under these keys.
+fn none_seen<'t>(alloc: Global, keys: RandomState) -> TimesSeen<'t>
+    ensures empty { IsEmpty result }
+    ensures keys { hasher_of result ≡ keys }
+{
+    HashMap::with_hasher(alloc, keys)
+}
 
 /// Counts the word once more, and tells how often it was counted before.
 fn count_word<'t>(counts: &mut TimesSeen<'t>, word: &'t str) -> Result<u64, AllocError>
@@ -103,6 +114,7 @@ fn tell_word<'t>(
 /// Interns the words of the text in order, and writes a line for each, once it is interned.
 fn write_words<I: Interner, K: Sink>(
     alloc: Global,
+    keys: RandomState,
     interner: &mut I,
     text: &str,
     writer: &mut K,
@@ -113,7 +125,7 @@ fn write_words<I: Interner, K: Sink>(
     ensures fault { IfErr result IsWritingFault }
     ensures failed { (result ≡ Err AppFault.Write) ↔ (K.has_failed writer.new ≡ true) }
 {
-    let mut counts = HashMap::new(alloc);
+    let mut counts = none_seen(alloc, keys);
     let mut pending = String::new(alloc);
     for word in text.split_whitespace() {
         interner.intern(word)?;
@@ -126,6 +138,7 @@ fn write_words<I: Interner, K: Sink>(
 /// Reads all, interns its words in order, and writes a line for each.
 fn list_words<I: Interner, S: Source, K: Sink>(
     alloc: Global,
+    keys: RandomState,
     interner: &mut I,
     reader: &mut S,
     writer: &mut K,
@@ -136,17 +149,20 @@ fn list_words<I: Interner, S: Source, K: Sink>(
         AreWordLines IsUnwrittenFault IsWordsFault reader.old reader.new writer.old writer.new result }
 {
     let text = read_text(alloc, reader)?;
-    write_words(alloc, interner, &text, writer)
+    write_words(alloc, keys, interner, &text, writer)
 }
 
 /// For each word that the reader gives, a line that tells how often it came before. The words are interned in the set,
-/// repeated ones again, and the atom of each place is held to the end of the call; inline ones hold nothing of the set.
+/// repeated ones again, and the atom of each place is held to the end of the call; inline ones hold nothing of the set. To tell how often
+/// they came, words are hashed under these keys, on which nothing depends but the time it takes: under random ones, as `RandomState::new`
+/// draws them, nobody can choose an input that takes long.
 ///
 /// `Read` and `Text`, input that isn't UTF-8, come before anything is written, and so does `Intern(Memory)` while the
 /// input is read. After another fault a beginning of the lines is written.
 pub fn words<R: Wait, Static: StaticTables, S: Source, K: Sink>(
     rt: &R,
     set: &Set<Static>,
+    keys: RandomState,
     reader: &mut S,
     writer: &mut K,
 ) -> Result<(), AppFault>
@@ -156,13 +172,14 @@ pub fn words<R: Wait, Static: StaticTables, S: Source, K: Sink>(
         AreWordLines IsUnwrittenFault IsWordsFault reader.old reader.new writer.old writer.new result }
 {
     let alloc = set.allocator();
-    list_words(alloc, &mut Holder::new(rt, set), reader, writer)
+    list_words(alloc, keys, &mut Holder::new(rt, set), reader, writer)
 }
 
 /// As `words`, over a set of this call's own, whose number of buckets fits the input.
 pub fn words_command<R: Wait, S: Source, K: Sink>(
     rt: &R,
     alloc: Global,
+    keys: RandomState,
     reader: &mut S,
     writer: &mut K,
 ) -> Result<(), AppFault>
@@ -174,13 +191,14 @@ pub fn words_command<R: Wait, S: Source, K: Sink>(
     let text = read_text(alloc, reader)?;
     let buckets = buckets_for(text.len());
     let set = Set::<EmptyStaticAtomSet>::with_buckets(alloc, Limits::greatest(), buckets)?;
-    write_words(alloc, &mut Holder::new(rt, &set), &text, writer)
+    write_words(alloc, keys, &mut Holder::new(rt, &set), &text, writer)
 }
 
 /// The same lines and faults as those of `words`. The words are interned in a table of this call's own, which ends with it,
 /// so that no lock is taken.
 pub fn words_alone<S: Source, K: Sink>(
     alloc: Global,
+    keys: RandomState,
     reader: &mut S,
     writer: &mut K,
 ) -> Result<(), AppFault>
@@ -190,5 +208,5 @@ pub fn words_alone<S: Source, K: Sink>(
         AreWordLines IsUnwrittenFault IsWordsFault reader.old reader.new writer.old writer.new result }
 {
     let mut table = Table::<EmptyStaticAtomSet>::new(alloc)?;
-    list_words(alloc, &mut table, reader, writer)
+    list_words(alloc, keys, &mut table, reader, writer)
 }

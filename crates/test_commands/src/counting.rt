@@ -13,12 +13,26 @@ use std::{str, thread};
 use string_cache::dynamic_set::Set;
 use string_cache::{Atom, DefaultAtom, EmptyStaticAtomSet, Fault};
 use test_refusals::are;
-use test_samples::{EXAMPLE, EXAMPLE_COUNTS};
+use test_samples::{EXAMPLE, EXAMPLE_COUNTS, keys};
 use text_streams::faults::AppFault;
-use word_counts::count::{Gate, Open, count, sections};
+use word_counts::count::{Gate, Open, WordCounts, count, sections};
 
 /// A set without static texts.
 type DefaultSet = Set<EmptyStaticAtomSet>;
+
+/// What this many workers count.
+pub fn counted<'s, R: Threads + Wait + Sync, G: Gate>(
+    rt: &'s R,
+    set: &'s DefaultSet,
+    text: &'s str,
+    n: u32,
+    gate: &'s G,
+) -> Result<WordCounts<'s, EmptyStaticAtomSet>, AppFault>
+    requires low { 1 ≤ n }
+    requires high { n ≤ 64 }
+{
+    count(rt, set, keys(1).ok_or(AppFault::Keys)?, text, n, gate)
+}
 
 /// Whether this many workers count these words through the gate.
 fn are_counted<R: Threads + Wait + Sync, G: Gate>(
@@ -32,7 +46,7 @@ fn are_counted<R: Threads + Wait + Sync, G: Gate>(
     requires low { 1 ≤ n }
     requires high { n ≤ 64 }
 {
-    match count(rt, set, text, n, gate) {
+    match counted(rt, set, text, n, gate) {
         Ok(counts) => are(&counts, wanted),
         Err(_) => false,
     }
@@ -49,7 +63,7 @@ fn fault_of<R: Threads + Wait + Sync, G: Gate>(
     requires low { 1 ≤ n }
     requires high { n ≤ 64 }
 {
-    count(rt, set, text, n, gate).err()
+    counted(rt, set, text, n, gate).err()
 }
 
 #[test]
@@ -65,7 +79,7 @@ fn counts_of_the_example(rt: HostRuntime) {
 
 /// Whether four workers count both words of the long text, the longer of which is linked meanwhile.
 fn is_long_counted<R: Threads + Wait + Sync>(rt: &R, set: &DefaultSet, text: &str) -> bool {
-    match count(rt, set, text, 4, &Open) {
+    match counted(rt, set, text, 4, &Open) {
         Ok(counts) => {
             are(&counts, &[("a", 20_000), ("interned", 20_000)]) && set.linked(rt) == 1
         }
@@ -94,7 +108,7 @@ fn come_twice_in<R: Threads + Wait + Sync>(
     requires low { 1 ≤ n }
     requires high { n ≤ 64 }
 {
-    match count(rt, set, text, n, &Open) {
+    match counted(rt, set, text, n, &Open) {
         Ok(counts) => counts.len() == words && counts.iter().all(|(_, places)| *places == 2),
         Err(_) => false,
     }
@@ -179,7 +193,7 @@ fn words_counted<R: Threads + Wait + Sync, G: Gate>(
     requires low { 1 ≤ n }
     requires high { n ≤ 64 }
 {
-    match count(rt, set, text, n, gate) {
+    match counted(rt, set, text, n, gate) {
         Ok(counts) => Some(counts.len()),
         Err(_) => None,
     }

@@ -10,7 +10,7 @@ use std::alloc::Global;
 use std::process::Abort;
 use std::sync::Wait;
 use std::thread::Threads;
-use test_samples::EXAMPLE;
+use test_samples::{EXAMPLE, keys};
 use text_streams::faults::AppFault;
 
 /// A call that reads all and writes.
@@ -70,7 +70,10 @@ impl Call {
 
 fn counted_by_two<R: Threads + Wait + Sync>(rt: &R, alloc: Global, streams: &Streams) -> Outcome {
     let mut page = streams.writer();
-    let answer = count_command(rt, alloc, 2, &mut streams.reader(), &mut page);
+    let answer = match keys(1) {
+        Some(keys) => count_command(rt, alloc, keys, 2, &mut streams.reader(), &mut page),
+        None => Err(AppFault::Keys),
+    };
     Outcome { answer, page }
 }
 

@@ -24,6 +24,8 @@ mod refusals;
 #[cfg(test)]
 mod replay;
 #[cfg(test)]
+mod under_keys;
+#[cfg(test)]
 mod words;
 
 /// Ends the test unless this is so: one call, where `assert!` writes its message and its ways out into the function that asks.

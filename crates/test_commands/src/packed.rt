@@ -10,6 +10,7 @@ use std::thread::Threads;
 use string_cache::StaticTables;
 use string_cache::dynamic_set::Set;
 use test_refusals::are;
+use test_samples::keys;
 use text_streams::streams::Io;
 use word_counts::count::{Open, count};
 
@@ -33,7 +34,8 @@ const COUNTS: [(&str, u64); 3] = [("crème-brûlée", 2), ("fieldset", 3), ("p",
 fn are_told<S: StaticTables, R: Wait + Abort>(rt: &R, alloc: Global) -> bool {
     let set = Set::<S>::new(alloc).expect(rt, "a set");
     let mut writer = Io::new(Vec::new(alloc));
-    let answer = words(rt, &set, &mut Io::new(TEXT.as_bytes()), &mut writer);
+    let keys = keys(1).expect(rt, "keys");
+    let answer = words(rt, &set, keys, &mut Io::new(TEXT.as_bytes()), &mut writer);
     answer == Ok(()) && writer.into_inner().as_slice() == LINES.as_bytes()
 }
 
@@ -45,7 +47,8 @@ fn are_counted<S: StaticTables + Send + Sync, R: Threads + Wait + Sync + Abort>(
 ) -> bool {
     let set = Set::<S>::new(alloc).expect(rt, "a set");
     let workers = if both { 2 } else { 1 };
-    match count(rt, &set, TEXT, workers, &Open) {
+    let keys = keys(1).expect(rt, "keys");
+    match count(rt, &set, keys, TEXT, workers, &Open) {
         Ok(counts) => are(&counts, &COUNTS),
         Err(_) => false,
     }

@@ -8,16 +8,17 @@ use crate::{assert_for, assert_that};
 use commands::program::{arguments, program, refuse, run};
 use std::alloc::Global;
 use std::env::FillError;
+use std::hash::RandomState;
 use std::process::Abort;
 use std::rt::Env;
 use std::sync::Wait;
 use std::thread::Threads;
 use string_cache::Fault;
 use table_generator::tables::GenFault;
-use test_samples::EXAMPLE;
+use test_samples::{EXAMPLE, keys};
 use text_streams::faults::AppFault;
 
-const USAGE: &[u8] = b"usage: atoms words | count N | replay | generate KEY BOUND | check\n";
+pub const USAGE: &[u8] = b"usage: atoms words | count N | replay | generate KEY BOUND | check\n";
 
 pub const NO_MEMORY: &[u8] = b"atoms: no memory\n";
 
@@ -42,10 +43,11 @@ impl Answer {
     }
 }
 
-/// What is run for an outcome of reading the arguments, as `main` does.
-fn ran<R: Threads + Wait + Sync>(
+/// What is run for an outcome of drawing the keys and reading the arguments, as `main` does.
+pub fn ran<R: Threads + Wait + Sync>(
     rt: &R,
     alloc: Global,
+    keys: Option<RandomState>,
     args: Result<Option<Vec<String>>, AppFault>,
     streams: &Streams,
 ) -> Answer {
@@ -54,6 +56,7 @@ fn ran<R: Threads + Wait + Sync>(
     let status = run(
         rt,
         alloc,
+        keys,
         args,
         &mut streams.reader(),
         &mut output,
@@ -73,7 +76,7 @@ pub fn answer_of<R: Threads + Wait + Sync>(
     args: Vec<String>,
     streams: &Streams,
 ) -> Answer {
-    ran(rt, alloc, Ok(Some(args)), streams)
+    ran(rt, alloc, keys(1), Ok(Some(args)), streams)
 }
 
 /// Adds a word to the arguments.
@@ -242,6 +245,8 @@ pub const EXAMPLE_COUNTS: &[u8] = b"1 a
 
 pub const NO_WORKER: &[u8] = b"atoms: worker not started\n";
 
+pub const NO_KEYS: &[u8] = b"atoms: no random keys\n";
+
 static COUNT_RUNS: [Run; 6] = [
     Run::Given("count 1", EXAMPLE, EXAMPLE_COUNTS),
     Run::Given("count 2", EXAMPLE, EXAMPLE_COUNTS),
@@ -288,6 +293,7 @@ fn unsaid_status<R: Threads + Wait + Sync + Abort>(rt: &R, alloc: Global, line: 
     program(
         rt,
         alloc,
+        keys(1),
         &args,
         &mut streams.reader(),
         &mut streams.writer(),
@@ -303,12 +309,13 @@ fn faults_fail(rt: HostRuntime) {
 }
 
 /// Faults, and the lines that they are told in.
-const FAULTS: [(AppFault, &[u8]); 10] = [
+const FAULTS: [(AppFault, &[u8]); 11] = [
     (AppFault::Read, READ_FAILED),
     (AppFault::Write, WRITE_FAILED),
     (AppFault::Text, NOT_TEXT),
     (AppFault::Script(12), b"atoms: line 12: not a step\n"),
     (AppFault::Worker, NO_WORKER),
+    (AppFault::Keys, NO_KEYS),
     (AppFault::Intern(Fault::Memory), NO_MEMORY),
     (
         AppFault::Intern(Fault::FullCount),
@@ -426,7 +433,7 @@ fn ends<R: Threads + Wait + Sync>(
     status: u8,
     faults: &[u8],
 ) -> bool {
-    ran(rt, alloc, args, &Streams::ample(b"\xff")).is(status, b"", faults)
+    ran(rt, alloc, keys(1), args, &Streams::ample(b"\xff")).is(status, b"", faults)
 }
 
 /// Outcomes that are arguments.

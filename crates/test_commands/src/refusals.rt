@@ -5,3 +5,5 @@
 mod programs;
 mod starts;
 mod whole;
+
+pub use programs::numbered_words;

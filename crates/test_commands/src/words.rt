@@ -1,18 +1,19 @@
 //! What no contract says of the words: the worked examples, what is interned and held.
 
-ghost use Rattle.std.specs.Prelude.{None, false};
+ghost use Rattle.std.specs.Prelude.{◌≡◌, None, false};
 
 use crate::memory::{Bytes, Outcome, Streams};
 use crate::{assert_for, assert_that};
 use commands::words::{words, words_alone};
 use std::alloc::Global;
+use std::hash::RandomState;
 use std::process::Abort;
 use std::sync::Wait;
 use std::{io, str};
 use string_cache::dynamic_set::Set;
 use string_cache::word::Limits;
 use string_cache::{Atom, DefaultAtom, EmptyStaticAtomSet, Fault};
-use test_samples::EXAMPLE;
+use test_samples::{EXAMPLE, keys};
 use text_streams::faults::AppFault;
 use text_streams::streams::{Io, Sink};
 
@@ -43,11 +44,24 @@ pub fn new_set(rt: &impl Abort, alloc: Global) -> Set<EmptyStaticAtomSet> {
     Set::new(alloc).expect(rt, "a set")
 }
 
-/// What `words` answers and writes over these streams and this set.
-pub fn told_in<R: Wait>(rt: &R, set: &Set<EmptyStaticAtomSet>, streams: &Streams) -> Outcome {
+/// What `words` answers and writes over these streams and this set, under these keys.
+pub fn told_under<R: Wait>(
+    rt: &R,
+    set: &Set<EmptyStaticAtomSet>,
+    keys: Option<RandomState>,
+    streams: &Streams,
+) -> Outcome {
     let mut page = streams.writer();
-    let answer = words(rt, set, &mut streams.reader(), &mut page);
+    let answer = match keys {
+        Some(keys) => words(rt, set, keys, &mut streams.reader(), &mut page),
+        None => Err(AppFault::Keys),
+    };
     Outcome { answer, page }
+}
+
+/// The same under one number's keys.
+pub fn told_in<R: Wait>(rt: &R, set: &Set<EmptyStaticAtomSet>, streams: &Streams) -> Outcome {
+    told_under(rt, set, keys(1), streams)
 }
 
 /// The same over a new set.
@@ -61,15 +75,44 @@ pub fn told_in_new_set<R: Wait>(rt: &R, alloc: Global, streams: &Streams) -> Out
     }
 }
 
-/// What `words_alone` answers and writes over these streams.
-pub fn told_alone(alloc: Global, streams: &Streams) -> Outcome {
+/// What `words_alone` answers and writes over these streams, under these keys.
+pub fn told_alone_under(alloc: Global, keys: Option<RandomState>, streams: &Streams) -> Outcome {
     let mut page = streams.writer();
-    let answer = words_alone(alloc, &mut streams.reader(), &mut page);
+    let answer = match keys {
+        Some(keys) => words_alone(alloc, keys, &mut streams.reader(), &mut page),
+        None => Err(AppFault::Keys),
+    };
     Outcome { answer, page }
 }
 
+/// The same under one number's keys.
+pub fn told_alone(alloc: Global, streams: &Streams) -> Outcome {
+    told_alone_under(alloc, keys(1), streams)
+}
+
+/// What `words_alone` answers, and writes to a writer of any kind.
+pub fn tell_alone<K: Sink>(alloc: Global, text: &str, writer: &mut K) -> Result<(), AppFault>
+    requires { K.has_failed writer.old ≡ false }
+{
+    let keys = keys(1).ok_or(AppFault::Keys)?;
+    words_alone(alloc, keys, &mut Bytes::whole(text.as_bytes()), writer)
+}
+
+/// What `words` answers, and writes to a writer of any kind.
+fn tell_in<R: Wait, K: Sink>(
+    rt: &R,
+    set: &Set<EmptyStaticAtomSet>,
+    text: &str,
+    writer: &mut K,
+) -> Result<(), AppFault>
+    requires { K.has_failed writer.old ≡ false }
+{
+    let keys = keys(1).ok_or(AppFault::Keys)?;
+    words(rt, set, keys, &mut Bytes::whole(text.as_bytes()), writer)
+}
+
 /// Texts with their lines.
-const TEXTS: [(&[u8], &[u8]); 5] = [
+pub const TEXTS: [(&[u8], &[u8]); 5] = [
     (EXAMPLE, EXAMPLE_LINES),
     (
         b"\x61\xc2\xa0\x61",
@@ -131,14 +174,14 @@ fn numbered<R: Abort>(
 /// Whether the lines of a text are written, of any size.
 fn are_lines(alloc: Global, text: &str, lines: &str) -> bool {
     let mut writer = Io::new(Vec::new(alloc));
-    let answer = words_alone(alloc, &mut Io::new(text.as_bytes()), &mut writer);
+    let answer = tell_alone(alloc, text, &mut writer);
     answer == Ok(()) && writer.into_inner().as_slice() == lines.as_bytes()
 }
 
 /// The same of a set.
 fn are_lines_in<R: Wait>(rt: &R, set: &Set<EmptyStaticAtomSet>, text: &str, lines: &str) -> bool {
     let mut writer = Io::new(Vec::new(set.allocator()));
-    let answer = words(rt, set, &mut Io::new(text.as_bytes()), &mut writer);
+    let answer = tell_in(rt, set, text, &mut writer);
     answer == Ok(()) && writer.into_inner().as_slice() == lines.as_bytes()
 }
 
@@ -191,7 +234,7 @@ fn sizes_of(alloc: Global, text: &str) -> Result<(u64, usize, usize), AppFault> 
         first: 0,
         second: 0,
     };
-    words_alone(alloc, &mut Io::new(text.as_bytes()), &mut sizes)?;
+    tell_alone(alloc, text, &mut sizes)?;
     Ok((sizes.writes, sizes.first, sizes.second))
 }
 
@@ -291,7 +334,7 @@ impl<R: Wait> Sink for Watcher<'_, R> {
 /// Whether so many entries are linked while the lines of the text are written, and none after it.
 fn are_held<R: Wait>(rt: &R, set: &Set<EmptyStaticAtomSet>, text: &str, linked: u128) -> bool {
     let mut writer = Watcher::new(rt, set, "");
-    let answer = words(rt, set, &mut Bytes::whole(text.as_bytes()), &mut writer);
+    let answer = tell_in(rt, set, text, &mut writer);
     answer == Ok(()) && writer.linked == linked && set.linked(rt) == 0
 }
 
@@ -315,8 +358,7 @@ fn is_answer_meanwhile<R: Wait>(
     answer: Result<(), Fault>,
 ) -> bool {
     let mut writer = Watcher::new(rt, set, text);
-    let others = &mut Bytes::whole(b"interned tokenised");
-    words(rt, set, others, &mut writer) == Ok(()) && writer.answer == answer
+    tell_in(rt, set, "interned tokenised", &mut writer) == Ok(()) && writer.answer == answer
 }
 
 /// A new set with these limits.

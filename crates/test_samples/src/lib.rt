@@ -1,10 +1,12 @@
-//! What tests of several crates have in common: static types, names, and a text with its counts.
+//! What tests of several crates have in common: static types, names, keys, and a text with its counts.
 #![tactic(auto)]
 
 mod example;
+mod key_source;
 mod names;
 mod statics;
 
 pub use example::{EXAMPLE, EXAMPLE_COUNTS};
+pub use key_source::keys;
 pub use names::NAMES;
 pub use statics::{One, Short, Twice};

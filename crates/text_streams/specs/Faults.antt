@@ -1,6 +1,6 @@
 -- Which faults may come, and when.
 use Rattle.text_streams.specs.declared.faults.AppFault.{AppFault}
-use Rattle.text_streams.specs.declared.faults.AppFault.TheVariants.{Read, Write, Text, Script, Worker, Intern, Gen}
+use Rattle.text_streams.specs.declared.faults.AppFault.TheVariants.{Read, Write, Text, Script, Worker, Keys, Intern, Gen}
 use Rattle.string_cache.specs.declared.Fault.{Fault}
 use Rattle.string_cache.specs.declared.Fault.TheVariants.{Memory, FullCount, TicketsSpent, NotText}
 use Rattle.table_generator.specs.declared.tables.GenFault.{GenFault}
@@ -20,6 +20,7 @@ pub record Faults : Type 1 where
   pub texts : Type 0
   pub scripts : Type 0
   pub workers : Type 0
+  pub keys : Type 0
   pub interns : Fault → Type 0
   pub tables : GenFault → Type 0
 
@@ -30,12 +31,13 @@ IsOf faults Write = faults.writes
 IsOf faults Text = faults.texts
 IsOf faults (Script line) = faults.scripts
 IsOf faults Worker = faults.workers
+IsOf faults Keys = faults.keys
 IsOf faults (Intern fault) = faults.interns fault
 IsOf faults (Gen fault) = faults.tables fault
 
 -- want of memory alone
 abbrev pub memory : Faults
-memory = record { reads = ⊥; writes = ⊥; texts = ⊥; scripts = ⊥; workers = ⊥; interns = IsMemory; tables = λ fault. ⊥ }
+memory = record { reads = ⊥; writes = ⊥; texts = ⊥; scripts = ⊥; workers = ⊥; keys = ⊥; interns = IsMemory; tables = λ fault. ⊥ }
 
 -- of the streams and the text too, as each command has them
 abbrev pub streams : Faults

@@ -26,6 +26,9 @@ pub enum AppFault {
     /// A worker's thread couldn't be started.
     #[error("worker not started")]
     Worker,
+    /// The system gave no random keys for the maps of a command that needs them. It comes before anything is read or written.
+    #[error("no random keys")]
+    Keys,
     /// Interning was refused, or the program's own memory.
     #[error("{0}")]
     Intern(Fault),

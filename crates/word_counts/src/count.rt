@@ -14,6 +14,7 @@ pub use merge::MANY;
 // For the tests above.
 #[doc(hidden)]
 pub use parts::sections;
+use std::hash::RandomState;
 use std::sync::Wait;
 use std::thread;
 use std::thread::Threads;
@@ -49,12 +50,16 @@ pub type WordCounts<'e, Static> = Vec<(Atom<'e, Static>, u64)>;
 /// The words are cut into `n` pieces, in order and about equally long, and each goes to a worker with a thread of its own.
 /// It interns every place of every word in the set, repeated ones again, between the gate's two calls.
 ///
+/// `keys` are those under which words are hashed while they are counted. What is returned doesn't depend on them. If they are random, as
+/// `RandomState::new` draws them, nobody can choose a text that slows the counting down.
+///
 /// `Worker` comes where a worker's thread couldn't be started, and `Intern` where interning was refused, or memory. Where several
 /// workers are refused it is the fault of the lowest piece. After a fault no worker is left running, and none of their
 /// atoms is held.
 pub fn count<'s, R: Threads + Wait + Sync, Static: StaticTables + Send + Sync, G: Gate>(
     rt: &'s R,
     set: &'s Set<Static>,
+    keys: RandomState,
     text: &'s str,
     n: u32,
     gate: &'s G,
@@ -72,6 +77,6 @@ pub fn count<'s, R: Threads + Wait + Sync, Static: StaticTables + Send + Sync, G
             requires { 1 ≤ n }
             ensures counts { IfOk result (λ counts. counted_texts counts.items ≡ word_counts (words text.entry.now)) }
             ensures fault { IfErr result IsCountFault }
-        { counts_in(scope, rt, set, gate, text, n) },
+        { counts_in(scope, rt, set, keys, gate, text, n) },
     )
 }

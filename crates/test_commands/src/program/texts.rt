@@ -2,18 +2,23 @@
 
 use super::words_of_line;
 use crate::memory::Page;
+use crate::refusals::numbered_words;
+use crate::under_keys::NUMBERS;
 use crate::{assert_for, assert_that};
 use commands::program::program;
 use std::alloc::Global;
+use std::hash::RandomState;
 use std::process::Abort;
 use std::sync::Wait;
 use std::thread::Threads;
+use test_samples::keys;
 use text_streams::streams::Io;
 
-/// What the program writes of an input of any size, without a fault.
+/// What the program writes of an input of any size under these keys, without a fault.
 fn output_of<R: Threads + Wait + Sync + Abort>(
     rt: &R,
     alloc: Global,
+    keys: Option<RandomState>,
     line: &str,
     input: &[u8],
 ) -> Option<Vec<u8>> {
@@ -21,7 +26,7 @@ fn output_of<R: Threads + Wait + Sync + Abort>(
     let mut output = Io::new(Vec::new(alloc));
     let mut faults = Page::wide();
     let input = &mut Io::new(input);
-    if program(rt, alloc, &args, input, &mut output, &mut faults) == 0
+    if program(rt, alloc, keys, &args, input, &mut output, &mut faults) == 0
         && faults.written().is_empty()
     {
         return Some(output.into_inner());
@@ -29,7 +34,21 @@ fn output_of<R: Threads + Wait + Sync + Abort>(
     None
 }
 
-/// Whether the program writes this output, and no fault.
+/// Whether the program writes this output under these keys, and no fault.
+fn writes_under<R: Threads + Wait + Sync + Abort>(
+    rt: &R,
+    alloc: Global,
+    keys: Option<RandomState>,
+    (line, input): (&str, &[u8]),
+    output: &[u8],
+) -> bool {
+    match output_of(rt, alloc, keys, line, input) {
+        Some(written) => written.as_slice() == output,
+        None => false,
+    }
+}
+
+/// The same under one number's keys.
 fn writes<R: Threads + Wait + Sync + Abort>(
     rt: &R,
     alloc: Global,
@@ -37,10 +56,7 @@ fn writes<R: Threads + Wait + Sync + Abort>(
     input: &[u8],
     output: &[u8],
 ) -> bool {
-    match output_of(rt, alloc, line, input) {
-        Some(written) => written.as_slice() == output,
-        None => false,
-    }
+    writes_under(rt, alloc, keys(1), (line, input), output)
 }
 
 /// A command, its input and its output.
@@ -106,6 +122,79 @@ Seen the word \"interned\" 2 times
         "no\n",
     ),
 ];
+
+/// Whether a row is right without keys: commands that hash words are refused, and others write their outputs.
+fn is_right_without<R: Threads + Wait + Sync + Abort>(rt: &R, alloc: Global, row: &Row) -> bool {
+    let (line, input, output) = *row;
+    if line.starts_with("words") || line.starts_with("count") {
+        output_of(rt, alloc, None, line, input.as_bytes()).is_none()
+    } else {
+        writes_under(rt, alloc, None, (line, input.as_bytes()), output.as_bytes())
+    }
+}
+
+#[test]
+fn beyond_ascii_without_keys(rt: HostRuntime) {
+    for row in &ROWS {
+        assert_for(&rt, is_right_without(&rt, rt.alloc(), row), &(row.0, row.1));
+    }
+}
+
+/// Whether a row is right under the keys of each number.
+fn is_right_under_any<R: Threads + Wait + Sync + Abort>(rt: &R, alloc: Global, row: &Row) -> bool {
+    let (line, input, output) = *row;
+    is_written_under_any(rt, alloc, (line, input.as_bytes()), output.as_bytes())
+}
+
+/// Whether the program writes this output under the keys of each number.
+fn is_written_under_any<R: Threads + Wait + Sync + Abort>(
+    rt: &R,
+    alloc: Global,
+    (line, input): (&str, &[u8]),
+    output: &[u8],
+) -> bool {
+    for n in &NUMBERS {
+        if !writes_under(rt, alloc, keys(*n), (line, input), output) {
+            return false;
+        }
+    }
+    true
+}
+
+#[test]
+fn beyond_ascii_under_any_keys(rt: HostRuntime) {
+    for row in &ROWS {
+        assert_for(
+            &rt,
+            is_right_under_any(&rt, rt.alloc(), row),
+            &(row.0, row.1),
+        );
+    }
+}
+
+/// Whether this line writes the same of the text, and something, under the keys of each number.
+fn is_same_under_any<R: Threads + Wait + Sync + Abort>(
+    rt: &R,
+    alloc: Global,
+    line: &str,
+    text: &str,
+) -> bool {
+    match output_of(rt, alloc, keys(1), line, text.as_bytes()) {
+        Some(first) => {
+            !first.is_empty() && is_written_under_any(rt, alloc, (line, text.as_bytes()), &first)
+        }
+        None => false,
+    }
+}
+
+/// 1,024 different words, each of which comes twice.
+#[test]
+fn many_words_under_any_keys(rt: HostRuntime) {
+    let text = numbered_words(&rt, rt.alloc(), 2_048);
+    for line in &["words", "count 1", "count 4"] {
+        assert_for(&rt, is_same_under_any(&rt, rt.alloc(), line, &text), line);
+    }
+}
 
 #[test]
 fn beyond_ascii(rt: HostRuntime) {
@@ -222,7 +311,7 @@ fn thousand<R: Abort>(rt: &R, alloc: Global) -> String {
 
 /// Whether the names have a table text of more than 100,000 bytes, which is checked.
 fn have_table<R: Threads + Wait + Sync + Abort>(rt: &R, alloc: Global, names: &str) -> bool {
-    match output_of(rt, alloc, "generate 0 2048", names.as_bytes()) {
+    match output_of(rt, alloc, keys(1), "generate 0 2048", names.as_bytes()) {
         Some(table) => table.len() > 100_000 && writes(rt, alloc, "check", &table, b"yes\n"),
         None => false,
     }

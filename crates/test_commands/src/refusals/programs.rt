@@ -3,13 +3,13 @@
 ghost use Rattle.std.specs.Prelude.{◌≤◌};
 
 use crate::assert_that;
-use crate::memory::{Bytes, Lost, Outcome, Streams};
+use crate::counting::counted;
+use crate::memory::{Lost, Outcome, Streams};
 use crate::program::{
     Answer, COUNT_LINE, COUNT_WORDS, NO_MEMORY, answer_of, are_words, arguments_of, words_of_line,
 };
 use crate::replay::{DYING_ENTRY, LIMITS, NO_ROOM, replayed};
-use crate::words::{EXAMPLE_LINES, new_set, told_alone, told_in};
-use commands::words::words_alone;
+use crate::words::{EXAMPLE_LINES, new_set, tell_alone, told_alone, told_in};
 use std::alloc::Global;
 use std::io::Print;
 use std::process::Abort;
@@ -21,7 +21,7 @@ use string_cache::dynamic_set::Set;
 use test_refusals::{End, are, at_last, begin, finish};
 use test_samples::{EXAMPLE, EXAMPLE_COUNTS};
 use text_streams::faults::AppFault;
-use word_counts::count::{Open, WordCounts, count};
+use word_counts::count::{Open, WordCounts};
 
 /// Whether a call wrote its output, or a beginning of these lines till it was refused.
 fn is_right(first: &Outcome, lines: &[u8], output: &[u8]) -> bool {
@@ -71,17 +71,12 @@ pub fn numbered_words<R: Abort>(rt: &R, alloc: Global, count: u32) -> String {
     text
 }
 
-/// Tells the words of a text in a table, and keeps no line.
-fn tell_alone(alloc: Global, text: &str) -> Result<(), AppFault> {
-    words_alone(alloc, &mut Bytes::whole(text.as_bytes()), &mut Lost)
-}
-
 /// 100 different words of eight bytes, each of which the table holds with bytes of its own.
 #[test]
 fn many_words_in_a_table(rt: HostRuntime) {
     let alloc = rt.alloc();
     let text = numbered_words(&rt, alloc, 100);
-    let answer = at_last(&rt, || tell_alone(alloc, &text));
+    let answer = at_last(&rt, || tell_alone(alloc, &text, &mut Lost));
     assert_that(&rt, answer == Ok(()));
 }
 
@@ -119,7 +114,7 @@ fn are_counted<R: Threads + Wait + Sync>(
     requires low { 1 ≤ n }
     requires high { n ≤ 64 }
 {
-    let counts = count(rt, set, text, n, &Open)?;
+    let counts = counted(rt, set, text, n, &Open)?;
     Ok(are(&counts, &EXAMPLE_COUNTS))
 }
 
@@ -221,7 +216,7 @@ fn many_are_right<R: Threads + Wait + Sync>(
     requires low { 1 ≤ n }
     requires high { n ≤ 64 }
 {
-    let counts = count(rt, set, text, n, &Open)?;
+    let counts = counted(rt, set, text, n, &Open)?;
     Ok(are_many(&counts))
 }
 

@@ -4,6 +4,7 @@
 
 use super::programs::{example_is_counted, line_is_run, many_are_counted};
 use crate::assert_that;
+use crate::counting::counted;
 use crate::program::{EXAMPLE_COUNTS, NO_WORKER};
 use crate::words::{intern, set_with};
 use std::io::Print;
@@ -15,7 +16,7 @@ use string_cache::{DefaultAtom, EmptyStaticAtomSet, Fault};
 use test_refusals::{End, begin, finish};
 use test_samples::EXAMPLE;
 use text_streams::faults::AppFault;
-use word_counts::count::{Gate, count};
+use word_counts::count::Gate;
 
 /// Counts how often the first worker and the second enter.
 #[derive(Drop)]
@@ -102,7 +103,7 @@ fn fault_of_two<R: Threads + Wait + Sync>(
     set: &Set<EmptyStaticAtomSet>,
     gate: &Entries,
 ) -> Option<AppFault> {
-    count(rt, set, "interned tokenised", 2, gate).err()
+    counted(rt, set, "interned tokenised", 2, gate).err()
 }
 
 /// Whether the fault is that of the first worker, or where that wasn't started, tells so.

@@ -10,11 +10,42 @@ use std::io::Print;
 use std::sync::Wait;
 use std::thread::Threads;
 use test_refusals::{End, begin, finish};
+use test_samples::keys;
+use text_streams::faults::AppFault;
+
+/// Tells the words of a text, and keeps no line.
+fn tell<R: Wait>(rt: &R, alloc: Global, text: &str) -> Result<(), AppFault> {
+    let keys = keys(1).ok_or(AppFault::Keys)?;
+    words_command(
+        rt,
+        alloc,
+        keys,
+        &mut Bytes::whole(text.as_bytes()),
+        &mut Lost,
+    )
+}
+
+/// Counts them by two workers, and keeps no line.
+fn count_by_two<R: Threads + Wait + Sync>(
+    rt: &R,
+    alloc: Global,
+    text: &str,
+) -> Result<(), AppFault> {
+    let keys = keys(1).ok_or(AppFault::Keys)?;
+    count_command(
+        rt,
+        alloc,
+        keys,
+        2,
+        &mut Bytes::whole(text.as_bytes()),
+        &mut Lost,
+    )
+}
 
 /// Whether a watched call tells the words of the text.
 fn are_told<R: Wait + Print>(rt: &R, alloc: Global, text: &str) -> bool {
     begin(rt);
-    let answer = words_command(rt, alloc, &mut Bytes::whole(text.as_bytes()), &mut Lost);
+    let answer = tell(rt, alloc, text);
     finish(rt, End::of(&answer));
     answer == Ok(())
 }
@@ -28,7 +59,7 @@ fn words_are_told(rt: HostRuntime) {
 /// Whether two workers count them in a watched call.
 fn are_counted<R: Threads + Wait + Sync + Print>(rt: &R, alloc: Global, text: &str) -> bool {
     begin(rt);
-    let answer = count_command(rt, alloc, 2, &mut Bytes::whole(text.as_bytes()), &mut Lost);
+    let answer = count_by_two(rt, alloc, text);
     finish(rt, End::of(&answer));
     answer == Ok(())
 }

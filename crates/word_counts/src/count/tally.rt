@@ -1,9 +1,9 @@
 //! How often words came, with an atom of each.
 
-ghost use Rattle.std.specs.Prelude.{◌≡◌, ◌+◌, ◌^◌, ◌<◌, List, ℕ, IfOk, OnOk};
+ghost use Rattle.std.specs.Prelude.{◌≡◌, ◌+◌, ◌^◌, ◌<◌, List, [], ℕ, IfOk, OnOk};
 ghost use Rattle.std.specs.BTreeMap.{IsFromIterResult};
 ghost use Rattle.std.specs.Cmp.Lexicographic.{slice_cmp};
-ghost use Rattle.std.specs.HashMap.{values};
+ghost use Rattle.std.specs.HashMap.{hasher_of, values};
 ghost use Rattle.std.specs.Ordering.{nat_cmp};
 ghost use Rattle.word_counts.specs.Tally.{AddsTo, IsLabelled, IsTallyOf, number_of};
 ghost use Rattle.word_counts.specs.WordCounts.{counted_texts, word_counts};
@@ -11,10 +11,20 @@ ghost use Rattle.word_counts.specs.WordCounts.{counted_texts, word_counts};
 use super::WordCounts;
 use std::alloc::{AllocError, Global};
 use std::collections::{BTreeMap, HashMap};
+use std::hash::RandomState;
 use string_cache::{Atom, StaticTables};
 
-/// An atom of each word and how often the word came, found by the word where it lies in the text.
-pub type Tally<'e, Static> = HashMap<&'e str, (Atom<'e, Static>, u64)>;
+/// An atom of each word and how often the word came, found by the word where it lies in the text. Words are hashed under random keys, so that
+/// nobody can choose words that collide.
+pub type Tally<'e, Static> = HashMap<&'e str, (Atom<'e, Static>, u64), RandomState>;
+
+/// The tally of no words, whose words will be hashed under these keys.
+pub fn of_no_words<'e, Static: StaticTables>(alloc: Global, keys: RandomState) -> Tally<'e, Static>
+    ensures empty { IsTallyOf [] result }
+    ensures keys { hasher_of result ≡ keys }
+{
+    HashMap::with_hasher(alloc, keys)
+}
 
 /// Counts the word once more, with this atom. The atom comes back where the tally has one of the word.
 pub fn add<'e, Static: StaticTables>(

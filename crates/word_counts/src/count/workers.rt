@@ -10,9 +10,10 @@ ghost use Rattle.word_counts.specs.Words.{words};
 
 use super::merge::merge_all;
 use super::parts::{Part, parts};
-use super::tally::{Tally, add, into_pairs};
+use super::tally::{Tally, add, into_pairs, of_no_words};
 use super::{Gate, WordCounts};
-use std::collections::{HashMap, VecDeque};
+use std::collections::VecDeque;
+use std::hash::RandomState;
 use std::sync::Wait;
 use std::thread::{Promise, Scope, Threads};
 use string_cache::dynamic_set::Set;
@@ -79,6 +80,7 @@ fn intern_words<'e, R: Wait, Static: StaticTables>(
 fn count_part<'e, R: Wait, Static: StaticTables, G: Gate>(
     rt: &R,
     set: &'e Set<Static>,
+    keys: RandomState,
     gate: &G,
     part: Part<'e>,
     piece: u32,
@@ -86,7 +88,7 @@ fn count_part<'e, R: Wait, Static: StaticTables, G: Gate>(
     ensures counts { IfOk result (λ counts. counted_texts counts.items ≡ word_counts (words_of_part part.entry)) }
     ensures refused { IfErr result IsInternFault }
 {
-    let mut tally = HashMap::new(set.allocator());
+    let mut tally = of_no_words(set.allocator(), keys);
     let mut further = Vec::new(set.allocator());
     gate.enter(rt, piece);
     let outcome = intern_words(rt, set, part, &mut tally, &mut further);
@@ -133,6 +135,7 @@ fn counts_of_each<
     scope: &Scope<'x, &'e ()>,
     rt: &'e R,
     set: &'e Set<Static>,
+    keys: RandomState,
     gate: &'e G,
     parts: &[Part<'e>],
 ) -> Result<VecDeque<WordCounts<'e, Static>>, AppFault>
@@ -146,9 +149,9 @@ fn counts_of_each<
     let Part { text, from, to } = *part;
     let piece = parts.len() as u32;
     let started = scope.spawn_with(*part, move || {
-        count_part(rt, set, gate, Part { text, from, to }, piece)
+        count_part(rt, set, keys, gate, Part { text, from, to }, piece)
     });
-    let below = counts_of_each(scope, rt, set, gate, lower);
+    let below = counts_of_each(scope, rt, set, keys, gate, lower);
     let Ok(worker) = started else {
         return Err(fault_above(below));
     };
@@ -156,11 +159,12 @@ fn counts_of_each<
     with_last(below, own)
 }
 
-/// The counts of the words of the text, by `n` workers of the scope.
+/// The counts of the words of the text, by `n` workers of the scope, each of which hashes words under these keys.
 pub fn counts_in<'x, 'e: 'x, R: Threads + Wait + Sync, Static: StaticTables + Send + Sync, G: Gate>(
     scope: &Scope<'x, &'e ()>,
     rt: &'e R,
     set: &'e Set<Static>,
+    keys: RandomState,
     gate: &'e G,
     text: &'e str,
     n: u32,
@@ -170,7 +174,7 @@ pub fn counts_in<'x, 'e: 'x, R: Threads + Wait + Sync, Static: StaticTables + Se
     ensures fault { IfErr result IsCountFault }
 {
     let parts = parts(rt, set.allocator(), text, n)?;
-    let lists = counts_of_each(scope, rt, set, gate, &parts)?;
+    let lists = counts_of_each(scope, rt, set, keys, gate, &parts)?;
     let counts = merge_all(rt, set.allocator(), lists)?;
     Ok(counts)
 }

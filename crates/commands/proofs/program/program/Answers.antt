@@ -5,8 +5,8 @@ use Rattle.commands.specs.declared.program.Command.TheVariants.{Words, Count, Re
 use Rattle.commands.proofs.ProgramLemmas.{made, text}
 use Rattle.commands.proofs.program.program.Goals as goal
 
-pub returns : goal.returns
-returns g c =
+pub returns-clause-runs : goal.returns-clause-runs
+returns-clause-runs g c =
     let remaining = g.S.Source.remaining in
     let contents = g.K.Sink.contents in
     let input = c.args.input.now in
@@ -16,9 +16,9 @@ returns g c =
     let status = c.status_of.result in
     let of : (command : Command) → c.in-Some.command ≡ command → Makes remaining contents (IsOutputOf command) input output output' status =
     λ command same. made remaining contents (IsOutputOf command) input output output' outcome status c.status_of.ensures
-    (subst (λ it. Yields remaining contents (IsOutputOf it) input output output' outcome) same c.carry_out-outcome.ensures) in
+    (subst (λ it. Yields remaining contents (IsOutputOf it) input output output' outcome) same c.carry_out-outcome.ensures.yields) in
     record {
-      utf8 = text remaining contents (IsOutputOf c.in-Some.command) input output output' outcome status c.status_of.ensures c.carry_out-outcome.ensures;
+      utf8 = text remaining contents (IsOutputOf c.in-Some.command) input output output' outcome status c.status_of.ensures c.carry_out-outcome.ensures.yields;
       words = λ asked. let e = c.in-Some.ensures.words asked in of Words (cc e);
       count = λ n asked. let e = c.in-Some.ensures.count n asked in of (Count n) (cc e);
       replay = λ asked. let e = c.in-Some.ensures.replay asked in of Replay (cc e);

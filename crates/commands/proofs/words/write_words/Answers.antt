@@ -10,7 +10,7 @@ loop-word-init g c =
     let rest_is_text = ap split_whitespace_rest c.into_iter-word-iterator.ensures.into_iter_gives ∙ c.split_whitespace-word-items.ensures.rest in (
       c.requires,
       rw (rest_is_text, c.new-pending.ensures.bytes)
-          (progress_begins (g.K.Sink.contents c.args.writer.now) c.args.text.now c.new-counts.result c.utf8.text (λ word. rw c.new-counts.ensures.empty refl)),
+          (progress_begins (g.K.Sink.contents c.args.writer.now) c.args.text.now c.none_seen-counts.result c.utf8.text (λ word. rw c.none_seen-counts.ensures.empty refl)),
     )
 
 pub returns-in_err-intern-clause-err : goal.returns-in_err-intern-clause-err
