@@ -23,6 +23,7 @@ mod name;
 mod names;
 mod release;
 mod room;
+mod trusted_texts;
 mod word_text;
 
 pub use call::{Call, TableReply};
@@ -33,27 +34,34 @@ use memory::Room;
 pub use name::Name;
 pub use names::Names;
 use std::alloc::Global;
+use std::hash::{BuildHasher, RandomState};
 use std::marker::{Model, PhantomData};
 use text_forms::Fault;
 use text_forms::static_sets::{StaticTables, TextForm, form_of_text, static_text};
 use text_forms::word::{Buckets, Form, Limits, form_of, static_word, ticket_word};
+pub use trusted_texts::TrustedTexts;
 pub use word_text::WordText;
 
 /// The interned texts of one thread. Each dynamic text that is held has one ticket, and a number of holders.
+///
+/// `H` makes the hashes by which texts are found. With `RandomState`, which is drawn by `RandomState::new(&rt)?`, no chosen texts cost
+/// more than random ones; `TrustedTexts` is quicker, and is for texts that no outsider writes. What a table promises is the same with
+/// both.
 #[derive(Drop)]
-pub struct Table<S: StaticTables> {
+pub struct Table<S: StaticTables, H: BuildHasher = RandomState> {
     limits: Limits,
     buckets: Buckets,
     lasts: Vec<u64>, // a bucket's last serial
-    entries: IndexMap<String, Holding>,
-    tickets: IndexSet<u64>, // each at the place of its entry
+    entries: IndexMap<String, Holding, H>,
+    // Each at the place of its entry. Who chooses the texts doesn't choose their tickets: each serial of a bucket is spent by a call.
+    tickets: IndexSet<u64>,
     bytes: u128, // of all texts together
     room: Room,
     alloc: Global,
     statics: PhantomData<S>,
 }
 
-impl<S: StaticTables> Model for Table<S> {
+impl<S: StaticTables, H: BuildHasher> Model for Table<S, H> {
     ghost use Rattle.string_cache_core.specs.Kept.{Kept, pairs_of, IsKeptTable};
 
     ghost Value = { Kept };
@@ -63,32 +71,36 @@ impl<S: StaticTables> Model for Table<S> {
     ghost invariant = { λ a. IsKeptTable S.tables a.buckets a.lasts.items (pairs_of a.entries.entries) a.tickets.keys a.bytes };
 }
 
-impl<S: StaticTables> Table<S> {
-    ghost use Rattle.string_cache_core.specs.Kept.{Kept, Pair, map_of, tickets_of, IsSoundMap};
-    ghost use Rattle.string_cache_core.specs.Places.{IsPlace, IsFound};
+impl<S: StaticTables, H: BuildHasher + Drop> Table<S, H> {
+    ghost use Rattle.string_cache_core.specs.Kept.{map_of};
 
-    /// A table in which nothing is held, with the greatest limits and the usual number of buckets. `Memory` where its buckets
-    /// find none.
-    pub fn new(alloc: Global) -> Result<Self, Fault>
+    /// A table in which nothing is held, with the greatest limits and the usual number of buckets, whose texts are found by this
+    /// hasher. `Memory` if its buckets find none.
+    pub fn new(alloc: Global, hasher: H) -> Result<Self, Fault>
         ensures empty { IfOk result (λ table. map_of table ≡ empty_map usual_buckets) }
         ensures limits { IfOk result (λ table. table.limits ≡ record { holders = holder_bound - 1; serials = serial_bound - 1 }) }
         ensures fault { IfErr result (λ fault. fault ≡ Memory) }
     {
-        Table::with_limits(alloc, Limits::greatest())
+        Table::with_limits(alloc, hasher, Limits::greatest())
     }
 
-    /// A table in which nothing is held, with these limits and the usual number of buckets. `Memory` where its buckets find
-    /// none.
-    pub fn with_limits(alloc: Global, limits: Limits) -> Result<Self, Fault>
+    /// A table in which nothing is held, with this hasher, these limits and the usual number of buckets. `Memory` if its buckets
+    /// find none.
+    pub fn with_limits(alloc: Global, hasher: H, limits: Limits) -> Result<Self, Fault>
         ensures empty { IfOk result (λ table. map_of table ≡ empty_map usual_buckets) }
         ensures limits { IfOk result (λ table. table.limits ≡ limits) }
         ensures fault { IfErr result (λ fault. fault ≡ Memory) }
     {
-        Table::with_buckets(alloc, limits, Buckets::usual())
+        Table::with_buckets(alloc, hasher, limits, Buckets::usual())
     }
 
-    /// A table in which nothing is held, with these limits and buckets. `Memory` where its buckets find none.
-    pub fn with_buckets(alloc: Global, limits: Limits, buckets: Buckets) -> Result<Self, Fault>
+    /// A table in which nothing is held, with this hasher, these limits and these buckets. `Memory` if its buckets find none.
+    pub fn with_buckets(
+        alloc: Global,
+        hasher: H,
+        limits: Limits,
+        buckets: Buckets,
+    ) -> Result<Self, Fault>
         ensures empty { IfOk result (λ table. map_of table ≡ empty_map (2 ^ buckets)) }
         ensures limits { IfOk result (λ table. table.limits ≡ limits) }
         ensures fault { IfErr result (λ fault. fault ≡ Memory) }
@@ -97,7 +109,7 @@ impl<S: StaticTables> Table<S> {
             limits,
             buckets,
             lasts: vec![in alloc; 0; buckets.number()]?,
-            entries: IndexMap::new(alloc),
+            entries: IndexMap::with_hasher(alloc, hasher),
             tickets: IndexSet::new(alloc),
             bytes: 0,
             room: Room::none(),
@@ -105,6 +117,11 @@ impl<S: StaticTables> Table<S> {
             statics: PhantomData,
         })
     }
+}
+
+impl<S: StaticTables, H: BuildHasher> Table<S, H> {
+    ghost use Rattle.string_cache_core.specs.Kept.{Kept, Pair, map_of, tickets_of, IsSoundMap};
+    ghost use Rattle.string_cache_core.specs.Places.{IsPlace, IsFound};
 
     /// The word of a text. A text of at most 7 bytes has its inline word and a static text its static word, which no limit
     /// and no want of memory refuses. Any other has a ticket: one holder more where the text is held, and else its bucket's

@@ -6,6 +6,7 @@ ghost use Rattle.std.specs.String.{string_eq};
 ghost use Rattle.text_forms.specs.Map.{Holding};
 
 use indexmap::IndexMap;
+use std::hash::BuildHasher;
 use std::marker::Model;
 
 /// The ticket of a text, and how many hold it.
@@ -47,7 +48,11 @@ impl Holding {
 }
 
 /// Lets this number of holders have the text at a place.
-pub fn write_holders(entries: &mut IndexMap<String, Holding>, at: usize, holders: u64)
+pub fn write_holders<H: BuildHasher>(
+    entries: &mut IndexMap<String, Holding, H>,
+    at: usize,
+    holders: u64,
+)
     requires { at < index_map_len entries.old }
     ensures written { (held : Holding) → slice_get (values entries.old) at ≡ Some held
         → entries.new ≡ with_value_at entries.old at (record { ticket = held.ticket; holders = holders }) }

@@ -11,6 +11,7 @@ use super::Table;
 use super::holding::Holding;
 use indexmap::map;
 use std::alloc::AllocError;
+use std::hash::BuildHasher;
 use std::iter::FusedIterator;
 use std::marker::Model;
 use text_forms::static_sets::StaticTables;
@@ -85,7 +86,7 @@ impl<'t> Clone for Iter<'t> {
     }
 }
 
-impl<S: StaticTables> Table<S> {
+impl<S: StaticTables, H: BuildHasher> Table<S, H> {
     ghost use Rattle.string_cache_core.specs.HeldText.{pair_of};
     ghost use Rattle.string_cache_core.specs.Kept.{Pair, map_of};
 
@@ -115,7 +116,7 @@ impl<S: StaticTables> Table<S> {
     }
 }
 
-impl<'t, S: StaticTables> IntoIterator for &'t Table<S> {
+impl<'t, S: StaticTables, H: BuildHasher> IntoIterator for &'t Table<S, H> {
     type Item = HeldText<'t>;
 
     type IntoIter = Iter<'t>;

@@ -9,10 +9,11 @@ ghost use Rattle.string_cache_core.specs.Table.{HasWord, IsHeld, IsTextOf};
 
 use super::word_text::WordText;
 use super::{Table, is_fixed};
+use std::hash::BuildHasher;
 use text_forms::static_sets::{StaticTables, TextForm, form_of_text, static_text};
 use text_forms::word::{Form, form_of, static_word, unpack_inline};
 
-impl<S: StaticTables> Table<S> {
+impl<S: StaticTables, H: BuildHasher> Table<S, H> {
     ghost use Rattle.string_cache_core.specs.Kept.{Pair, map_of, IsSoundMap};
     ghost use Rattle.string_cache_core.specs.WordText.{text_in};
 

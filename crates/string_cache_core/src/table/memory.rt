@@ -5,6 +5,7 @@ ghost use Rattle.string_cache_core.specs.Memory.{IsMemory, group_places, text_gr
 
 use super::Table;
 use super::holding::Holding;
+use std::hash::BuildHasher;
 use std::mem::size_of;
 use text_forms::static_sets::StaticTables;
 
@@ -48,7 +49,7 @@ impl Room {
     }
 }
 
-impl<S: StaticTables> Table<S> {
+impl<S: StaticTables, H: BuildHasher> Table<S, H> {
     /// How many bytes the table has asked for and still holds: the last serials of its buckets, its two maps with the places that are
     /// free, and the texts. Where room was refused while a map grew, what the map got before isn't counted until it has grown.
     ///

@@ -11,34 +11,40 @@ ghost use Rattle.string_cache_core.specs.Table.{AreBothHeld, HasWord, IsHeld, Is
 
 use super::{Name, Table, WordText};
 use std::alloc::Global;
+use std::hash::{BuildHasher, RandomState};
 use std::marker::PhantomData;
 use text_forms::Fault;
 use text_forms::static_sets::{EmptyStaticAtomSet, StaticTables};
 
 /// The names of one kind, as a table keeps them: their words are `Name<K>`. Where two tables are at hand, as one of files and one of
-/// functions, the name of one can't be handed to the other.
+/// functions, the name of one can't be handed to the other. `H` is the table's, and by default the one for texts that an outsider may
+/// write.
 #[derive(Drop)]
-pub struct Names<K, S: StaticTables = EmptyStaticAtomSet> {
-    table: Table<S>,
+pub struct Names<K, S: StaticTables = EmptyStaticAtomSet, H: BuildHasher = RandomState> {
+    table: Table<S, H>,
     kind: PhantomData<K>,
 }
 
-impl<K, S: StaticTables> Names<K, S> {
+impl<K, S: StaticTables, H: BuildHasher + Drop> Names<K, S, H> {
     ghost use Rattle.string_cache_core.specs.Kept.{map_of};
-    ghost use Rattle.string_cache_core.specs.Name.{word_in, word_in_some};
-    ghost use Rattle.string_cache_core.specs.WordText.{text_in};
 
-    /// No names yet. `Memory` where the table's buckets find none.
-    pub fn new(alloc: Global) -> Result<Self, Fault>
+    /// No names yet, and a table with this hasher. `Memory` if the table's buckets find none.
+    pub fn new(alloc: Global, hasher: H) -> Result<Self, Fault>
         ensures empty { IfOk result (λ names. map_of names.table ≡ empty_map usual_buckets) }
         ensures limits { IfOk result (λ names. names.table.limits ≡ record { holders = holder_bound - 1; serials = serial_bound - 1 }) }
         ensures fault { IfErr result (λ fault. fault ≡ Memory) }
     {
-        Ok(Names::of_table(Table::new(alloc)?))
+        Ok(Names::of_table(Table::new(alloc, hasher)?))
     }
+}
+
+impl<K, S: StaticTables, H: BuildHasher> Names<K, S, H> {
+    ghost use Rattle.string_cache_core.specs.Kept.{map_of};
+    ghost use Rattle.string_cache_core.specs.Name.{word_in, word_in_some};
+    ghost use Rattle.string_cache_core.specs.WordText.{text_in};
 
     /// The names that a table holds, with its limits. What words it gave out, `name_of` takes.
-    pub fn of_table(table: Table<S>) -> Self
+    pub fn of_table(table: Table<S, H>) -> Self
         ensures { result.table ≡ table }
     {
         Names {
@@ -48,7 +54,7 @@ impl<K, S: StaticTables> Names<K, S> {
     }
 
     /// The table, to read in: its numbers, and each text by `iter`.
-    pub fn table(&self) -> &Table<S>
+    pub fn table(&self) -> &Table<S, H>
         ensures { result.now ≡ self.now.table }
     {
         &self.table

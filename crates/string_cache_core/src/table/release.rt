@@ -6,10 +6,11 @@ ghost use Rattle.string_cache_core.specs.Outcomes.{Cloned, Given};
 ghost use Rattle.string_cache_core.specs.Table.{AreBothHeld, IsHeld, IsWordOf, in_some};
 
 use super::{Table, is_fixed};
+use std::hash::BuildHasher;
 use text_forms::Fault;
 use text_forms::static_sets::StaticTables;
 
-impl<S: StaticTables> Table<S> {
+impl<S: StaticTables, H: BuildHasher> Table<S, H> {
     ghost use Rattle.string_cache_core.specs.Kept.{map_of};
 
     /// One holder more of a word that is held. An inline word and a static word have no number of holders: nothing changes.

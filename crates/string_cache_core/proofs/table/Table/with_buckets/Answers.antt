@@ -7,9 +7,9 @@ pub invariant_of-result : goal.invariant_of-result
 invariant_of-result g c =
     let zeros : c.in_ok-vec.field-0.items ≡ replicate (2 ^ c.args.buckets) 0 = search rules in
     let few : 2 ^ c.args.buckets ≤ most_buckets = search rules in
-    new-kept g.S.StaticTables.tables c.args.buckets c.in_ok-vec.field-0.items c.new.result c.new-2.result.keys few zeros c.new.ensures.empty c.new-2.ensures.empty
+    new-kept g.S.StaticTables.tables c.args.buckets c.in_ok-vec.field-0.items c.with_hasher.result c.new.result.keys few zeros c.with_hasher.ensures.empty c.new.ensures.empty
 
 pub returns-clause-empty : goal.returns-clause-empty
 returns-clause-empty g c =
     let zeros : c.in_ok-vec.field-0.items ≡ replicate (2 ^ c.args.buckets) 0 = search rules in
-    new-map c.args.buckets c.in_ok-vec.field-0.items c.new.result zeros c.new.ensures.empty
+    new-map c.args.buckets c.in_ok-vec.field-0.items c.with_hasher.result zeros c.with_hasher.ensures.empty
