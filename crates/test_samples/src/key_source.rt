@@ -1,26 +1,26 @@
-//! Keys for the maps of what is tested.
+//! Keys for the tables and maps of tests, the same at each run.
 
 use std::hash::RandomState;
 use std::io;
 use std::random::RandomSource;
 
-/// Gives the eight bytes of a number, the least significant first, over and over.
+/// A source whose bytes are those of a number, again and again, each with its place added.
 #[derive(Drop)]
 struct Numbered {
-    n: u64,
+    number: u64,
 }
 
 impl RandomSource for Numbered {
     fn fill_bytes(&self, buf: &mut [u8]) -> io::Result<()> {
-        let bytes = self.n.to_le_bytes();
+        let number = self.number.to_le_bytes();
         for (at, byte) in buf.iter_mut().enumerate() {
-            *byte = bytes[at % 8];
+            *byte = number[at % 8].wrapping_add((at % 256) as u8);
         }
         Ok(())
     }
 }
 
-/// The keys that a number stands for, others for each number. They are always given: `None` is there since a source of bytes may refuse.
-pub fn keys(n: u64) -> Option<RandomState> {
-    RandomState::new(&Numbered { n }).ok()
+/// The keys with this number, others for each. They are always given: `None` is there since a source of bytes may refuse.
+pub fn keys(number: u64) -> Option<RandomState> {
+    RandomState::new(&Numbered { number }).ok()
 }

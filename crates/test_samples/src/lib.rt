@@ -1,4 +1,4 @@
-//! What tests of several crates have in common: static types, names, keys, and a text with its counts.
+//! What tests of several crates have in common: static types, names, a text with its counts, and keys for tables and maps.
 #![tactic(auto)]
 
 mod example;

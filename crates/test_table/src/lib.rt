@@ -10,6 +10,8 @@ mod forms;
 #[cfg(test)]
 mod generated;
 #[cfg(test)]
+mod hashers;
+#[cfg(test)]
 mod memory;
 #[cfg(test)]
 mod numbers;

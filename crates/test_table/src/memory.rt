@@ -1,15 +1,13 @@
 //! How many bytes a table takes. `gate/refused.py` holds the same numbers to those that an allocator is asked for.
 
-use crate::rows::{releases, reserves};
+use crate::hashers::keys_of;
+use crate::rows::{Plain, plain, releases, reserves};
 use crate::texts::numbered_text;
 use crate::{assert_for, assert_that};
 use std::alloc::Global;
 use std::process::Abort;
-use string_cache_core::static_sets::EmptyStaticAtomSet;
 use string_cache_core::table::{Names, Table};
 use string_cache_core::word::{Buckets, Limits};
-
-type Plain = Table<EmptyStaticAtomSet>;
 
 /// The bytes of a bucket's last serial, and those of a group of nine places of both maps.
 const BUCKET: u128 = 8;
@@ -22,7 +20,7 @@ const UNITS: u128 = 1;
 /// A table of one bucket.
 fn one_bucket(rt: &impl Abort, alloc: Global) -> Plain {
     let buckets = Buckets::new(0).expect(rt, "bits");
-    Table::with_buckets(alloc, Limits::greatest(), buckets).expect(rt, "a table")
+    Table::with_buckets(alloc, keys_of(rt, 1), Limits::greatest(), buckets).expect(rt, "a table")
 }
 
 fn takes(table: &Plain, bytes: u128) -> bool {
@@ -104,7 +102,7 @@ fn memory_of_texts(rt: HostRuntime) {
 }
 
 fn takes_as_made(rt: &impl Abort, alloc: Global, bytes: u128) -> bool {
-    let table = Plain::new(alloc).expect(rt, "a table");
+    let table = plain(rt, alloc);
     takes(&table, bytes)
 }
 
@@ -174,7 +172,7 @@ fn keeps_room(
 
 /// Whether a table that is made with room for this number of texts has so many groups.
 fn has_room(rt: &impl Abort, alloc: Global, number: usize, groups: u32) -> bool {
-    let mut table = Plain::with_capacity(alloc, number).expect(rt, "a table");
+    let mut table = Plain::with_capacity(alloc, keys_of(rt, 1), number).expect(rt, "a table");
     keeps_room(rt, alloc, &mut table, number, empty_bytes(4096, groups))
 }
 

@@ -1,12 +1,14 @@
-//! Calls of a table as data: what each answers, and what the table tells between them. One function makes a table and follows the rows, so
-//! that a test has none of its own.
+//! Calls of a table as data: what each answers, and what the table tells between them. One function makes tables and follows the rows in each,
+//! so that a test has none of its own. The tables have hashers of several kinds, on which no answer depends.
 
 use crate::assert_for;
+use crate::hashers::{Alike, keys_of};
 use std::alloc::Global;
+use std::hash::BuildHasher;
 use std::process::Abort;
 use string_cache_core::Fault;
 use string_cache_core::static_sets::{EmptyStaticAtomSet, StaticAtomSet};
-use string_cache_core::table::{Call, Table, TableReply};
+use string_cache_core::table::{Call, Table, TableReply, TrustedTexts};
 use string_cache_core::word::{Buckets, Form, Limits, form_of};
 
 /// A call of a table with what it has to answer, or what the table has to tell.
@@ -77,8 +79,8 @@ pub enum Made {
 
 // These say nothing of what they do, so that what calls them is proved in a moment.
 
-pub fn interns<S: StaticAtomSet>(
-    table: &mut Table<S>,
+pub fn interns<S: StaticAtomSet, H: BuildHasher>(
+    table: &mut Table<S, H>,
     text: &str,
     wanted: Result<u64, Fault>,
 ) -> bool {
@@ -90,7 +92,7 @@ pub fn is_first(word: u64) -> bool {
     matches!(form_of(word), Some(Form::Dynamic { serial: 1, .. }))
 }
 
-fn interns_first<S: StaticAtomSet>(table: &mut Table<S>, text: &str) -> bool {
+fn interns_first<S: StaticAtomSet, H: BuildHasher>(table: &mut Table<S, H>, text: &str) -> bool {
     match table.intern(text) {
         Ok(word) => is_first(word),
         Err(_) => false,
@@ -98,7 +100,7 @@ fn interns_first<S: StaticAtomSet>(table: &mut Table<S>, text: &str) -> bool {
 }
 
 /// Whether the word is held, and then given.
-pub fn gives<S: StaticAtomSet>(table: &mut Table<S>, word: u64) -> bool {
+pub fn gives<S: StaticAtomSet, H: BuildHasher>(table: &mut Table<S, H>, word: u64) -> bool {
     if !table.holds(word) {
         return false;
     }
@@ -106,34 +108,38 @@ pub fn gives<S: StaticAtomSet>(table: &mut Table<S>, word: u64) -> bool {
     true
 }
 
-fn clones<S: StaticAtomSet>(table: &mut Table<S>, word: u64, wanted: Result<u64, Fault>) -> bool {
+fn clones<S: StaticAtomSet, H: BuildHasher>(
+    table: &mut Table<S, H>,
+    word: u64,
+    wanted: Result<u64, Fault>,
+) -> bool {
     if !table.holds(word) {
         return false;
     }
     table.clone_word(word) == wanted
 }
 
-fn clones_held<S: StaticAtomSet>(
-    table: &mut Table<S>,
+fn clones_held<S: StaticAtomSet, H: BuildHasher>(
+    table: &mut Table<S, H>,
     word: u64,
     wanted: Result<Option<u64>, Fault>,
 ) -> bool {
     table.clone_held(word) == wanted
 }
 
-pub fn releases<S: StaticAtomSet>(table: &mut Table<S>, word: u64) -> bool {
+pub fn releases<S: StaticAtomSet, H: BuildHasher>(table: &mut Table<S, H>, word: u64) -> bool {
     table.release(word)
 }
 
-pub fn reserves<S: StaticAtomSet>(
-    table: &mut Table<S>,
+pub fn reserves<S: StaticAtomSet, H: BuildHasher>(
+    table: &mut Table<S, H>,
     number: usize,
     wanted: Result<(), Fault>,
 ) -> bool {
     table.reserve(number) == wanted
 }
 
-fn clear<S: StaticAtomSet>(table: &mut Table<S>) {
+fn clear<S: StaticAtomSet, H: BuildHasher>(table: &mut Table<S, H>) {
     table.clear();
 }
 
@@ -162,15 +168,19 @@ fn calls_of_clones(rt: &impl Abort, alloc: Global, word: u64, number: usize) -> 
     calls
 }
 
-fn run<S: StaticAtomSet>(rt: &impl Abort, table: &mut Table<S>, calls: &[Call]) -> Vec<TableReply> {
+fn run<S: StaticAtomSet, H: BuildHasher>(
+    rt: &impl Abort,
+    table: &mut Table<S, H>,
+    calls: &[Call],
+) -> Vec<TableReply> {
     table.run(calls).expect(rt, "replies")
 }
 
 /// Whether these are the replies to the calls.
-fn runs<S: StaticAtomSet>(
+fn runs<S: StaticAtomSet, H: BuildHasher>(
     rt: &impl Abort,
     alloc: Global,
-    table: &mut Table<S>,
+    table: &mut Table<S, H>,
     made: &[Made],
     wanted: &[TableReply],
 ) -> bool {
@@ -184,10 +194,10 @@ fn are_all(replies: &[TableReply], number: usize, wanted: TableReply) -> bool {
 }
 
 /// Whether so many clones of the word in one run are replied to, each with it.
-fn runs_clones<S: StaticAtomSet>(
+fn runs_clones<S: StaticAtomSet, H: BuildHasher>(
     rt: &impl Abort,
     alloc: Global,
-    table: &mut Table<S>,
+    table: &mut Table<S, H>,
     word: u64,
     number: usize,
 ) -> bool {
@@ -199,8 +209,8 @@ fn runs_clones<S: StaticAtomSet>(
 const TICKET_UNIT: u64 = 65536;
 
 /// Whether the text comes and goes so often, with one ticket after another.
-fn comes_and_goes<S: StaticAtomSet>(
-    table: &mut Table<S>,
+fn comes_and_goes<S: StaticAtomSet, H: BuildHasher>(
+    table: &mut Table<S, H>,
     text: &str,
     first: u64,
     times: usize,
@@ -215,47 +225,70 @@ fn comes_and_goes<S: StaticAtomSet>(
     true
 }
 
-pub fn keeps<S: StaticAtomSet>(table: &Table<S>, entries: usize, bytes: u128) -> bool {
+pub fn keeps<S: StaticAtomSet, H: BuildHasher>(
+    table: &Table<S, H>,
+    entries: usize,
+    bytes: u128,
+) -> bool {
     table.entries() == entries && table.text_bytes() == bytes
 }
 
-pub fn has_text<S: StaticAtomSet>(table: &Table<S>, word: u64, text: &str) -> bool {
+pub fn has_text<S: StaticAtomSet, H: BuildHasher>(
+    table: &Table<S, H>,
+    word: u64,
+    text: &str,
+) -> bool {
     match table.text(word) {
         Some(own) => own == text,
         None => false,
     }
 }
 
-fn has_no_text<S: StaticAtomSet>(table: &Table<S>, word: u64) -> bool {
+fn has_no_text<S: StaticAtomSet, H: BuildHasher>(table: &Table<S, H>, word: u64) -> bool {
     table.text(word).is_none()
 }
 
 /// Whether `text_of` gives this text.
-pub fn is_text_of<S: StaticAtomSet>(table: &Table<S>, word: u64, text: &str) -> bool {
+pub fn is_text_of<S: StaticAtomSet, H: BuildHasher>(
+    table: &Table<S, H>,
+    word: u64,
+    text: &str,
+) -> bool {
     match table.text_of(word) {
         Some(own) => own.as_str() == text,
         None => false,
     }
 }
 
-fn is_of_no_text<S: StaticAtomSet>(table: &Table<S>, word: u64) -> bool {
+fn is_of_no_text<S: StaticAtomSet, H: BuildHasher>(table: &Table<S, H>, word: u64) -> bool {
     table.text_of(word).is_none()
 }
 
-fn is_held<S: StaticAtomSet>(table: &Table<S>, word: u64) -> bool {
+fn is_held<S: StaticAtomSet, H: BuildHasher>(table: &Table<S, H>, word: u64) -> bool {
     table.holds(word)
 }
 
-pub fn finds<S: StaticAtomSet>(table: &Table<S>, text: &str, word: Option<u64>) -> bool {
+pub fn finds<S: StaticAtomSet, H: BuildHasher>(
+    table: &Table<S, H>,
+    text: &str,
+    word: Option<u64>,
+) -> bool {
     table.get(text) == word
 }
 
-pub fn has_holders<S: StaticAtomSet>(table: &Table<S>, word: u64, holders: Option<u64>) -> bool {
+pub fn has_holders<S: StaticAtomSet, H: BuildHasher>(
+    table: &Table<S, H>,
+    word: u64,
+    holders: Option<u64>,
+) -> bool {
     table.holders(word) == holders
 }
 
 /// Whether the table gives these texts, in this order, each with its holders.
-pub fn lists<S: StaticAtomSet>(table: &Table<S>, wanted: &[(&str, u64)]) -> bool {
+pub fn lists<S: StaticAtomSet, H: BuildHasher>(
+    table: &Table<S, H>,
+    wanted: &[(&str, u64)],
+) -> bool {
     let mut texts = table.iter();
     for (text, holders) in wanted {
         match texts.next() {
@@ -267,7 +300,11 @@ pub fn lists<S: StaticAtomSet>(table: &Table<S>, wanted: &[(&str, u64)]) -> bool
 }
 
 /// Whether the text at a place is this one, with its word and its holders, or there is none.
-fn stands_at<S: StaticAtomSet>(table: &Table<S>, at: usize, wanted: Option<(&str, u64)>) -> bool {
+fn stands_at<S: StaticAtomSet, H: BuildHasher>(
+    table: &Table<S, H>,
+    at: usize,
+    wanted: Option<(&str, u64)>,
+) -> bool {
     match (table.nth(at), wanted) {
         (Some(held), Some((text, holders))) => {
             held.text == text && held.holders == holders && table.get(text) == Some(held.word)
@@ -278,7 +315,10 @@ fn stands_at<S: StaticAtomSet>(table: &Table<S>, at: usize, wanted: Option<(&str
 }
 
 /// Whether these texts stand at the first places, each with its holders, and none behind them.
-fn stand_in_order<S: StaticAtomSet>(table: &Table<S>, wanted: &[(&str, u64)]) -> bool {
+fn stand_in_order<S: StaticAtomSet, H: BuildHasher>(
+    table: &Table<S, H>,
+    wanted: &[(&str, u64)],
+) -> bool {
     for (at, (text, holders)) in wanted.iter().enumerate() {
         if !stands_at(table, at, Some((*text, *holders))) {
             return false;
@@ -293,7 +333,7 @@ pub const FIRST: u64 = 0x1_0840;
 pub const SECOND: u64 = 0x2_0840;
 
 /// The first two of three texts, and how many are left at each.
-fn goes_over_three<S: StaticAtomSet>(table: &Table<S>) -> bool {
+fn goes_over_three<S: StaticAtomSet, H: BuildHasher>(table: &Table<S, H>) -> bool {
     let mut texts = table.iter();
     let sizes = (texts.len(), texts.size_hint());
     let first = texts.next();
@@ -311,7 +351,7 @@ fn goes_over_three<S: StaticAtomSet>(table: &Table<S>) -> bool {
 }
 
 /// Whether each text that the table gives has one holder, and is that of its word.
-fn are_held_once<S: StaticAtomSet>(table: &Table<S>) -> bool {
+fn are_held_once<S: StaticAtomSet, H: BuildHasher>(table: &Table<S, H>) -> bool {
     for held in table {
         if held.holders != 1 || !is_text_of(table, held.word, held.text) {
             return false;
@@ -320,7 +360,7 @@ fn are_held_once<S: StaticAtomSet>(table: &Table<S>) -> bool {
     true
 }
 
-fn tells<S: StaticAtomSet>(table: &Table<S>, told: &Told) -> bool {
+fn tells<S: StaticAtomSet, H: BuildHasher>(table: &Table<S, H>, told: &Told) -> bool {
     match told {
         Told::Held(word, wanted) => is_held(table, *word) == *wanted,
         Told::Text(word, text) => has_text(table, *word, text),
@@ -337,10 +377,10 @@ fn tells<S: StaticAtomSet>(table: &Table<S>, told: &Told) -> bool {
     }
 }
 
-fn is_right<S: StaticAtomSet>(
+fn is_right<S: StaticAtomSet, H: BuildHasher>(
     rt: &impl Abort,
     alloc: Global,
-    table: &mut Table<S>,
+    table: &mut Table<S, H>,
     row: &Row,
 ) -> bool {
     match row {
@@ -363,33 +403,71 @@ fn is_right<S: StaticAtomSet>(
 }
 
 /// Each of these rows has to be right, one after another.
-fn follow<S: StaticAtomSet>(rt: &impl Abort, alloc: Global, table: &mut Table<S>, rows: &[Row]) {
+pub fn follow<S: StaticAtomSet, H: BuildHasher>(
+    rt: &impl Abort,
+    alloc: Global,
+    table: &mut Table<S, H>,
+    rows: &[Row],
+) {
     for (at, row) in rows.iter().enumerate() {
         assert_for(rt, is_right(rt, alloc, table, row), &at);
     }
 }
 
-/// Follows the rows in a new table.
-pub fn check<S: StaticAtomSet>(rt: &impl Abort, alloc: Global, rows: &[Row]) {
-    let mut table = Table::<S>::new(alloc).expect(rt, "a table");
+/// Follows the rows in a new table with this hasher.
+fn check_in<S: StaticAtomSet, H: BuildHasher + Drop>(
+    rt: &impl Abort,
+    alloc: Global,
+    hasher: H,
+    rows: &[Row],
+) {
+    let mut table = Table::<S, H>::new(alloc, hasher).expect(rt, "a table");
     follow(rt, alloc, &mut table, rows);
+}
+
+/// Follows the rows in new tables: two with keys of their own, the quick one, and one in which all texts have one hash.
+pub fn check<S: StaticAtomSet>(rt: &impl Abort, alloc: Global, rows: &[Row]) {
+    check_in::<S, _>(rt, alloc, keys_of(rt, 1), rows);
+    check_in::<S, _>(rt, alloc, keys_of(rt, 2), rows);
+    check_in::<S, _>(rt, alloc, TrustedTexts, rows);
+    check_in::<S, _>(rt, alloc, Alike, rows);
 }
 
 pub type Plain = Table<EmptyStaticAtomSet>;
 
-/// Follows the rows in a new table without static texts.
+/// A new table without static texts.
+pub fn plain(rt: &impl Abort, alloc: Global) -> Plain {
+    Table::new(alloc, keys_of(rt, 1)).expect(rt, "a table")
+}
+
+/// Follows the rows in new tables without static texts.
 pub fn check_plain(rt: &impl Abort, alloc: Global, rows: &[Row]) {
     check::<EmptyStaticAtomSet>(rt, alloc, rows);
 }
 
-/// Follows the rows in a table with so many bits of buckets.
+/// Follows the rows in a table with this hasher and so many bits of buckets.
+fn check_with_in<H: BuildHasher + Drop>(
+    rt: &impl Abort,
+    alloc: Global,
+    hasher: H,
+    limits: Limits,
+    buckets: Buckets,
+    rows: &[Row],
+) {
+    let table: Result<Table<EmptyStaticAtomSet, H>, _> = Table::with_buckets(
+        alloc, hasher, limits, buckets,
+    );
+    follow(rt, alloc, &mut table.expect(rt, "a table"), rows);
+}
+
+/// Follows the rows in tables with so many bits of buckets, one with keys and the quick one.
 pub fn check_with(rt: &impl Abort, alloc: Global, limits: Limits, buckets: Buckets, rows: &[Row]) {
-    let mut table = Plain::with_buckets(alloc, limits, buckets).expect(rt, "a table");
-    follow(rt, alloc, &mut table, rows);
+    check_with_in(rt, alloc, keys_of(rt, 1), limits, buckets, rows);
+    check_with_in(rt, alloc, TrustedTexts, limits, buckets, rows);
 }
 
 /// Follows the rows in a table that has room for so many texts.
 pub fn check_with_room(rt: &impl Abort, alloc: Global, number: usize, rows: &[Row]) {
-    let mut table = Plain::with_capacity(alloc, number).expect(rt, "a table");
+    let mut table = Plain::with_capacity(alloc, keys_of(rt, 1), number).expect(rt, "a table");
     follow(rt, alloc, &mut table, rows);
 }

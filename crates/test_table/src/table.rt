@@ -1,8 +1,9 @@
 //! Words, tickets and refusals of a table, with values from outside.
 
+use crate::hashers::keys_of;
 use crate::rows::{
     FIRST, Plain, Row, SECOND, Told, check, check_plain, check_with, gives, has_text, interns,
-    is_first, keeps,
+    is_first, keeps, plain,
 };
 use crate::texts::numbered_text;
 use crate::{assert_for, assert_that};
@@ -148,7 +149,7 @@ fn is_kept_till_given(rt: &impl Abort, table: &mut Plain, text: &str, bytes: u12
 }
 
 fn is_kept_in_a_new_table(rt: &impl Abort, alloc: Global, text: &str, bytes: u128) -> bool {
-    let mut table = Table::new(alloc).expect(rt, "a table");
+    let mut table = plain(rt, alloc);
     is_kept_till_given(rt, &mut table, text, bytes)
 }
 
@@ -212,7 +213,9 @@ fn gives_one_ticket_of(
     first: &str,
     second: &str,
 ) -> bool {
-    let mut table = Table::with_buckets(alloc, limits_of(rt, 1, 1), buckets).expect(rt, "a table");
+    let mut table = Table::with_buckets(alloc, keys_of(rt, 1), limits_of(rt, 1, 1), buckets).expect(
+        rt, "a table",
+    );
     gives_one_ticket(rt, &mut table, first, second)
 }
 

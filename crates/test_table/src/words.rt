@@ -1,15 +1,16 @@
 //! What a table answers of words and of texts, and its holders by words, with values from outside.
 
 use crate::assert_that;
+use crate::hashers::keys_of;
 use crate::rows::{
     FIRST, Plain, Row, SECOND, Told, check, check_plain, check_with, check_with_room, finds,
-    has_holders, is_text_of, keeps, lists, releases,
+    has_holders, is_text_of, keeps, lists, plain, releases,
 };
 use std::alloc::{AllocError, Global};
 use std::collections::HashMap;
 use std::process::Abort;
 use string_cache_core::Fault;
-use string_cache_core::table::{Name, Names, Table, WordText};
+use string_cache_core::table::{Name, Names, WordText};
 use string_cache_core::word::{Buckets, Limits};
 use test_samples::One;
 
@@ -201,7 +202,7 @@ enum File {}
 enum Function {}
 
 fn new_names<K>(rt: &impl Abort, alloc: Global) -> Names<K> {
-    Names::new(alloc).expect(rt, "names")
+    Names::new(alloc, keys_of(rt, 1)).expect(rt, "names")
 }
 
 fn name_of<K>(rt: &impl Abort, names: &mut Names<K>, text: &str) -> Name<K> {
@@ -298,7 +299,7 @@ fn clones(table: &mut Plain, word: u64) -> bool {
 }
 
 fn is_looked_up_in_a_new_table(rt: &impl Abort, alloc: Global, text: &str) -> bool {
-    let mut table = Table::new(alloc).expect(rt, "a table");
+    let mut table = plain(rt, alloc);
     is_looked_up(&mut table, text)
 }
 

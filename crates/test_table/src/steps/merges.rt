@@ -7,7 +7,7 @@ use std::alloc::{AllocError, Global};
 use std::process::Abort;
 use string_cache_core::Fault;
 use string_cache_core::static_sets::EmptyStaticAtomSet;
-use string_cache_core::table::{Call, Table, TableReply};
+use string_cache_core::table::{Call, Table, TableReply, TrustedTexts};
 use string_cache_core::word::{Buckets, Limits};
 
 const TEXT: &str = "interned";
@@ -187,7 +187,7 @@ fn held(world: &Plain) -> usize {
 
 /// Whether the table replies as the history says, and then holds so many texts.
 fn replies_as(
-    table: &mut Table<EmptyStaticAtomSet>,
+    table: &mut Table<EmptyStaticAtomSet, TrustedTexts>,
     history: &History,
     held: usize,
 ) -> Result<bool, Fault> {
@@ -203,7 +203,7 @@ fn is_history_of_table(
     held: usize,
 ) -> Result<bool, Fault> {
     let limits = Limits::greatest();
-    let mut table = Table::<EmptyStaticAtomSet>::with_buckets(alloc, limits, buckets)?;
+    let mut table = Table::with_buckets(alloc, TrustedTexts, limits, buckets)?;
     replies_as(&mut table, history, held)
 }
 
