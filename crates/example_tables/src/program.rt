@@ -9,6 +9,7 @@ ghost use Rattle.string_cache_core.specs.Tables.{empty_tables};
 ghost use Rattle.example_tables.specs.Lengths.{IsLengthOf};
 
 use std::alloc::Global;
+use std::hash::RandomState;
 use string_cache_core::Fault;
 use string_cache_core::static_sets::EmptyStaticAtomSet;
 use string_cache_core::table::{Name, Names, Table};
@@ -27,14 +28,14 @@ pub struct Program {
 }
 
 impl Program {
-    /// One without names.
-    pub fn new(alloc: Global) -> Result<Self, Fault>
+    /// One without names, whose texts an outsider may write: they are found under these keys.
+    pub fn new(alloc: Global, keys: RandomState) -> Result<Self, Fault>
         ensures files { IfOk result (λ program. map_of program.files.table ≡ empty_map usual_buckets) }
         ensures functions { IfOk result (λ program. map_of program.functions.table ≡ empty_map usual_buckets) }
     {
         Ok(Program {
-            files: Names::new(alloc)?,
-            functions: Names::new(alloc)?,
+            files: Names::new(alloc, keys)?,
+            functions: Names::new(alloc, keys)?,
         })
     }
 

@@ -5,15 +5,16 @@ ghost use Rattle.string_cache_core.specs.Kept.{map_of};
 ghost use Rattle.string_cache_core.specs.Table.{AreHeld};
 
 use std::alloc::Global;
+use std::hash::RandomState;
 use string_cache_core::Fault;
 use string_cache_core::static_sets::{EmptyStaticAtomSet, StaticAtomSet};
 use string_cache_core::table::Table;
 
 /// Whether two identifiers have one word: exactly if they are one text.
-pub fn same_word(alloc: Global, left: &str, right: &str) -> Result<bool, Fault>
+pub fn same_word(alloc: Global, keys: RandomState, left: &str, right: &str) -> Result<bool, Fault>
     ensures { IfOk result (λ same. IsTrue same ↔ (left.now ≡ right.now)) }
 {
-    let mut table = Table::<EmptyStaticAtomSet>::new(alloc)?;
+    let mut table = Table::<EmptyStaticAtomSet>::new(alloc, keys)?;
     let first = table.intern(left)?;
     let second = table.intern(right)?;
     Ok(first == second)

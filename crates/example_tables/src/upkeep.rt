@@ -12,40 +12,46 @@ ghost use Rattle.string_cache_core.specs.Tables.{empty_tables};
 ghost use Rattle.example_tables.specs.Known.{AreKnown};
 
 use std::alloc::Global;
+use std::hash::{BuildHasher, RandomState};
 use string_cache_core::Fault;
 use string_cache_core::static_sets::{EmptyStaticAtomSet, StaticTables};
-use string_cache_core::table::Table;
+use string_cache_core::table::{Table, TrustedTexts};
 use string_cache_core::word::{Buckets, Limits};
 
-/// A table that holds each of some names.
-pub fn table_of(alloc: Global, names: &[&str]) -> Result<Table<EmptyStaticAtomSet>, Fault>
+/// A table that holds each of some names, found under these keys.
+pub fn table_of(
+    alloc: Global,
+    keys: RandomState,
+    names: &[&str],
+) -> Result<Table<EmptyStaticAtomSet>, Fault>
     ensures { IfOk result (λ table. AreKnown empty_tables (map_of table) names.now) }
 {
-    let mut table = Table::with_capacity(alloc, names.len())?;
+    let mut table = Table::with_capacity(alloc, keys, names.len())?;
     for name in names {
         table.intern(name)?;
     }
     Ok(table)
 }
 
-/// A table for a few hundred names, whose buckets take 128 bytes.
-pub fn small_table(alloc: Global) -> Result<Table<EmptyStaticAtomSet>, Fault>
+/// A table for a few hundred names that stand in the program itself, whose buckets take 128 bytes.
+pub fn small_table(alloc: Global) -> Result<Table<EmptyStaticAtomSet, TrustedTexts>, Fault>
     ensures { IfOk result (λ table. map_of table ≡ empty_map 16) }
 {
     let buckets = Buckets::new(4).unwrap_or(Buckets::usual());
-    Table::with_buckets(alloc, Limits::greatest(), buckets)
+    Table::with_buckets(alloc, TrustedTexts, Limits::greatest(), buckets)
 }
 
-/// A table where at most so many hold a text. `None` where nobody could.
+/// A table where at most so many hold a text, found under these keys. `None` where nobody could.
 pub fn table_with_holders(
     alloc: Global,
+    keys: RandomState,
     holders: u64,
 ) -> Result<Option<Table<EmptyStaticAtomSet>>, Fault>
     ensures none { IfOk result (λ made. IsSome made ↔ AreBounds holders (serial_bound - 1)) }
     ensures limits { IfOk result (λ made. IfSome made (λ table. table.limits.holders ≡ holders)) }
 {
     match Limits::new(holders, Limits::greatest().serials()) {
-        Some(limits) => Ok(Some(Table::with_limits(alloc, limits)?)),
+        Some(limits) => Ok(Some(Table::with_limits(alloc, keys, limits)?)),
         None => Ok(None),
     }
 }
@@ -88,8 +94,8 @@ pub fn last_text<S: StaticTables>(table: &Table<S>) -> Option<&str>
     Some(held.text)
 }
 
-/// Whether a table takes at most so many bytes.
-pub fn takes_at_most<S: StaticTables>(table: &Table<S>, most: u128) -> bool
+/// Whether a table takes at most so many bytes, whatever its hasher is.
+pub fn takes_at_most<S: StaticTables, H: BuildHasher>(table: &Table<S, H>, most: u128) -> bool
     ensures { (bytes : ℕ) × IsMemory table.now bytes × (IsTrue result ↔ (bytes ≤ most)) }
 {
     table.memory() <= most
