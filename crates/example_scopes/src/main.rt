@@ -10,6 +10,7 @@ mod scopes;
 use letters::State;
 use scopes::Scopes;
 use std::alloc::Global;
+use std::hash::RandomState;
 use std::io::{Print, Read};
 
 /// A text as far as it was read.
@@ -24,9 +25,9 @@ struct Reader {
 
 impl Reader {
     /// Nothing was read.
-    fn new(alloc: Global) -> Result<Self, anyhow::Error> {
+    fn new(alloc: Global, keys: RandomState) -> Result<Self, anyhow::Error> {
         Ok(Reader {
-            scopes: Scopes::new(alloc)?,
+            scopes: Scopes::new(alloc, keys)?,
             state: State::Between,
             begin: 0,
             line: 1,
@@ -80,13 +81,18 @@ impl Reader {
 }
 
 /// Prints the lines that tell of a text's names.
-fn print_names(rt: &impl Print, alloc: Global, text: &str) -> Result<(), anyhow::Error> {
-    let mut reader = Reader::new(alloc)?;
+fn print_names(
+    rt: &impl Print,
+    alloc: Global,
+    keys: RandomState,
+    text: &str,
+) -> Result<(), anyhow::Error> {
+    let mut reader = Reader::new(alloc, keys)?;
     reader.print_names(rt, text)
 }
 
 fn main(rt: HostRuntime) -> Result<(), anyhow::Error> {
     let mut text = String::new(rt.alloc());
     rt.stdin().read_to_string(&mut text)?;
-    print_names(&rt, rt.alloc(), text.as_str())
+    print_names(&rt, rt.alloc(), RandomState::new(&rt)?, text.as_str())
 }

@@ -5,6 +5,7 @@ use indexmap::IndexMap;
 use std::alloc::{AllocError, Global};
 use std::fmt;
 use std::fmt::Write;
+use std::hash::RandomState;
 use string_cache_core::Fault;
 use string_cache_core::static_sets::EmptyStaticAtomSet;
 use string_cache_core::table::Table;
@@ -48,11 +49,11 @@ pub struct Scopes {
 }
 
 impl Scopes {
-    /// No block.
-    pub fn new(alloc: Global) -> Result<Self, Fault> {
+    /// No block. Who wrote the program chose its names, so the table finds them under these keys.
+    pub fn new(alloc: Global, keys: RandomState) -> Result<Self, Fault> {
         Ok(Scopes {
             alloc,
-            table: Table::new(alloc)?,
+            table: Table::new(alloc, keys)?,
             open: Vec::new(alloc),
             lines: String::new(alloc),
         })
