@@ -14,7 +14,7 @@ use crate::numbered_table::NumberedTable;
 use crate::numbers::{CLOSED, NO_MEMORY, NOT_CLOSED, NOT_LIMITS};
 use std::alloc::Global;
 use string_cache_core::static_sets::EmptyStaticAtomSet;
-use string_cache_core::table::Table;
+use string_cache_core::table::{Table, TrustedTexts};
 use string_cache_core::word::{Buckets, Limits};
 
 /// Opens a closed table, with nothing held, the greatest limits and the usual number of buckets. 1 where it finds no memory,
@@ -31,7 +31,7 @@ pub extern "C" fn sc_table_open(t: &mut ScTable, alloc: Global) -> u32
     if t.is_open() {
         return NOT_CLOSED;
     }
-    match Table::new(alloc) {
+    match Table::new(alloc, TrustedTexts) {
         Ok(empty) => put_table(t, empty, alloc),
         Err(_) => NO_MEMORY,
     }
@@ -64,14 +64,14 @@ pub extern "C" fn sc_table_open_with(
     let Some(buckets) = Buckets::new(bucket_bits) else {
         return NOT_LIMITS;
     };
-    match Table::with_buckets(alloc, limits, buckets) {
+    match Table::with_buckets(alloc, TrustedTexts, limits, buckets) {
         Ok(table) => put_table(t, table, alloc),
         Err(_) => NO_MEMORY,
     }
 }
 
 /// Puts the table into a handle that is closed. 1 where it finds no memory for it.
-fn put_table(t: &mut ScTable, table: Table<EmptyStaticAtomSet>, alloc: Global) -> u32
+fn put_table(t: &mut ScTable, table: Table<EmptyStaticAtomSet, TrustedTexts>, alloc: Global) -> u32
     ensures number { (result ≡ 0) ⊎ (result ≡ 1) }
     ensures ok { result ≡ 0 → t.new.seat.value ≡ Some (record { table = table }) }
     ensures err { result ≢ 0 → t.new.seat.value ≡ t.old.seat.value }

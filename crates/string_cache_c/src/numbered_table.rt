@@ -14,12 +14,12 @@ use crate::numbers::{NO_MEMORY, NOT_HELD, NOT_UTF8};
 use std::mem::size_of;
 use std::str;
 use string_cache_core::static_sets::EmptyStaticAtomSet;
-use string_cache_core::table::Table;
+use string_cache_core::table::{Table, TrustedTexts};
 
 /// A table whose calls answer with a number: 0, or why they failed.
 #[derive(Drop)]
 pub struct NumberedTable {
-    pub table: Table<EmptyStaticAtomSet>,
+    pub table: Table<EmptyStaticAtomSet, TrustedTexts>,
 }
 
 impl NumberedTable {
