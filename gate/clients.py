@@ -36,6 +36,7 @@ WRAPPED = {"heap": ("malloc", "realloc"), "memory": ("malloc", "realloc", "free"
 LOCKS = ("pthread_mutex_init", "pthread_mutex_destroy")
 WRAPPED["shared_memory"] = (*WRAPPED["memory"], *LOCKS)
 WRAPPED["readers"] = WRAPPED["memory"]
+WRAPPED["keys"] = ("getrandom", "sc_table_open", "sc_table_open_with")
 SHARED = C / "string_cache_shared.c"
 # The calls of the library that tests/touched.c stands before.
 TOUCHED = ("intern", "get", "clone", "give", "holds", "holders", "text", "entries", "text_bytes", "memory", "clear")
@@ -323,7 +324,7 @@ def rows():
         found.update(c_tests(name))
     found.update({**c_tests("readers", words=["-pthread"]), "c readers races": reader_races})
     found.update({"c lexer": lexer_tests, "c scopes": scopes, "c count_names": count_names, "cpp": cpp_tests, "cpp sanitized": cpp_checked})
-    for name in ("shared", "shared_threads", "shared_memory"):
+    for name in ("shared", "shared_threads", "shared_memory", "keys"):
         found.update(c_tests(name, [SHARED], ["-pthread", "-I", C]))
     found.update({"c shared races": shared_races, "cpp shared": shared_cpp_tests, "cpp shared sanitized": shared_cpp_checked})
     found.update({"cpp shared races": cpp_races, "cpp shared memcheck": shared_cpp_memcheck, "c shared header": shared_header_alone})

@@ -16,8 +16,8 @@ typedef struct sc_parts {
 } sc_parts;
 
 uint32_t sc_table_version(void);
-uint32_t sc_table_open(sc_table *table);
-uint32_t sc_table_open_with(sc_table *table, uint64_t holders, uint64_t serials, uint8_t bucket_bits);
+uint32_t sc_table_open(sc_table *table, sc_key key);
+uint32_t sc_table_open_with(sc_table *table, uint64_t holders, uint64_t serials, uint8_t bucket_bits, sc_key key);
 void sc_table_close(sc_table *table);
 uint32_t sc_table_intern(sc_table *table, const uint8_t *text, size_t len, uint64_t *word);
 uint32_t sc_table_get(sc_table lent, const uint8_t *text, size_t len, uint64_t *word);

@@ -3,7 +3,14 @@
  * What a call answers beside its number goes through a variable of its own, so that a pointer may lead anywhere that can be written. */
 #include "string_cache.h"
 
+#include <errno.h>
 #include <string.h>
+
+#if defined(__APPLE__) || defined(__FreeBSD__) || defined(__NetBSD__) || defined(__OpenBSD__)
+#include <stdlib.h>
+#else
+#include <sys/random.h>
+#endif
 
 #include "exports.h"
 
@@ -19,6 +26,20 @@ static bool is_handle(const sc_table *table) {
 
 static bool is_text(const char *text, size_t len) {
     return len <= PTRDIFF_MAX && (text != NULL || len == 0);
+}
+
+/* Draws a key. The system may have none only early while it starts, or where it knows no such call. */
+static bool draw_key(sc_key *key) {
+#if defined(__APPLE__) || defined(__FreeBSD__) || defined(__NetBSD__) || defined(__OpenBSD__)
+    arc4random_buf(key, sizeof *key);
+    return true;
+#else
+    ssize_t drawn;
+    do {
+        drawn = getrandom(key, sizeof *key, 0);
+    } while (drawn < 0 && errno == EINTR);
+    return drawn == (ssize_t)sizeof *key;
+#endif
 }
 
 /* The bytes of a text: never null, also where it has none. */
@@ -57,6 +78,8 @@ const char *sc_strerror(uint32_t status) {
         return "it is no such word";
     case SC_BAD_ARGUMENT:
         return "a pointer is null, a length too great, or a handle not one";
+    case SC_NO_RANDOM:
+        return "the system gave no random bytes";
     default:
         return "no call answers this number";
     }
@@ -71,11 +94,29 @@ uint32_t sc_version(void) {
 }
 
 sc_status sc_open(sc_table *table) {
-    return is_handle(table) ? sc_table_open(table) : SC_BAD_ARGUMENT;
+    sc_key key = {0, 0};
+    if (!is_handle(table)) {
+        return SC_BAD_ARGUMENT;
+    }
+    if (!table->full && !draw_key(&key)) {
+        return SC_NO_RANDOM;
+    }
+    return sc_table_open(table, key);
 }
 
 sc_status sc_open_with(sc_table *table, uint64_t holders, uint64_t tickets, uint8_t bucket_bits) {
-    return is_handle(table) ? sc_table_open_with(table, holders, tickets, bucket_bits) : SC_BAD_ARGUMENT;
+    sc_key key = {0, 0};
+    if (!is_handle(table)) {
+        return SC_BAD_ARGUMENT;
+    }
+    if (!table->full && !draw_key(&key)) {
+        return SC_NO_RANDOM;
+    }
+    return sc_table_open_with(table, holders, tickets, bucket_bits, key);
+}
+
+sc_status sc_open_keyed(sc_table *table, uint64_t holders, uint64_t tickets, uint8_t bucket_bits, sc_key key) {
+    return is_handle(table) ? sc_table_open_with(table, holders, tickets, bucket_bits, key) : SC_BAD_ARGUMENT;
 }
 
 void sc_close(sc_table *table) {

@@ -22,7 +22,7 @@
  * What threads may do:
  * - Functions that take a const sc_table only read: sc_get, sc_holds, sc_holders, sc_text, sc_entries, sc_text_bytes, sc_memory and sc_entry. Any
  *   number of threads may be in these at a time, with one table, and none of them needs a lock.
- * - All others that take an sc_table write it: sc_open, sc_open_with, sc_close, sc_intern, sc_clone, sc_give, sc_clear and sc_reserve. While one of
+ * - All others that take an sc_table write it: sc_open, sc_open_with, sc_open_keyed, sc_close, sc_intern, sc_clone, sc_give, sc_clear and sc_reserve. While one of
  *   these runs, no other call with that table does. So where one thread may write, each call is made under a lock of the caller's, which may let
  *   readers in together. A table that one thread opened or wrote is handed to others by that lock, or by a start or a join of a thread.
  * - Functions that take no sc_table may run beside any others, and so may calls with different tables.
@@ -41,7 +41,7 @@ extern "C" {
 /* The version of this interface, and as one number 10000 * major + 100 * minor + patch. A program runs with each later library of the same major
  * version. sc_version tells that of the library that is linked. */
 #define SC_VERSION_MAJOR 1
-#define SC_VERSION_MINOR 1
+#define SC_VERSION_MINOR 2
 #define SC_VERSION_PATCH 0
 #define SC_VERSION (SC_VERSION_MAJOR * 10000u + SC_VERSION_MINOR * 100u + SC_VERSION_PATCH)
 
@@ -66,7 +66,8 @@ typedef enum sc_status {
     SC_TOO_SMALL = 9,     /* The text is longer than the room. */
     SC_NOT_LIMITS = 10,   /* A limit, or the number of buckets, is out of range. */
     SC_NOT_A_WORD = 11,   /* The number is no word of this kind, or the text is too long to be one. */
-    SC_BAD_ARGUMENT = 12  /* A pointer is null, a length is above PTRDIFF_MAX, or the handle was never closed or opened. */
+    SC_BAD_ARGUMENT = 12, /* A pointer is null, a length is above PTRDIFF_MAX, or the handle was never closed or opened. */
+    SC_NO_RANDOM = 13     /* The system gave no random bytes. */
 } sc_status;
 
 /* Its former name. */
@@ -90,14 +91,26 @@ typedef struct sc_table {
 #define SC_CLOSED_TABLE \
     { 0, false }
 
-/* Opens a closed table, in which nothing is held, with the greatest limits and 4096 buckets.
- * SC_NO_MEMORY, SC_NOT_CLOSED where it is open, SC_BAD_ARGUMENT. */
+/* Opens a closed table, in which nothing is held, with the greatest limits and 4096 buckets. It finds its texts by a hash under a key that is
+ * drawn here, from the system's random bytes, so texts that somebody chose cost no more than others.
+ * SC_NOT_CLOSED if it is open, else SC_NO_RANDOM or SC_NO_MEMORY; SC_BAD_ARGUMENT. */
 SC_TO_BE_READ SC_EXPORT sc_status sc_open(sc_table *table);
 
-/* Opens a closed table with limits: each text has at most so many holders, from 1 to 2^63 - 1, and each bucket gives so many tickets, from
- * 1 to 2^48 - 1. There are 2 to the power of bucket_bits buckets, from 0 to 14 bits.
- * SC_NOT_CLOSED where it is open, else SC_NOT_LIMITS outside of these ranges, else SC_NO_MEMORY; SC_BAD_ARGUMENT. */
+/* Opens a closed table with limits, as sc_open does: each text has at most so many holders, from 1 to 2^63 - 1, and each bucket gives so many
+ * tickets, from 1 to 2^48 - 1. There are 2 to the power of bucket_bits buckets, from 0 to 14 bits.
+ * SC_NOT_CLOSED if it is open, else SC_NO_RANDOM, else SC_NOT_LIMITS outside of these ranges, else SC_NO_MEMORY; SC_BAD_ARGUMENT. */
 SC_TO_BE_READ SC_EXPORT sc_status sc_open_with(sc_table *table, uint64_t holders, uint64_t tickets, uint8_t bucket_bits);
+
+/* The key of a table's hash, SipHash-1-3: 128 bits. */
+typedef struct sc_key {
+    uint64_t low;
+    uint64_t high;
+} sc_key;
+
+/* Opens a closed table as sc_open_with does, under a given key, and asks the system for nothing but memory: for runs that take the same steps each
+ * time. Words and answers are the same under every key. Whoever knows the key can choose texts that slow the table down.
+ * SC_NOT_CLOSED if it is open, else SC_NOT_LIMITS, else SC_NO_MEMORY; SC_BAD_ARGUMENT. */
+SC_TO_BE_READ SC_EXPORT sc_status sc_open_keyed(sc_table *table, uint64_t holders, uint64_t tickets, uint8_t bucket_bits, sc_key key);
 
 /* Closes the table and frees all that it keeps; all its words are void. Does nothing to one that is closed, and to null. */
 SC_EXPORT void sc_close(sc_table *table);

@@ -136,6 +136,11 @@ public:
         detail::throw_unless_ok(sc_open_with(table_.get(), holders, tickets, bucket_bits));
     }
 
+    // The same under a given key, for runs that take the same steps each time: see sc_open_keyed.
+    Interner(std::uint64_t holders, std::uint64_t tickets, std::uint8_t bucket_bits, sc_key key) : table_(new sc_table SC_CLOSED_TABLE) {
+        detail::throw_unless_ok(sc_open_keyed(table_.get(), holders, tickets, bucket_bits, key));
+    }
+
     // The symbol of a text.
     Symbol intern(std::string_view text) {
         std::uint64_t word = 0;

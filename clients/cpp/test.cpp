@@ -201,6 +201,21 @@ void an_interner_is_moved() {
     CHECK(names.empty() && taken.size() == 1);
 }
 
+void a_given_key_changes_no_word() {
+    Interner drawn, given(9, 9, 12, sc_key{1, 2}), other(9, 9, 12, sc_key{UINT64_MAX, 3});
+    for (const std::string text : {"a longer name", "ein längerer Name", ""}) {
+        const std::uint64_t word = drawn.intern(text).word();
+        CHECK(given.intern(text).word() == word && other.intern(text).word() == word);
+    }
+    bool refused = false;
+    try {
+        const Interner none(9, 9, 15, sc_key{1, 2});
+    } catch (const string_cache::Refused &fault) {
+        refused = fault.number() == SC_NOT_LIMITS;
+    }
+    CHECK(refused);
+}
+
 struct Test {
     const char *name;
     void (*run)();
@@ -218,6 +233,7 @@ const Test tests[] = {
     {"refusals_are_thrown", refusals_are_thrown},
     {"memory_is_told", memory_is_told},
     {"an_interner_is_moved", an_interner_is_moved},
+    {"a_given_key_changes_no_word", a_given_key_changes_no_word},
 };
 
 } // namespace

@@ -58,6 +58,10 @@ class _Table(ctypes.Structure):
     _fields_ = [("at", ctypes.c_void_p), ("full", ctypes.c_bool)]
 
 
+class _Key(ctypes.Structure):
+    _fields_ = [("low", ctypes.c_uint64), ("high", ctypes.c_uint64)]
+
+
 def _path() -> str:
     """The path of the library."""
     own = os.environ.get("STRING_CACHE_LIBRARY")
@@ -79,6 +83,7 @@ def _loaded(path: str) -> ctypes.CDLL:
         ("sc_version", number, []),
         ("sc_open", number, [table]),
         ("sc_open_with", number, [table, word, word, ctypes.c_uint8]),
+        ("sc_open_keyed", number, [table, word, word, ctypes.c_uint8, _Key]),
         ("sc_close", None, [table]),
         ("sc_intern", number, [table, ctypes.c_char_p, size, words]),
         ("sc_get", number, [table, ctypes.c_char_p, size, words]),
@@ -138,16 +143,28 @@ def _word(word: int) -> int:
 
 
 class Interner:
-    """Interned texts. The limits are on the holders of a text and the tickets of a bucket, of 2 to the power of `bucket_bits` buckets."""
+    """Interned texts. The limits are on the holders of a text and the tickets of a bucket, of 2 to the power of `bucket_bits` buckets.
 
-    def __init__(self, holders: int = (1 << 63) - 1, tickets: int = (1 << 48) - 1, bucket_bits: int = 12) -> None:
+    It finds texts by a hash under a key of its own, which is drawn unless `key` gives its 128 bits, for runs that take the same steps each time.
+    Ints are the same under every key. Whoever knows the key can choose texts that slow the interner down."""
+
+    def __init__(
+        self, holders: int = (1 << 63) - 1, tickets: int = (1 << 48) - 1, bucket_bits: int = 12, key: Optional[int] = None
+    ) -> None:
         for name, limit in (("holders", holders), ("tickets", tickets), ("bucket_bits", bucket_bits)):
             _is(int, name, limit)
         self._lock = threading.Lock()
         self._table = _Table()
         if not (0 <= holders < 1 << 64 and 0 <= tickets < 1 << 64 and 0 <= bucket_bits < 256):
             raise ValueError("a limit or the number of buckets is out of range")
-        _check(_library.sc_open_with(self._table, holders, tickets, bucket_bits))
+        if key is None:
+            _check(_library.sc_open_with(self._table, holders, tickets, bucket_bits))
+            return
+        _is(int, "key", key)
+        if not 0 <= key < 1 << 128:
+            raise ValueError("a key has 128 bits")
+        halves = _Key(key & (1 << 64) - 1, key >> 64)
+        _check(_library.sc_open_keyed(self._table, holders, tickets, bucket_bits, halves))
 
     def intern(self, text: str) -> int:
         """The int that stands for a text, with one holder more. UnicodeEncodeError where the text has half of a surrogate pair."""

@@ -44,6 +44,16 @@ class Interning(unittest.TestCase):
         self.assertIn(word, self.names)
         self.assertEqual(self.names.holders(word), 1)
 
+    def test_a_given_key_changes_no_word(self) -> None:
+        words = [self.names.intern(text) for text in SAMPLES]
+        for key in (0, 1 << 127 | 5, (1 << 128) - 1):
+            with Interner(key=key) as names:
+                self.assertEqual([names.intern(text) for text in SAMPLES], words)
+        for key in (-1, 1 << 128):
+            self.assertRaises(ValueError, Interner, key=key)
+        self.assertRaises(TypeError, Interner, key="key")
+        self.assertRaises(ValueError, Interner, bucket_bits=15, key=1)
+
     def test_texts_come_in_order(self) -> None:
         texts = [f"name number {at}" for at in range(1000)]
         words = [self.names.intern(text) for text in texts]

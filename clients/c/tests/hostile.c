@@ -77,9 +77,12 @@ static bool all_answer(sc_table *table, sc_status number) {
     return same && word == 77 && holders == 77 && len == 77;
 }
 
+static const sc_key KEY = {1, 2};
+
 static void no_handle_is_a_bad_argument(void) {
     CHECK(all_answer(NULL, SC_BAD_ARGUMENT));
     CHECK(sc_open(NULL) == SC_BAD_ARGUMENT && sc_open_with(NULL, 1, 1, 0) == SC_BAD_ARGUMENT);
+    CHECK(sc_open_keyed(NULL, 1, 1, 0, KEY) == SC_BAD_ARGUMENT);
 }
 
 static void a_closed_handle_is_answered(void) {
@@ -97,7 +100,7 @@ static void a_handle_of_other_bytes_is_a_bad_argument(void) {
         sc_table table;
         memset(&table, bytes[at], sizeof table);
         CHECK(all_answer(&table, SC_BAD_ARGUMENT) && sc_open(&table) == SC_BAD_ARGUMENT);
-        CHECK(sc_open_with(&table, 1, 1, 0) == SC_BAD_ARGUMENT);
+        CHECK(sc_open_with(&table, 1, 1, 0) == SC_BAD_ARGUMENT && sc_open_keyed(&table, 1, 1, 0, KEY) == SC_BAD_ARGUMENT);
     }
     sc_table full_of_nothing = {NULL, true};
     CHECK(all_answer(&full_of_nothing, SC_BAD_ARGUMENT) && sc_open(&full_of_nothing) == SC_BAD_ARGUMENT);
@@ -109,6 +112,7 @@ static void a_second_open_changes_nothing(void) {
     CHECK(sc_open(&table) == SC_NOT_CLOSED && is_as_before(&table, &before));
     CHECK(sc_open_with(&table, 1, 1, 0) == SC_NOT_CLOSED && is_as_before(&table, &before));
     CHECK(sc_open_with(&table, 0, 0, 99) == SC_NOT_CLOSED && is_as_before(&table, &before));
+    CHECK(sc_open_keyed(&table, 1, 1, 0, KEY) == SC_NOT_CLOSED && is_as_before(&table, &before));
     sc_close(&table);
 }
 

@@ -44,6 +44,8 @@ pub enum Fault {
     NotHeld,
     /// A limit, or the number of buckets, is out of range.
     NotLimits,
+    /// The system gave no random bytes for the interner's key.
+    Random,
     /// The library answered a number that these calls have no use for.
     Other(u32),
 }
@@ -56,6 +58,7 @@ impl Fault {
             sys::TICKETS_SPENT => Fault::TicketsSpent,
             sys::NOT_HELD => Fault::NotHeld,
             sys::NOT_LIMITS => Fault::NotLimits,
+            sys::NO_RANDOM => Fault::Random,
             other => Fault::Other(other),
         }
     }
@@ -69,6 +72,7 @@ impl fmt::Display for Fault {
             Fault::TicketsSpent => out.write_str("the bucket of the name has no ticket left"),
             Fault::NotHeld => out.write_str("the interner holds no such symbol"),
             Fault::NotLimits => out.write_str("a limit or the number of buckets is out of range"),
+            Fault::Random => out.write_str("the system gave no random bytes"),
             Fault::Other(number) => write!(out, "the library answered {number}"),
         }
     }
@@ -119,7 +123,8 @@ unsafe impl Send for Interner {}
 unsafe impl Sync for Interner {}
 
 impl Interner {
-    /// An interner in which nothing is held. [`Fault::Memory`] where it finds none.
+    /// An interner in which nothing is held. It finds names by a hash under a key of its own, which is drawn here, so names that somebody chose
+    /// cost no more than others. [`Fault::Random`] and [`Fault::Memory`].
     pub fn new() -> Result<Interner, Fault> {
         let mut table = sys::Table::CLOSED;
         // SAFETY: the table is closed, and ours.
@@ -128,12 +133,21 @@ impl Interner {
     }
 
     /// An interner with limits: each name has at most so many holders, from 1 to 2^63 - 1, and each of 2 to the power of `bucket_bits`
-    /// buckets gives so many tickets, from 1 to 2^48 - 1. The bits are 0 to 14. [`Fault::NotLimits`] outside these ranges, and
-    /// [`Fault::Memory`].
+    /// buckets gives so many tickets, from 1 to 2^48 - 1. The bits are 0 to 14. [`Fault::Random`], [`Fault::NotLimits`] outside these ranges,
+    /// and [`Fault::Memory`].
     pub fn with_limits(holders: u64, tickets: u64, bucket_bits: u8) -> Result<Interner, Fault> {
         let mut table = sys::Table::CLOSED;
         // SAFETY: the table is closed, and ours.
         done(unsafe { sys::sc_open_with(&mut table, holders, tickets, bucket_bits) })?;
+        Ok(Interner { table })
+    }
+
+    /// The same under a given key, for runs that take the same steps each time. Symbols are the same under every key. Whoever knows it can choose
+    /// names that slow the interner down. [`Fault::NotLimits`] and [`Fault::Memory`].
+    pub fn with_key(holders: u64, tickets: u64, bucket_bits: u8, [low, high]: [u64; 2]) -> Result<Interner, Fault> {
+        let mut table = sys::Table::CLOSED;
+        // SAFETY: the table is closed, and ours.
+        done(unsafe { sys::sc_open_keyed(&mut table, holders, tickets, bucket_bits, sys::Key { low, high }) })?;
         Ok(Interner { table })
     }
 

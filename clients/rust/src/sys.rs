@@ -22,6 +22,14 @@ pub struct Hashes {
     pub f2: u32,
 }
 
+/// The key of a table's hash.
+#[repr(C)]
+#[derive(Clone, Copy)]
+pub struct Key {
+    pub low: u64,
+    pub high: u64,
+}
+
 /// Those of the numbers that calls from here may answer.
 pub const OK: u32 = 0;
 pub const NO_MEMORY: u32 = 1;
@@ -30,10 +38,12 @@ pub const TICKETS_SPENT: u32 = 3;
 pub const NOT_HELD: u32 = 6;
 pub const TOO_SMALL: u32 = 9;
 pub const NOT_LIMITS: u32 = 10;
+pub const NO_RANDOM: u32 = 13;
 
 extern "C" {
     pub fn sc_open(table: *mut Table) -> u32;
     pub fn sc_open_with(table: *mut Table, holders: u64, tickets: u64, bucket_bits: u8) -> u32;
+    pub fn sc_open_keyed(table: *mut Table, holders: u64, tickets: u64, bucket_bits: u8, key: Key) -> u32;
     pub fn sc_close(table: *mut Table);
     pub fn sc_intern(table: *mut Table, text: *const c_char, len: usize, word: *mut u64) -> u32;
     pub fn sc_get(table: *const Table, text: *const c_char, len: usize, word: *mut u64) -> u32;

@@ -183,6 +183,18 @@ fn limits_are_kept() {
 }
 
 #[test]
+fn a_given_key_changes_no_symbol() {
+    let mut drawn = new_interner();
+    let mut given = Interner::with_key(3, 9, 12, [1, 2]).expect("an interner");
+    let mut other = Interner::with_key(3, 9, 12, [u64::MAX, 3]).expect("an interner");
+    for name in ["a longer name", "日本語の長い名前", "short"] {
+        let symbol = intern(&mut drawn, name);
+        assert_eq!((intern(&mut given, name), intern(&mut other, name)), (symbol, symbol));
+    }
+    assert_eq!(Interner::with_key(1, 1, 15, [1, 2]).err(), Some(Fault::NotLimits));
+}
+
+#[test]
 fn room_that_no_machine_has_is_refused() {
     let mut names = new_interner();
     assert_eq!(names.reserve(usize::MAX / 2), Err(Fault::Memory));

@@ -68,7 +68,7 @@ text_bytes_of (Some numbered) = sum_by (λ pair. length pair.0) numbered.table.p
 
 -- the bytes of the block in which the handle has a table
 abbrev pub block_size : ℕ
-block_size = 304
+block_size = 320
 
 -- The bytes that a table takes with its block, or the most that 64 bits tell.
 abbrev pub TellsMemory : Kept → ℕ → Type 0

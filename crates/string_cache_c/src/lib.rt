@@ -13,4 +13,5 @@ mod parts;
 mod printed;
 mod reading;
 mod seat;
+mod text_key;
 mod texts;

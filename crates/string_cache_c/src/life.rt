@@ -12,15 +12,16 @@ ghost use Rattle.string_cache_c.specs.declared.numbered_table.NumberedTable.{Num
 use crate::handle::ScTable;
 use crate::numbered_table::NumberedTable;
 use crate::numbers::{CLOSED, NO_MEMORY, NOT_CLOSED, NOT_LIMITS};
+use crate::text_key::TextKey;
 use std::alloc::Global;
 use string_cache_core::static_sets::EmptyStaticAtomSet;
-use string_cache_core::table::{Table, TrustedTexts};
+use string_cache_core::table::Table;
 use string_cache_core::word::{Buckets, Limits};
 
-/// Opens a closed table, with nothing held, the greatest limits and the usual number of buckets. 1 where it finds no memory,
-/// and 8 where the table is open; then nothing changes.
+/// Opens a closed table, with nothing held, the greatest limits and the usual number of buckets, whose texts are hashed under this key.
+/// 1 if it finds no memory, and 8 if the table is open; then nothing changes.
 #[unsafe(no_mangle)]
-pub extern "C" fn sc_table_open(t: &mut ScTable, alloc: Global) -> u32
+pub extern "C" fn sc_table_open(t: &mut ScTable, key: TextKey, alloc: Global) -> u32
     ensures number { (result ≡ 0) ⊎ (result ≡ 1) ⊎ (result ≡ not_closed) }
     ensures not_closed { result ≡ not_closed ↔ IsSome t.old.seat.value }
     ensures open { result ≡ 0 → IsSome t.new.seat.value }
@@ -31,20 +32,21 @@ pub extern "C" fn sc_table_open(t: &mut ScTable, alloc: Global) -> u32
     if t.is_open() {
         return NOT_CLOSED;
     }
-    match Table::new(alloc, TrustedTexts) {
+    match Table::new(alloc, key) {
         Ok(empty) => put_table(t, empty, alloc),
         Err(_) => NO_MEMORY,
     }
 }
 
-/// Opens a closed table, with nothing held, with these limits and 2 to this power of buckets. 1 where it finds no memory, 8
-/// where the table is open, and 10 where there are no such limits or buckets; then nothing changes.
+/// Opens a closed table, with nothing held, with these limits and 2 to this power of buckets, whose texts are hashed under this key. 1 if it
+/// finds no memory, 8 if the table is open, and 10 if there are no such limits or buckets; then nothing changes.
 #[unsafe(no_mangle)]
 pub extern "C" fn sc_table_open_with(
     t: &mut ScTable,
     holders: u64,
     serials: u64,
     bucket_bits: u8,
+    key: TextKey,
     alloc: Global,
 ) -> u32
     ensures number { (result ≡ 0) ⊎ (result ≡ 1) ⊎ (result ≡ not_closed) ⊎ (result ≡ not_limits) }
@@ -64,14 +66,14 @@ pub extern "C" fn sc_table_open_with(
     let Some(buckets) = Buckets::new(bucket_bits) else {
         return NOT_LIMITS;
     };
-    match Table::with_buckets(alloc, TrustedTexts, limits, buckets) {
+    match Table::with_buckets(alloc, key, limits, buckets) {
         Ok(table) => put_table(t, table, alloc),
         Err(_) => NO_MEMORY,
     }
 }
 
 /// Puts the table into a handle that is closed. 1 where it finds no memory for it.
-fn put_table(t: &mut ScTable, table: Table<EmptyStaticAtomSet, TrustedTexts>, alloc: Global) -> u32
+fn put_table(t: &mut ScTable, table: Table<EmptyStaticAtomSet, TextKey>, alloc: Global) -> u32
     ensures number { (result ≡ 0) ⊎ (result ≡ 1) }
     ensures ok { result ≡ 0 → t.new.seat.value ≡ Some (record { table = table }) }
     ensures err { result ≢ 0 → t.new.seat.value ≡ t.old.seat.value }

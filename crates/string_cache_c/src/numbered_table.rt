@@ -11,15 +11,16 @@ ghost use Rattle.string_cache_c.specs.Numbers.{not_held, not_utf8};
 
 use crate::copies::copy_text;
 use crate::numbers::{NO_MEMORY, NOT_HELD, NOT_UTF8};
+use crate::text_key::TextKey;
 use std::mem::size_of;
 use std::str;
 use string_cache_core::static_sets::EmptyStaticAtomSet;
-use string_cache_core::table::{Table, TrustedTexts};
+use string_cache_core::table::Table;
 
 /// A table whose calls answer with a number: 0, or why they failed.
 #[derive(Drop)]
 pub struct NumberedTable {
-    pub table: Table<EmptyStaticAtomSet, TrustedTexts>,
+    pub table: Table<EmptyStaticAtomSet, TextKey>,
 }
 
 impl NumberedTable {
