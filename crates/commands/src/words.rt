@@ -29,7 +29,7 @@ trait Interner {
         ensures { IfErr result IsInternFault };
 }
 
-impl Interner for Table<EmptyStaticAtomSet> {
+impl Interner for Table<EmptyStaticAtomSet, TrustedTexts> {
     fn intern(&mut self, word: &str) -> Result<(), Fault> {
         self.intern(word)?;
         Ok(())
@@ -207,6 +207,6 @@ pub fn words_alone<S: Source, K: Sink>(
     ensures { Tells S.remaining S.has_ended S.has_failed K.contents K.has_failed
         AreWordLines IsUnwrittenFault IsWordsFault reader.old reader.new writer.old writer.new result }
 {
-    let mut table = Table::<EmptyStaticAtomSet>::new(alloc)?;
+    let mut table = Table::new(alloc, keys)?;
     list_words(alloc, keys, &mut table, reader, writer)
 }
