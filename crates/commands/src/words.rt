@@ -29,7 +29,7 @@ trait Interner {
         ensures { IfErr result IsInternFault };
 }
 
-impl Interner for Table<EmptyStaticAtomSet, TrustedTexts> {
+impl Interner for Table<EmptyStaticAtomSet> {
     fn intern(&mut self, word: &str) -> Result<(), Fault> {
         self.intern(word)?;
         Ok(())
