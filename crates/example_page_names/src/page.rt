@@ -2,6 +2,7 @@
 
 use crate::names::{PageNames, PageNamesTables};
 use std::alloc::Global;
+use std::hash::RandomState;
 use string_cache::Fault;
 use string_cache::static_sets::StaticTables;
 use string_cache::table::Table;
@@ -64,13 +65,15 @@ fn count_in_tag<S: StaticTables>(
     Ok(count)
 }
 
-/// How many names in the page have this role, and how many of its names the table holds, since they aren't in the list.
+/// How many names in the page have this role, and how many of its names the table holds, since they aren't in the list. Who wrote the
+/// page chose those, so they are found under these keys.
 fn count_of<S: StaticTables>(
     alloc: Global,
+    keys: RandomState,
     page: &str,
     role: Role,
 ) -> Result<(usize, usize), Fault> {
-    let mut table = Table::<S>::new(alloc)?;
+    let mut table = Table::<S>::new(alloc, keys)?;
     let mut count = 0usize;
     for piece in page.split('<') {
         count = count.wrapping_add(count_in_tag(&mut table, before(piece, '>'), role)?);
@@ -95,8 +98,9 @@ const ROLES: [(Role, usize); 5] = [
 /// Each name of the page has its role, and the two that aren't in the list are all that the table holds.
 #[test]
 fn names_of_a_page_have_roles(rt: HostRuntime) {
+    let keys = RandomState::new(&rt).expect(&rt, "keys");
     for (role, count) in &ROLES {
-        let counted = count_of::<PageNames>(rt.alloc(), PAGE, *role);
+        let counted = count_of::<PageNames>(rt.alloc(), keys, PAGE, *role);
         assert!(rt; counted == Ok((*count, 2)), "of {role:?}");
     }
 }
