@@ -6,6 +6,7 @@ use crate::assert_for;
 use example_tables::{are_one_name, is_keyword, same_word, two_come_and_go};
 use std::process::Abort;
 use string_cache_core::word::{Form, form_of};
+use test_samples::keys;
 
 /// Two names, and whether they are one.
 const PAIRS: [(&str, &str, bool); 7] = [
@@ -20,8 +21,9 @@ const PAIRS: [(&str, &str, bool); 7] = [
 
 #[test]
 fn names_have_one_word_each(rt: HostRuntime) {
+    let keys = keys(1).expect(&rt, "keys");
     for (left, right, wanted) in &PAIRS {
-        let found = same_word(rt.alloc(), left, right);
+        let found = same_word(rt.alloc(), keys, left, right);
         assert_for(&rt, found == Ok(*wanted), left);
     }
 }

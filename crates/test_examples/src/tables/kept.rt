@@ -9,6 +9,7 @@ use std::alloc::Global;
 use std::process::Abort;
 use string_cache_core::static_sets::EmptyStaticAtomSet;
 use string_cache_core::table::{Call, Table};
+use test_samples::keys;
 
 /// A table without static texts.
 pub type Plain = Table<EmptyStaticAtomSet>;
@@ -21,16 +22,23 @@ const SHORT: u64 = 0x6766_6564_6362_6171;
 
 /// A table of these names, of which nothing else is known: so the proofs of tests have less to read.
 pub fn filled<R: Abort>(rt: &R, alloc: Global, names: &[&str]) -> Plain {
-    table_of(alloc, names).expect(rt, "a table")
+    let keys = keys(1).expect(rt, "keys");
+    table_of(alloc, keys, names).expect(rt, "a table")
+}
+
+/// The same, unless it is refused.
+fn made_of(alloc: Global, names: &[&str]) -> Option<Plain> {
+    let keys = keys(1).ok()?;
+    table_of(alloc, keys, names).ok()
 }
 
 /// Whether a table of these names passes the question.
 fn of_table<F: Fn(&mut Plain) -> bool>(alloc: Global, names: &[&str], ask: F) -> bool
     requires { F.IsAlwaysCallable ask }
 {
-    match table_of(alloc, names) {
-        Ok(mut table) => ask(&mut table),
-        Err(_) => false,
+    match made_of(alloc, names) {
+        Some(mut table) => ask(&mut table),
+        None => false,
     }
 }
 
@@ -127,7 +135,8 @@ fn is_full_at(table: &mut Plain, holders: u64) -> bool {
 
 /// Whether a table with so many holders is full at them. `None` where there is none.
 fn is_limited(alloc: Global, holders: u64) -> Option<bool> {
-    match table_with_holders(alloc, holders) {
+    let keys = keys(1).ok()?;
+    match table_with_holders(alloc, keys, holders) {
         Ok(Some(mut table)) => Some(is_full_at(&mut table, holders)),
         _ => None,
     }

@@ -6,6 +6,7 @@ use example_tables::{Function, Program, lengths_of_both};
 use std::alloc::Global;
 use std::process::Abort;
 use string_cache_core::table::Name;
+use test_samples::keys;
 
 /// The first ticket of "interned" in a table of 4096 buckets.
 const FIRST: u64 = 0x1_0840;
@@ -26,13 +27,19 @@ fn a_table_is_read_by_two_threads(rt: HostRuntime) {
     );
 }
 
+/// A new program, unless it is refused.
+fn new_program(alloc: Global) -> Option<Program> {
+    let keys = keys(1).ok()?;
+    Program::new(alloc, keys).ok()
+}
+
 /// Whether a new program passes the question.
 fn of_program<F: Fn(&mut Program) -> bool>(alloc: Global, ask: F) -> bool
     requires { F.IsAlwaysCallable ask }
 {
-    match Program::new(alloc) {
-        Ok(mut program) => ask(&mut program),
-        Err(_) => false,
+    match new_program(alloc) {
+        Some(mut program) => ask(&mut program),
+        None => false,
     }
 }
 

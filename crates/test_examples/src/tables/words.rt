@@ -12,10 +12,11 @@ use std::collections::HashMap;
 use std::process::Abort;
 use string_cache_core::Fault;
 use string_cache_core::table::Table;
-use test_samples::One;
+use test_samples::{One, keys};
 
 fn with_static_text<R: Abort>(rt: &R, alloc: Global) -> Table<One> {
-    Table::new(alloc).expect(rt, "a table")
+    let keys = keys(1).expect(rt, "keys");
+    Table::new(alloc, keys).expect(rt, "a table")
 }
 
 /// Whether the text of a name is read back, and the table holds nothing after it.
