@@ -1,6 +1,7 @@
 //! Sets and tables that tests begin with, and calls of them. No more is known of these than their types, so that a test's proof has less to read.
 
 use std::alloc::Global;
+use std::hash::RandomState;
 use std::process::Abort;
 use std::sync::Wait;
 use string_cache::dynamic_set::Set;
@@ -8,6 +9,7 @@ use string_cache::static_sets::StaticTables;
 use string_cache::table::Table;
 use string_cache::{Atom, DefaultAtom, EmptyStaticAtomSet, Fault};
 use test_calls::interned;
+use test_samples::keys;
 
 /// A set of the usual limits.
 pub fn new_set<Static: StaticTables>(rt: &impl Abort, alloc: Global) -> Set<Static> {
@@ -46,8 +48,13 @@ pub fn intern_all<'s, R: Wait + Abort>(
     atoms
 }
 
+/// Keys for tables, the same at each run.
+pub fn table_keys(rt: &impl Abort) -> RandomState {
+    keys(1).expect(rt, "keys")
+}
+
 pub fn new_table<R: Abort, Static: StaticTables>(rt: &R, alloc: Global) -> Table<Static> {
-    Table::new(alloc).expect(rt, "a table")
+    Table::new(alloc, table_keys(rt)).expect(rt, "a table")
 }
 
 /// The word of a text in a table, unless it is refused.

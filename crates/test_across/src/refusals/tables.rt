@@ -1,7 +1,7 @@
 //! Tables and worlds of steps.
 
 use crate::assert_that;
-use crate::begun::{new_table, word_in};
+use crate::begun::{new_table, table_keys, word_in};
 use std::alloc::Global;
 use std::io::Print;
 use std::process::Abort;
@@ -170,49 +170,44 @@ fn check<R: Print + Abort>(
 #[test]
 fn table_is_made(rt: HostRuntime) {
     let alloc = rt.alloc();
-    let made = at_last(&rt, || Table::new(alloc));
+    let keys = table_keys(&rt);
+    let made = at_last(&rt, || Table::new(alloc, keys));
     check(&rt, alloc, made, Question::IsNew);
 }
 
 #[test]
 fn table_with_room_is_made(rt: HostRuntime) {
     let alloc = rt.alloc();
-    let made = at_last(&rt, || Table::with_capacity(alloc, 1000));
+    let keys = table_keys(&rt);
+    let made = at_last(&rt, || Table::with_capacity(alloc, keys, 1000));
     check(&rt, alloc, made, Question::IsEmpty);
 }
 
 #[test]
 fn text_is_interned_in_a_table(rt: HostRuntime) {
-    check(&rt, rt.alloc(), Table::new(rt.alloc()), Question::Interns);
+    let made = Table::new(rt.alloc(), table_keys(&rt));
+    check(&rt, rt.alloc(), made, Question::Interns);
 }
 
 /// What is held stays, whether the room is refused or not.
 #[test]
 fn room_is_made_in_a_table(rt: HostRuntime) {
-    check(
-        &rt,
-        rt.alloc(),
-        Table::new(rt.alloc()),
-        Question::KeepsItsText,
-    );
+    let made = Table::new(rt.alloc(), table_keys(&rt));
+    check(&rt, rt.alloc(), made, Question::KeepsItsText);
 }
 
 /// The last one of as many texts as room was made for. 576 texts fill what a table grows to by itself, so that one more would ask for room.
 #[test]
 fn text_finds_room_in_a_table(rt: HostRuntime) {
-    let made = Table::with_capacity(rt.alloc(), 577);
+    let made = Table::with_capacity(rt.alloc(), table_keys(&rt), 577);
     check(&rt, rt.alloc(), made, Question::HasRoomBehind(576));
 }
 
 /// As many texts find room where others were.
 #[test]
 fn text_finds_room_in_a_cleared_table(rt: HostRuntime) {
-    check(
-        &rt,
-        rt.alloc(),
-        Table::new(rt.alloc()),
-        Question::HasRoomOnceCleared,
-    );
+    let made = Table::new(rt.alloc(), table_keys(&rt));
+    check(&rt, rt.alloc(), made, Question::HasRoomOnceCleared);
 }
 
 /// Adds a call that interns a text.

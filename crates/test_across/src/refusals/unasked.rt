@@ -1,7 +1,7 @@
 //! Calls that ask for no memory: `gate/refused.py` refuses every request between the two lines, and wants that there is none.
 
 use crate::assert_that;
-use crate::begun::{intern, intern_all, new_set, new_table, word_in};
+use crate::begun::{intern, intern_all, new_set, new_table, table_keys, word_in};
 use serde_json::Value;
 use std::alloc::Global;
 use std::cmp::Ordering;
@@ -350,7 +350,7 @@ fn limited_table<R: Abort>(
     serials: u64,
 ) -> Table<EmptyStaticAtomSet> {
     let limits = Limits::new(holders, serials).expect(rt, "limits");
-    Table::with_limits(alloc, limits).expect(rt, "a table")
+    Table::with_limits(alloc, table_keys(rt), limits).expect(rt, "a table")
 }
 
 /// Why "interned" is refused once its bucket's one serial is spent.
