@@ -11,6 +11,7 @@ use string_cache::static_sets::EmptyStaticAtomSet;
 use string_cache::table::Table;
 use string_cache::word::{Buckets, Limits};
 use test_calls::{has_text, hash_of, links, made_with};
+use test_samples::keys;
 
 /// The text of a number: `w0000000`, `w0000001` and so on.
 pub fn numbered(rt: &impl Abort, alloc: Global, n: usize) -> String {
@@ -159,7 +160,8 @@ fn check_set<R: Wait + Abort>(rt: &R, alloc: Global, buckets: Buckets, first: &s
 }
 
 fn table_of(rt: &impl Abort, alloc: Global, buckets: Buckets) -> Table<EmptyStaticAtomSet> {
-    Table::with_buckets(alloc, Limits::greatest(), buckets).expect(rt, "a table")
+    let keys = keys(1).expect(rt, "keys");
+    Table::with_buckets(alloc, keys, Limits::greatest(), buckets).expect(rt, "a table")
 }
 
 /// And in such a table.

@@ -14,6 +14,7 @@ use test_calls::{has_text, interned, links};
 use test_packed::dishes::Dishes;
 use test_packed::elements::Elements;
 use test_packed::misplaced::Misplaced;
+use test_samples::keys;
 
 // These say nothing of what they do, so that each test is proved in a moment. They take any static type, since the borrow checker doesn't
 // cover a function in which a set, an atom or a table of a packed type stands by name.
@@ -60,7 +61,8 @@ fn sets_link_what_is_not_listed(rt: HostRuntime) {
 }
 
 fn new_table<Static: StaticTables>(rt: &impl Abort, alloc: Global) -> Table<Static> {
-    Table::new(alloc).expect(rt, "a table")
+    let keys = keys(1).expect(rt, "keys");
+    Table::new(alloc, keys).expect(rt, "a table")
 }
 
 /// Whether the table interns the text as this word, has it as the word's text, and holds nothing.
