@@ -14,13 +14,16 @@ mod texts;
 
 use phases::{Phase, Phases};
 use std::alloc::Global;
+use std::hash::RandomState;
 use std::io::Print;
+use std::random::RandomSource;
 use std::rt::{Clock, Env};
 use std::sync::Wait;
 use std::thread::Threads;
 use std::{env, fmt};
+use string_cache::table::TrustedTexts;
 use string_cache::word::Buckets;
-use texts::Texts;
+use texts::{Kind, Texts};
 
 /// What is printed of each kind of call.
 #[derive(Clone, Copy)]
@@ -34,8 +37,12 @@ enum Report {
 /// What is timed.
 #[derive(Clone, Copy, PartialEq, Eq)]
 enum Subject {
-    /// The table for one thread, with this number of texts.
+    /// The table for one thread with the quick hasher, with this number of texts.
     Table,
+    /// That with random keys, with this number of texts.
+    Keyed,
+    /// The same, with this number of texts that all have one hash under the quick hasher.
+    Chosen,
     /// The set, on a few texts over and over, so often.
     Hot,
     /// The set, with this number of live texts.
@@ -74,6 +81,8 @@ impl fmt::Display for Subject {
     fn fmt<W: fmt::Write>(&self, f: &mut fmt::Formatter<W>) -> fmt::Result {
         f.write_str(match self {
             Subject::Table => "table",
+            Subject::Keyed => "table with random keys",
+            Subject::Chosen => "table with random keys, chosen texts",
             Subject::Hot => "set, hot",
             Subject::Live => "set, live texts",
             Subject::Crowd => "set, threads",
@@ -90,10 +99,20 @@ impl Subject {
             _ => number,
         }
     }
+
+    /// Which they are.
+    fn kind(self) -> Kind {
+        match self {
+            Subject::Chosen => Kind::Chosen,
+            _ => Kind::Random,
+        }
+    }
 }
 
-const ALL: [Subject; 5] = [
+const ALL: [Subject; 7] = [
     Subject::Table,
+    Subject::Keyed,
+    Subject::Chosen,
     Subject::Hot,
     Subject::Live,
     Subject::Crowd,
@@ -104,6 +123,8 @@ const ALL: [Subject; 5] = [
 fn subject_of(word: &str) -> Result<Option<Subject>, ()> {
     match word {
         "table" => Ok(Some(Subject::Table)),
+        "keyed" => Ok(Some(Subject::Keyed)),
+        "chosen" => Ok(Some(Subject::Chosen)),
         "hot" => Ok(Some(Subject::Hot)),
         "live" => Ok(Some(Subject::Live)),
         "crowd" => Ok(Some(Subject::Crowd)),
@@ -139,19 +160,19 @@ fn asked_for(rt: &(impl Env + AllocGlobal)) -> Result<Option<Command>, anyhow::E
 }
 
 /// Makes the calls, and times them.
-fn measure<R: Threads + Wait + Clock + Sync>(
+fn measure<R: Threads + Wait + Clock + RandomSource + Sync>(
     rt: &R,
     alloc: Global,
     subject: Subject,
     command: &Command,
     phases: &mut Phases,
 ) -> Result<(), anyhow::Error> {
-    let texts = Texts::new(alloc, subject.texts(command.number))?;
+    let texts = Texts::new(alloc, subject.kind(), subject.texts(command.number))?;
     measure_over(rt, alloc, subject, command, &texts, phases)
 }
 
 /// The same, over these texts.
-fn measure_over<R: Threads + Wait + Clock + Sync>(
+fn measure_over<R: Threads + Wait + Clock + RandomSource + Sync>(
     rt: &R,
     alloc: Global,
     subject: Subject,
@@ -161,7 +182,10 @@ fn measure_over<R: Threads + Wait + Clock + Sync>(
 ) -> Result<(), anyhow::Error> {
     let buckets = command.buckets;
     match subject {
-        Subject::Table => table::measure(rt, alloc, texts, phases),
+        Subject::Table => table::measure(rt, alloc, TrustedTexts, texts, phases),
+        Subject::Keyed | Subject::Chosen => {
+            table::measure(rt, alloc, RandomState::new(rt)?, texts, phases)
+        }
         Subject::Hot => hot::measure(rt, alloc, buckets, command.number, phases),
         Subject::Live => live::measure(rt, alloc, buckets, texts, phases),
         Subject::Crowd => crowd::measure(rt, alloc, buckets, texts, command.workers, phases),
@@ -188,7 +212,7 @@ fn print_all(rt: &impl Print, report: Report, phases: &[Phase]) -> Result<(), an
 }
 
 /// Times a subject, and prints what came of it.
-fn run_subject<R: Threads + Wait + Clock + Print + Sync>(
+fn run_subject<R: Threads + Wait + Clock + RandomSource + Print + Sync>(
     rt: &R,
     alloc: Global,
     subject: Subject,
@@ -201,7 +225,7 @@ fn run_subject<R: Threads + Wait + Clock + Print + Sync>(
 }
 
 /// Times what is asked for, one subject after the other.
-fn run<R: Threads + Wait + Clock + Print + Sync>(
+fn run<R: Threads + Wait + Clock + RandomSource + Print + Sync>(
     rt: &R,
     alloc: Global,
     command: &Command,
@@ -217,7 +241,7 @@ fn run<R: Threads + Wait + Clock + Print + Sync>(
 fn main(rt: HostRuntime) -> Result<(), anyhow::Error> {
     let Some(command) = asked_for(&rt)? else {
         println!(rt;
-            "usage: interning_speed counts|times table|hot|live|crowd|named|all N BITS WORKERS"
+            "usage: interning_speed counts|times table|keyed|chosen|hot|live|crowd|named|all N BITS WORKERS"
         )?;
         return Ok(());
     };

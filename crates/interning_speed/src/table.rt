@@ -3,6 +3,7 @@
 use crate::phases::{Phase, Phases};
 use crate::texts::Texts;
 use std::alloc::{AllocError, Global};
+use std::hash::BuildHasher;
 use std::rt::Clock;
 use std::time::Instant;
 use string_cache::table::{Call, Table, TableReply};
@@ -23,12 +24,12 @@ const GIVES: [&str; 3] = ["give", "give again", "give by the last holder"];
 
 /// A table, and the words of the texts that were interned last.
 #[derive(Drop)]
-struct Measured {
-    table: Table<EmptyStaticAtomSet>,
+struct Measured<H: BuildHasher> {
+    table: Table<EmptyStaticAtomSet, H>,
     words: Vec<u64>,
 }
 
-impl Measured {
+impl<H: BuildHasher> Measured<H> {
     /// Interns the texts, and keeps their words.
     fn intern_all(&mut self, texts: &[String]) -> Result<(), Fault> {
         for text in texts {
@@ -125,21 +126,22 @@ fn count_done(replies: &[TableReply]) -> usize {
     done
 }
 
-/// A new table.
-fn new_table(alloc: Global) -> Result<Measured, Fault> {
+/// A new table with this hasher.
+fn new_table<H: BuildHasher + Drop>(alloc: Global, hasher: H) -> Result<Measured<H>, Fault> {
     Ok(Measured {
-        table: Table::new(alloc)?,
+        table: Table::new(alloc, hasher)?,
         words: Vec::new(alloc),
     })
 }
 
-/// Times each kind of call: interning texts that are new, interning them in another order where they are there, cloning
+/// Times each kind of call, in a table with this hasher: interning texts that are new, interning them in another order where they are there, cloning
 /// their words in that order, and giving them three times, the last time by their last holder.
-pub fn measure<R: Clock>(
+pub fn measure<R: Clock, H: BuildHasher + Drop>(
     rt: &R,
     alloc: Global,
+    hasher: H,
     texts: &Texts,
     phases: &mut Phases,
 ) -> Result<(), anyhow::Error> {
-    new_table(alloc)?.measure(rt, alloc, texts, phases)
+    new_table(alloc, hasher)?.measure(rt, alloc, texts, phases)
 }

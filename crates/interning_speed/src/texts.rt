@@ -4,6 +4,21 @@ ghost use Rattle.std.specs.Prelude.{◌<◌, ◌≤◌};
 
 use std::alloc::{AllocError, Global};
 
+/// Which texts are made.
+#[derive(Clone, Copy)]
+pub enum Kind {
+    /// Any: 8 to 32 letters.
+    Random,
+    /// Those that someone chose who knows the fixed seed of `TrustedTexts`, under which all of them have one hash: the first half of their
+    /// last block is the state that the block before it leaves, and a product with 0 is 0.
+    Chosen,
+}
+
+/// The chosen text with this number.
+fn chosen(alloc: Global, number: usize) -> Result<String, AllocError> {
+    format!(in alloc; "prefix0000000856J!(^`x8A{number:08}")
+}
+
 /// Random numbers, the same in every run (xorshift: Marsaglia, 2003).
 #[derive(Drop)]
 struct Random {
@@ -38,15 +53,20 @@ impl Random {
         Ok(text)
     }
 
-    /// Adds so many texts.
+    /// Adds so many texts of a kind, which begin with this one.
     fn push_texts(
         &mut self,
         alloc: Global,
+        kind: Kind,
+        from: usize,
         count: usize,
         texts: &mut Vec<String>,
     ) -> Result<(), AllocError> {
-        for _text in 0..count {
-            texts.push(self.text(alloc)?)?;
+        for at in 0..count {
+            texts.push(match kind {
+                Kind::Random => self.text(alloc)?,
+                Kind::Chosen => chosen(alloc, from.wrapping_add(at))?,
+            })?;
         }
         Ok(())
     }
@@ -62,8 +82,8 @@ pub struct Texts {
 }
 
 impl Texts {
-    /// So many texts, and a tenth as many more.
-    pub fn new(alloc: Global, count: usize) -> Result<Texts, AllocError> {
+    /// So many texts of a kind, and a tenth as many more.
+    pub fn new(alloc: Global, kind: Kind, count: usize) -> Result<Texts, AllocError> {
         let mut random = Random {
             state: 0x9e37_79b9_7f4a_7c15,
         };
@@ -72,15 +92,21 @@ impl Texts {
             again: Vec::new(alloc),
             more: Vec::new(alloc),
         };
-        texts.fill(alloc, count, &mut random)?;
+        texts.fill(alloc, kind, count, &mut random)?;
         Ok(texts)
     }
 
     /// Adds so many texts, and a tenth as many more.
-    fn fill(&mut self, alloc: Global, count: usize, random: &mut Random) -> Result<(), AllocError> {
-        random.push_texts(alloc, count, &mut self.first)?;
+    fn fill(
+        &mut self,
+        alloc: Global,
+        kind: Kind,
+        count: usize,
+        random: &mut Random,
+    ) -> Result<(), AllocError> {
+        random.push_texts(alloc, kind, 0, count, &mut self.first)?;
         self.say_again(&shuffled(alloc, count, random)?)?;
-        random.push_texts(alloc, count / 10, &mut self.more)
+        random.push_texts(alloc, kind, count, count / 10, &mut self.more)
     }
 
     /// Adds the first texts once more, in this order.
