@@ -1,6 +1,6 @@
 #!/usr/bin/env python3
 """Tries the scripts by which a user begins: a repository of each kind that tools/begin.py makes, whose example has to print by `rt try`
-what is stored of it, and the program that tools/try_atoms.py leaves, over its stored text and a large one.
+what is stored of it, and the program that tools/try_atoms.py leaves, over its stored text and a large one, and without random bytes.
 
 usage: gate/users_test.py
 """
@@ -13,16 +13,16 @@ import unittest
 from pathlib import Path
 
 import find_tools  # has Python find the next one
-from programs import end_hint
+from programs import compiler, end_hint, kit
 
 TOP = Path(__file__).resolve().parent.parent
 TOOLS = TOP / "tools"
 WORDS = 200_000  # of a text of more than a megabyte, which `rt try` doesn't take
 
 
-def ran(*words, folder=TOP, text=b""):
+def ran(*words, folder=TOP, text=b"", env=None):
     """The status of a command, and what it wrote to each of its outputs."""
-    done = subprocess.run([*words], cwd=folder, input=text, stdout=subprocess.PIPE, stderr=subprocess.PIPE)
+    done = subprocess.run([*words], cwd=folder, input=text, stdout=subprocess.PIPE, stderr=subprocess.PIPE, env=env)
     return done.returncode, done.stdout, done.stderr.decode(errors="replace")
 
 
@@ -33,6 +33,14 @@ def tried(folder, text):
     threading.Thread(target=end_hint, args=[started]).start()
     said, why = started.communicate(text)
     return started.returncode, said, why.decode(errors="replace")
+
+
+def without_random_bytes(room):
+    """The environment in which a command gets no random bytes from the system. What sees to that is made in the room, a folder."""
+    source, library = room / "random.c", room / "random.so"
+    source.write_text("int getentropy(void *room, unsigned long size) { (void)room; (void)size; return -1; }\n", encoding="utf-8")
+    subprocess.run([*compiler(kit()), "-shared", "-fPIC", "-o", library, source], check=True)
+    return {"LD_PRELOAD": str(library)}
 
 
 def stored(folder, name):
@@ -69,9 +77,18 @@ class Begin(unittest.TestCase):
         self.assertEqual(own.read_text(encoding="utf-8"), "kept")
         self.assertNotEqual(ran(TOOLS / "begin.py", "map", self.room / "other")[0], 0)
 
-    def test_the_program_takes_texts_of_any_size(self):
-        status, _, why = ran(TOOLS / "try_atoms.py", self.room)
-        self.assertEqual(status, 0, why)
+
+class Program(unittest.TestCase):
+    @classmethod
+    def setUpClass(cls):
+        room = tempfile.TemporaryDirectory(prefix="users-")
+        cls.addClassCleanup(room.cleanup)
+        cls.room = Path(room.name)
+        status, _, why = ran(TOOLS / "try_atoms.py", cls.room)
+        if status:
+            raise OSError(why)
+
+    def test_it_takes_texts_of_any_size(self):
         crate = TOP / "crates" / "atoms"
         words = stored(crate, "args").decode().split()
         self.assertEqual(ran(self.room / "atoms", *words, text=stored(crate, "stdin"))[:2], (0, stored(crate, "stdout")))
@@ -79,6 +96,15 @@ class Begin(unittest.TestCase):
         lines = b"".join(b"%d %s\n" % (WORDS // len(words), word) for word in words)
         text = b" ".join(WORDS // len(words) * words)
         self.assertEqual(ran(self.room / "atoms", "count", "4", text=text)[:2], (0, lines))
+
+    def test_it_tells_if_the_system_gives_no_random_keys(self):
+        env = without_random_bytes(self.room)
+        for line in (["words"], ["count", "1"], ["count", "4"]):
+            self.assertEqual(ran(self.room / "atoms", *line, text=b"a b", env=env), (1, b"", "atoms: no random keys\n"))
+        for line, text in ((["replay"], b"1 intern tokenised\n1 link\n1 leave\n"), (["generate", "0", "1"], b"sentence\n"), (["check"], b"")):
+            given = ran(self.room / "atoms", *line, text=text)
+            self.assertEqual(given[0], 0)
+            self.assertEqual(ran(self.room / "atoms", *line, text=text, env=env), given)
 
 
 def main():
