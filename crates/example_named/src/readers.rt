@@ -10,6 +10,7 @@ use crate::symbols::{Symbols, only};
 use crate::{Texts, Word};
 use named_set::{FreshName, NamedSet, SetName};
 use std::alloc::{AllocError, Global};
+use std::hash::RandomState;
 use std::marker::Brand;
 use std::sync::Wait;
 use std::thread::{self, Threads};
@@ -80,6 +81,7 @@ fn ask<'s, N: SetName, R: Wait>(
 pub fn declare_and_look_up_all<R: Threads + Wait + Sync>(
     rt: &R,
     alloc: Global,
+    keys: RandomState,
     declared: &String,
     number: u32,
     texts: &Vec<String>,
@@ -87,13 +89,14 @@ pub fn declare_and_look_up_all<R: Threads + Wait + Sync>(
     ensures { IfOk result (λ all. AllZip (λ text found. IsFound (string_bytes declared.now) (Some number) (string_bytes text) found) texts.now.items all.items) }
 {
     let name = FreshName::new(alloc, Buckets::usual())?;
-    declare_and_look_up_all_named::<Brand, R>(rt, alloc, name, declared, number, texts)
+    declare_and_look_up_all_named::<Brand, R>(rt, alloc, keys, name, declared, number, texts)
 }
 
 // The same, in the set with this name.
 fn declare_and_look_up_all_named<N: SetName + Send + Sync, R: Threads + Wait + Sync>(
     rt: &R,
     alloc: Global,
+    keys: RandomState,
     name: FreshName,
     declared: &String,
     number: u32,
@@ -103,13 +106,14 @@ fn declare_and_look_up_all_named<N: SetName + Send + Sync, R: Threads + Wait + S
     ensures { IfOk result (λ all. AllZip (λ text found. IsFound (string_bytes declared.now) (Some number) (string_bytes text) found) texts.now.items all.items) }
 {
     let set = NamedSet::new(alloc, name, Limits::greatest())?;
-    declare_and_look_up_all_in::<N, R>(rt, alloc, &set, declared, number, texts)
+    declare_and_look_up_all_in::<N, R>(rt, alloc, keys, &set, declared, number, texts)
 }
 
 // The same, in this set.
 fn declare_and_look_up_all_in<N: SetName + Send + Sync, R: Threads + Wait + Sync>(
     rt: &R,
     alloc: Global,
+    keys: RandomState,
     set: &Texts<N>,
     declared: &String,
     number: u32,
@@ -119,7 +123,7 @@ fn declare_and_look_up_all_in<N: SetName + Send + Sync, R: Threads + Wait + Sync
 {
     let held = set.intern(rt, declared.as_str())?;
     let name = held.clone_held(rt)?;
-    let symbols = only(alloc, name, number)?;
+    let symbols = only(alloc, keys, name, number)?;
     let results = find_each(rt, alloc, set, &symbols, &held, texts.as_slice())?;
     let all = all_ok(alloc, results)?;
     Ok(all)

@@ -8,17 +8,19 @@ use crate::{Texts, Word};
 use named_set::{FreshName, NamedSet, SetName};
 use std::alloc::Global;
 use std::collections::HashMap;
+use std::hash::RandomState;
 use std::marker::{Brand, Model};
 use std::sync::Wait;
 use std::thread::{self, Threads};
 use text_forms::Fault;
 use text_forms::word::{Buckets, Limits};
 
-/// What names stand for. It is a map by words: a call hashes one number and compares it, and reads no text. In a clause it is what is
-/// declared: each name as a held word, with what it stands for.
+/// What names stand for. It is a map by words: a call hashes one number and compares it, and reads no text. It hashes under random keys:
+/// under a fixed seed, names can be chosen whose words collide. In a clause it is what is declared: each name as a held word, with what it
+/// stands for.
 #[derive(Drop)]
 pub struct Symbols<'s, N: SetName> {
-    numbers: HashMap<Word<'s, N>, u32>,
+    numbers: HashMap<Word<'s, N>, u32, RandomState>,
 }
 
 impl<'s, N: SetName> Model for Symbols<'s, N> {
@@ -30,12 +32,12 @@ impl<'s, N: SetName> Model for Symbols<'s, N> {
 }
 
 impl<'s, N: SetName> Symbols<'s, N> {
-    /// Symbols without names.
-    pub fn new(alloc: Global) -> Self
+    /// Symbols without names, in a map under these keys. A program draws them once, by `RandomState::new(&rt)`.
+    pub fn new(alloc: Global, keys: RandomState) -> Self
         ensures { result ≡ [] }
     {
         Symbols {
-            numbers: HashMap::new(alloc),
+            numbers: HashMap::with_hasher(alloc, keys),
         }
     }
 
@@ -67,10 +69,11 @@ impl<'s, N: SetName> Symbols<'s, N> {
     }
 }
 
-/// Declares one text in symbols without names, and looks another up: it is found exactly if the two are one text.
+/// Declares one text in symbols without names, whose map is under these keys, and looks another up: it is found exactly if the two are one text.
 pub fn declare_and_look_up<R: Wait>(
     rt: &R,
     alloc: Global,
+    keys: RandomState,
     declared: &String,
     number: u32,
     asked: &String,
@@ -78,13 +81,14 @@ pub fn declare_and_look_up<R: Wait>(
     ensures { IfOk result (λ found. IsFound (string_bytes declared.now) (Some number) (string_bytes asked.now) found) }
 {
     let name = FreshName::new(alloc, Buckets::usual())?;
-    declare_and_look_up_named::<Brand, R>(rt, alloc, name, declared, number, asked)
+    declare_and_look_up_named::<Brand, R>(rt, alloc, keys, name, declared, number, asked)
 }
 
 // The same, in the set with this name.
 fn declare_and_look_up_named<N: SetName, R: Wait>(
     rt: &R,
     alloc: Global,
+    keys: RandomState,
     name: FreshName,
     declared: &String,
     number: u32,
@@ -94,13 +98,22 @@ fn declare_and_look_up_named<N: SetName, R: Wait>(
     ensures { IfOk result (λ found. IsFound (string_bytes declared.now) (Some number) (string_bytes asked.now) found) }
 {
     let set = NamedSet::new(alloc, name, Limits::greatest())?;
-    declare_and_look_up_in::<N, R>(rt, alloc, &set, declared.as_str(), number, asked.as_str())
+    declare_and_look_up_in::<N, R>(
+        rt,
+        alloc,
+        keys,
+        &set,
+        declared.as_str(),
+        number,
+        asked.as_str(),
+    )
 }
 
 // The same, in this set.
 fn declare_and_look_up_in<N: SetName, R: Wait>(
     rt: &R,
     alloc: Global,
+    keys: RandomState,
     set: &Texts<N>,
     declared: &str,
     number: u32,
@@ -110,7 +123,7 @@ fn declare_and_look_up_in<N: SetName, R: Wait>(
 {
     let declared = set.intern(rt, declared)?;
     let asked = set.intern(rt, asked)?;
-    let found = look_up_beside(alloc, declared, number, &asked)?;
+    let found = look_up_beside(alloc, keys, declared, number, &asked)?;
     Ok(found)
 }
 
@@ -118,6 +131,7 @@ fn declare_and_look_up_in<N: SetName, R: Wait>(
 pub fn declare_and_look_up_by_threads<R: Threads + Wait + Sync>(
     rt: &R,
     alloc: Global,
+    keys: RandomState,
     declared: &String,
     number: u32,
     asked: &String,
@@ -125,13 +139,14 @@ pub fn declare_and_look_up_by_threads<R: Threads + Wait + Sync>(
     ensures { IfOk result (λ found. IsFound (string_bytes declared.now) (Some number) (string_bytes asked.now) found) }
 {
     let name = FreshName::new(alloc, Buckets::usual())?;
-    declare_and_look_up_by_threads_named::<Brand, R>(rt, alloc, name, declared, number, asked)
+    declare_and_look_up_by_threads_named::<Brand, R>(rt, alloc, keys, name, declared, number, asked)
 }
 
 // The same, in the set with this name.
 fn declare_and_look_up_by_threads_named<N: SetName + Send + Sync, R: Threads + Wait + Sync>(
     rt: &R,
     alloc: Global,
+    keys: RandomState,
     name: FreshName,
     declared: &String,
     number: u32,
@@ -144,6 +159,7 @@ fn declare_and_look_up_by_threads_named<N: SetName + Send + Sync, R: Threads + W
     declare_and_look_up_by_threads_in::<N, R>(
         rt,
         alloc,
+        keys,
         &set,
         declared.as_str(),
         number,
@@ -155,6 +171,7 @@ fn declare_and_look_up_by_threads_named<N: SetName + Send + Sync, R: Threads + W
 fn declare_and_look_up_by_threads_in<N: SetName + Send + Sync, R: Threads + Wait + Sync>(
     rt: &R,
     alloc: Global,
+    keys: RandomState,
     set: &Texts<N>,
     declared: &str,
     number: u32,
@@ -165,13 +182,14 @@ fn declare_and_look_up_by_threads_in<N: SetName + Send + Sync, R: Threads + Wait
     let (declared, asked) = thread::join(rt, || set.intern(rt, declared), || set.intern(rt, asked));
     let declared = declared?;
     let asked = asked?;
-    let found = look_up_beside(alloc, declared, number, &asked)?;
+    let found = look_up_beside(alloc, keys, declared, number, &asked)?;
     Ok(found)
 }
 
 // Declares one word in symbols without names, and looks another up.
 fn look_up_beside<N: SetName>(
     alloc: Global,
+    keys: RandomState,
     declared: Word<N>,
     number: u32,
     asked: &Word<N>,
@@ -179,20 +197,21 @@ fn look_up_beside<N: SetName>(
     ensures { IfOk result (λ found. IsFound declared.entry.text (Some number) asked.now.text found) }
 {
     declared.agree(asked);
-    let symbols = only(alloc, declared, number)?;
+    let symbols = only(alloc, keys, declared, number)?;
     Ok(symbols.look_up(asked))
 }
 
 /// Symbols with one name.
 pub(crate) fn only<'s, N: SetName>(
     alloc: Global,
+    keys: RandomState,
     name: Word<'s, N>,
     number: u32,
 ) -> Result<Symbols<'s, N>, Fault>
     ensures number { IfOk result (λ symbols. number_at symbols name.entry.word ≡ Some number) }
     ensures only { IfOk result (λ symbols. HasOnly symbols name.entry.word) }
 {
-    let mut symbols = Symbols::new(alloc);
+    let mut symbols = Symbols::new(alloc, keys);
     symbols.declare(name, number)?;
     Ok(symbols)
 }

@@ -26,12 +26,13 @@ pub use generated::{prints_well, tables_of_names};
 pub use headers::header_name;
 pub use json::{Priced, load, priced_json, save, through_json};
 pub use lists::list_names;
-pub use prices::{price_of, price_of_text, set_price};
+pub use prices::{Prices, no_prices, price_of, price_of_text, set_price};
 pub use sets::large_set;
 pub use sharing::{agree, agree_in_scope};
 use std::alloc::Global;
 use std::cmp::Ordering;
 use std::collections::HashMap;
+use std::hash::RandomState;
 use std::sync::Wait;
 use string_cache::dynamic_set::Set;
 use string_cache::{DefaultAtom, Fault};
@@ -50,10 +51,11 @@ pub struct Compared {
     pub price: Option<u32>,
 }
 
-/// Compares two names by their atoms, and looks for the second in a map that has a price for the first.
+/// Compares two names by their atoms, and looks for the second in a map under these keys that has a price for the first.
 pub fn compare_names<R: Wait>(
     rt: &R,
     alloc: Global,
+    keys: RandomState,
     first: &str,
     second: &str,
     price: u32,
@@ -68,7 +70,7 @@ pub fn compare_names<R: Wait>(
     let first = DefaultAtom::from_str_in(rt, &set, first)?;
     let second = DefaultAtom::from_str_in(rt, &set, second)?;
     let capitals = first.to_ascii_uppercase_in(rt, &set)?;
-    let mut prices = HashMap::new(alloc);
+    let mut prices = HashMap::with_hasher(alloc, keys);
     prices.insert(first.clone_atom(rt)?, price)?;
     Ok(Compared {
         is_same: first == second,

@@ -1,15 +1,26 @@
 //! A map whose keys are atoms.
 
-ghost use Rattle.std.specs.Prelude.{◌≡◌, ◌≢◌, ◌≤◌, ℕ, List, IfOk, IfSome, Ok, OnOk, Some, length};
+ghost use Rattle.std.specs.Prelude.{◌≡◌, ◌≢◌, ◌≤◌, ℕ, List, [], IfOk, IfSome, Ok, OnOk, Some, length};
+ghost use Rattle.std.specs.HashMap.{hasher_of};
 ghost use Rattle.example_sets.specs.Prices.{price_in};
 
+use std::alloc::Global;
 use std::collections::HashMap;
+use std::hash::RandomState;
 use std::sync::Wait;
 use string_cache::dynamic_set::Set;
 use string_cache::{DefaultAtom, EmptyStaticAtomSet, Fault};
 
-/// Prices by name.
-pub type Prices<'s> = HashMap<DefaultAtom<'s>, u32>;
+/// Prices by name. The map hashes under random keys: under a fixed seed, names can be chosen that collide in it.
+pub type Prices<'s> = HashMap<DefaultAtom<'s>, u32, RandomState>;
+
+/// No prices, in a map under these keys. A program draws them once, by `RandomState::new(&rt)`.
+pub fn no_prices<'s>(alloc: Global, keys: RandomState) -> Prices<'s>
+    ensures empty { result.entries ≡ [] }
+    ensures keys { hasher_of result ≡ keys }
+{
+    HashMap::with_hasher(alloc, keys)
+}
 
 /// Puts a price on a name.
 pub fn set_price<'s>(

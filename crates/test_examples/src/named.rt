@@ -13,6 +13,7 @@ use std::marker::Brand;
 use std::process::Abort;
 use std::sync::Wait;
 use std::thread::Threads;
+use test_samples::keys;
 use text_forms::Fault;
 use text_forms::word::{Buckets, Limits};
 
@@ -67,9 +68,10 @@ fn found<R: Threads + Wait + Sync + Abort>(
     long: &String,
     asked: &String,
 ) -> Option<u32> {
+    let keys = keys(1).expect(rt, "keys");
     let found = match crew {
-        Crew::One => declare_and_look_up(rt, alloc, long, 7, asked),
-        Crew::Two => declare_and_look_up_by_threads(rt, alloc, long, 7, asked),
+        Crew::One => declare_and_look_up(rt, alloc, keys, long, 7, asked),
+        Crew::Two => declare_and_look_up_by_threads(rt, alloc, keys, long, 7, asked),
     };
     found.expect(rt, "an answer")
 }
@@ -105,7 +107,8 @@ fn eight_find<R: Threads + Wait + Sync + Abort>(rt: &R, alloc: Global) -> bool {
         alloc,
         &[asked, "", asked, "Größe", asked, "長さ", asked, "🦀"],
     );
-    let found = declare_and_look_up_all(rt, alloc, &long, 7, &texts).expect(rt, "an answer");
+    let keys = keys(1).expect(rt, "keys");
+    let found = declare_and_look_up_all(rt, alloc, keys, &long, 7, &texts).expect(rt, "an answer");
     let wanted = [Some(7), None, Some(7), None, Some(7), None, Some(7), None];
     are_same(found.as_slice(), &wanted)
 }
@@ -187,7 +190,7 @@ fn eight_are_told<N: SetName + Send + Sync, R: Threads + Wait + Sync + Abort>(
 ) -> bool {
     let long = long_text(rt, alloc);
     let long = long.as_str();
-    let mut symbols = Symbols::new(alloc);
+    let mut symbols = Symbols::new(alloc, keys(1).expect(rt, "keys"));
     let names = [(long, 300), ("Größe", 1), ("長さ", 2), ("Größe", 3)];
     declare_all(rt, set, &mut symbols, &names).expect(rt, "room");
     are_told_of_copies::<N, R>(rt, alloc, set, &symbols, long)

@@ -3,20 +3,21 @@
 use crate::{assert_for, assert_that};
 use counted_cell::{Label, Owner};
 use example_sets::{
-    Compared, Dishes, Priced, Tag, Tags, agree, agree_in_scope, compare_names, compute_something,
-    finds_all, header_name, is_field, large_set, length_by_share, load, price_of, price_of_text,
-    priced_json, prints_well, save, set_price, tables_of_names, take_next, through_json,
+    Compared, Dishes, Priced, Prices, Tag, Tags, agree, agree_in_scope, compare_names,
+    compute_something, finds_all, header_name, is_field, large_set, length_by_share, load,
+    no_prices, price_of, price_of_text, priced_json, prints_well, save, set_price, tables_of_names,
+    take_next, through_json,
 };
 use node_chain::NodeChain;
 use std::alloc::Global;
 use std::cmp::Ordering;
-use std::collections::HashMap;
 use std::process::Abort;
 use std::sync::Wait;
 use std::thread::Threads;
 use string_cache::dynamic_set::Set;
 use string_cache::static_sets::{StaticAtomSet, StaticTables};
 use string_cache::{Atom, DefaultAtom, EmptyStaticAtomSet, Fault};
+use test_samples::keys;
 
 /// A set without static texts.
 type DefaultSet = Set<EmptyStaticAtomSet>;
@@ -43,7 +44,7 @@ const NAMES: [(&str, &str, bool, Ordering, bool); 3] = [
 
 /// What is found of two names where the first costs 40.
 fn compared<R: Wait>(rt: &R, alloc: Global, first: &str, second: &str) -> Option<Compared> {
-    compare_names(rt, alloc, first, second, 40).ok()
+    compare_names(rt, alloc, keys(1)?, first, second, 40).ok()
 }
 
 #[test]
@@ -142,12 +143,9 @@ fn atoms_go_through_json(rt: HostRuntime) {
     assert_that(&rt, goes_through(&rt, &set, "interned", "\"interned\""));
 }
 
-/// What names cost.
-type Prices<'s> = HashMap<DefaultAtom<'s>, u32>;
-
 /// A price list with one name.
 fn one_price<'s, R: Wait + Abort>(rt: &R, set: &'s DefaultSet) -> Prices<'s> {
-    let mut prices = HashMap::new(set.allocator());
+    let mut prices = no_prices(set.allocator(), keys(1).expect(rt, "keys"));
     set_price(&mut prices, intern(rt, set, "pear tree"), 40).expect(rt, "room");
     prices
 }
