@@ -24,8 +24,8 @@ struct Usage {
 struct Scope {
     /// Where it begins.
     line: u64,
-    /// By their words, each of which the table holds once.
-    names: IndexMap<u64, Usage>,
+    /// By their words, each of which the table holds once. The word of a short name is its letters, so the map is under keys as well.
+    names: IndexMap<u64, Usage, RandomState>,
 }
 
 impl Scope {
@@ -43,16 +43,18 @@ impl Scope {
 #[derive(Drop)]
 pub struct Scopes {
     alloc: Global,
+    keys: RandomState,
     table: Table<EmptyStaticAtomSet>,
     open: Vec<Scope>,
     lines: String,
 }
 
 impl Scopes {
-    /// No block. Who wrote the program chose its names, so the table finds them under these keys.
+    /// No block. Who wrote the program chose its names, so the table and the blocks find them under these keys.
     pub fn new(alloc: Global, keys: RandomState) -> Result<Self, Fault> {
         Ok(Scopes {
             alloc,
+            keys,
             table: Table::new(alloc, keys)?,
             open: Vec::new(alloc),
             lines: String::new(alloc),
@@ -66,7 +68,7 @@ impl Scopes {
 
     /// A block begins in this line.
     pub fn open(&mut self, line: u64) -> Result<(), AllocError> {
-        let names = IndexMap::new(self.alloc);
+        let names = IndexMap::with_hasher(self.alloc, self.keys);
         self.open.push(Scope { line, names })?;
         Ok(())
     }

@@ -7,6 +7,7 @@ ghost use Rattle.example_tables.specs.Prices.{IsPriceOf};
 ghost use Rattle.example_tables.specs.Sharing.{TellsShared};
 
 use std::collections::HashMap;
+use std::hash::RandomState;
 use string_cache_core::Fault;
 use string_cache_core::static_sets::StaticTables;
 use string_cache_core::table::Table;
@@ -115,10 +116,10 @@ pub fn lent_text<S: StaticTables>(table: &Table<S>, word: u64) -> Option<&str>
     table.text(word)
 }
 
-/// The price of a name, which is looked up and not interned. The keys are words.
+/// The price of a name, which is looked up and not interned. The map is by words; that of a short name is its letters, so it hashes under keys.
 pub fn price_of<S: StaticTables>(
     table: &Table<S>,
-    prices: &HashMap<u64, u32>,
+    prices: &HashMap<u64, u32, RandomState>,
     name: &str,
 ) -> Option<u32>
     ensures { IsPriceOf S.tables (map_of table.now) prices.now.entries name.now result }

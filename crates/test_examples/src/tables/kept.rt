@@ -28,7 +28,7 @@ pub fn filled<R: Abort>(rt: &R, alloc: Global, names: &[&str]) -> Plain {
 
 /// The same, unless it is refused.
 fn made_of(alloc: Global, names: &[&str]) -> Option<Plain> {
-    let keys = keys(1).ok()?;
+    let keys = keys(1)?;
     table_of(alloc, keys, names).ok()
 }
 
@@ -135,7 +135,7 @@ fn is_full_at(table: &mut Plain, holders: u64) -> bool {
 
 /// Whether a table with so many holders is full at them. `None` where there is none.
 fn is_limited(alloc: Global, holders: u64) -> Option<bool> {
-    let keys = keys(1).ok()?;
+    let keys = keys(1)?;
     match table_with_holders(alloc, keys, holders) {
         Ok(Some(mut table)) => Some(is_full_at(&mut table, holders)),
         _ => None,

@@ -29,7 +29,7 @@ fn a_table_is_read_by_two_threads(rt: HostRuntime) {
 
 /// A new program, unless it is refused.
 fn new_program(alloc: Global) -> Option<Program> {
-    let keys = keys(1).ok()?;
+    let keys = keys(1)?;
     Program::new(alloc, keys).ok()
 }
 

@@ -9,8 +9,8 @@ use example_tables::{
 };
 use std::alloc::Global;
 use std::collections::HashMap;
+use std::hash::RandomState;
 use std::process::Abort;
-use string_cache_core::Fault;
 use string_cache_core::table::Table;
 use test_samples::{One, keys};
 
@@ -162,15 +162,15 @@ fn texts_are_lent(rt: HostRuntime) {
 }
 
 /// Prices by word, with one of this word.
-fn one_price(alloc: Global, word: u64) -> Result<HashMap<u64, u32>, Fault> {
-    let mut prices = HashMap::new(alloc);
-    prices.insert(word, 40)?;
-    Ok(prices)
+fn one_price(alloc: Global, word: u64) -> Option<HashMap<u64, u32, RandomState>> {
+    let mut prices = HashMap::with_hasher(alloc, keys(1)?);
+    prices.insert(word, 40).ok()?;
+    Some(prices)
 }
 
 /// The price of a name, where one that the table knows has a price.
 fn priced(alloc: Global, table: &Plain, known: &str, name: &str) -> Option<u32> {
-    let prices = one_price(alloc, table.get(known)?).ok()?;
+    let prices = one_price(alloc, table.get(known)?)?;
     price_of(table, &prices, name)
 }
 
