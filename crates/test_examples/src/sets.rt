@@ -1,7 +1,7 @@
 //! What the small programs answer, with worked values.
 
 use crate::{assert_for, assert_that};
-use counted_cell::{Label, Owner};
+use counted_cell::{FreeGrant, Label, Owner};
 use example_sets::{
     Compared, Dishes, Priced, Prices, Tag, Tags, agree, agree_in_scope, compare_names,
     compute_something, finds_all, header_name, is_field, large_set, length_by_share, load,
@@ -248,7 +248,7 @@ fn bytes_by_share<R: Wait>(rt: &R, alloc: Global, text: &str, is_full: bool) -> 
         ticket: 7,
         limit: if is_full { 1 } else { 2 },
     };
-    match Owner::new(alloc, label, 9, text) {
+    match Owner::new::<FreeGrant>(alloc, label, 9, text) {
         Ok((owner, first)) => {
             let len = length_by_share(rt, &owner);
             drop(first.give());
