@@ -114,7 +114,7 @@ fn write_counts<R: Threads + Wait + Sync, K: Sink>(
 
 /// Reads all, counts its words by `n` workers, and writes a line for each distinct one. They are interned in a set of this
 /// call's own, whose number of buckets fits the input. While they are counted, words are hashed under these keys, on which nothing depends
-/// but the time it takes: under random ones nobody can choose an input that takes long.
+/// but the time it takes: under random ones nobody can choose words that collide there.
 ///
 /// `Read` and `Text`, input that isn't UTF-8, come before anything is written, and so does `Intern(Memory)` while the
 /// input is read. After another fault a beginning of the lines is written.

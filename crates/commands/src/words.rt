@@ -155,7 +155,7 @@ fn list_words<I: Interner, S: Source, K: Sink>(
 /// For each word that the reader gives, a line that tells how often it came before. The words are interned in the set,
 /// repeated ones again, and the atom of each place is held to the end of the call; inline ones hold nothing of the set. To tell how often
 /// they came, words are hashed under these keys, on which nothing depends but the time it takes: under random ones, as `RandomState::new`
-/// draws them, nobody can choose an input that takes long.
+/// draws them, nobody can choose words that collide there.
 ///
 /// `Read` and `Text`, input that isn't UTF-8, come before anything is written, and so does `Intern(Memory)` while the
 /// input is read. After another fault a beginning of the lines is written.
