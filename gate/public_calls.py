@@ -4,13 +4,13 @@ import re
 from dataclasses import dataclass
 
 # The crates whose calls the page lists.
-LISTED = ("text_forms", "string_cache_core", "atomic_steps", "counted_set", "string_cache", "table_generator", "replay_script")
-LISTED += ("text_streams", "word_counts", "commands")
+LISTED = ("text_forms", "interner_table", "atomic_steps", "counted_set", "named_set", "string_cache", "table_generator")
+LISTED += ("replay_script", "text_streams", "word_counts", "commands")
 
 USE = re.compile(r"^ *(?:pub )?(?:ghost )?use ([^;]+?);?$", re.M)
 MODULE = re.compile(r"^((?:#\[[^\n]*\n)*)(pub )?mod (\w+);", re.M)
 EXPORT = re.compile(r"^((?:#\[[^\n]*\n)*)pub use ([^;]+);", re.M)
-TYPE = re.compile(r"^pub (?:struct|enum|trait) (\w+)", re.M)
+TYPE = re.compile(r"^pub (?:struct|enum|trait|type) (\w+)", re.M)
 STEP = re.compile(
     r"^(?:(?P<pub>pub )?(?P<kind>impl|trait)\b(?P<head>[^{]*)\{|\}|"
     r"(?: {4})?(?P<marks>(?:#\[[^\n]*\n *|///[^\n]*\n *)*)(?P<is_pub>pub )?fn (?P<name>\w+)(?P<form>.*?)(?=\n\s+(?:requires|ensures)|\s*\{|;\n))",
@@ -22,13 +22,14 @@ ROW = re.compile(r"^\| `([^`|]+)` \| `(\w+)((?:<[^`]*?>)?\([^`]*)` \| (.*) \|$",
 @dataclass(frozen=True)
 class Call:
     """A call: the type or trait that it is of, or '' where it stands by itself; its name; its form, as it is compared; the first sentence of
-    its comment; and whether the page is to list it."""
+    its comment; whether the page is to list it; and its crate."""
 
     owner: str
     name: str
     form: str
     meaning: str
     is_shown: bool
+    crate: str
 
 
 def packed(text):
@@ -76,8 +77,8 @@ def first_sentence(marks):
     return re.split(r"(?<=[.:])\s+(?=[A-Z`])", text)[0]
 
 
-def calls_in(text, is_shown):
-    """The calls in a file. `is_shown` says of a type or trait, or of a call of the file's own, whether it is public."""
+def calls_in(text, is_shown, crate):
+    """The calls in a file of a crate. `is_shown` says of a type or trait, or of a call of the file's own, whether it is public."""
     owner, is_trait = "", False
     for step in STEP.finditer(text):
         if step["kind"]:
@@ -86,7 +87,7 @@ def calls_in(text, is_shown):
             owner, is_trait = "", False
         elif owner is not None and (step["is_pub"] or is_trait):
             is_listed = is_shown(owner, step["name"]) and "doc(hidden)" not in step["marks"]
-            yield Call(owner, step["name"], form_of(step["form"], owner), first_sentence(step["marks"]), is_listed)
+            yield Call(owner, step["name"], form_of(step["form"], owner), first_sentence(step["marks"]), is_listed, crate)
 
 
 def calls_of(folder):
@@ -97,7 +98,7 @@ def calls_of(folder):
         for marks, path in EXPORT.findall(text) if is_public else ():
             public |= {it.rpartition("::")[2] for it in imports(f"use {path};")} if "hidden" not in marks else set()
     for text, is_public in files:
-        yield from calls_in(text, lambda owner, name, is_public=is_public: owner in public if owner else is_public or name in public)
+        yield from calls_in(text, lambda owner, name, is_public=is_public: owner in public if owner else is_public or name in public, folder.name)
 
 
 def listed_calls(top):
@@ -113,7 +114,9 @@ def row_of(found, calls):
     """The call that a row of the page means, or None, and the row as the sources have it."""
     owner = re.sub(r"<.*", "", found[1].rpartition("::")[2])
     owner = owner if owner[:1].isupper() else ""
-    call = next((it for it in calls.get((owner, found[2]), ()) if it.form == form_of(found[3], owner)), None)
+    alike = [it for it in calls.get((owner, found[2]), ()) if it.form == form_of(found[3], owner)]
+    # Two crates may have a type of one name: then the path begins with the second one's.
+    call = next((it for it in alike if found[1].startswith(f"{it.crate}::")), alike[0] if alike else None)
     meaning = call.meaning.replace("|", "\\|") if call else ""
     return call, f"| `{found[1]}` | `{found[2]}{found[3]}` | {meaning} |"
 

@@ -4,7 +4,7 @@
 every wrong body is tried.
 
 For each crate: its layout is that of `rt fmt`, each old text of its wrong bodies stands once, and `rt check` proves it. Then come the
-tests of these crates and of all that stand on them, each run once.
+tests of these crates and of all that stand on them, each run once. The old texts of the wrong bodies of clients are looked for each time.
 
 usage: gate/quick.py [CRATE ..]     without names: the crates that differ from the last commit
 """
@@ -32,10 +32,10 @@ def differing():
     return {path.split("/")[1] for path in paths if path.count("/") > 1}
 
 
-def texts_stand(name):
-    """Whether each old text of the crate's wrong bodies stands once, and what to say."""
-    folder, wrong = TOP / "crates" / name, []
-    for path in sorted(folder.glob("*/*.edit")):
+def all_stand(edits, folder):
+    """Whether each old text of these wrong bodies stands once in the files of a folder, and what to say."""
+    wrong = []
+    for path in sorted(edits):
         try:
             if path.parent.name == "refused":
                 refused_bodies.read(path)  # each text stands in the crate's own
@@ -44,6 +44,17 @@ def texts_stand(name):
         except BadEdit as why:
             wrong.append(f"{path.name}: {why}")
     return not wrong, "; ".join(wrong) or "the old texts of its wrong bodies stand once each"
+
+
+def texts_stand(name):
+    """Whether each old text of the crate's wrong bodies stands once, and what to say."""
+    folder = TOP / "crates" / name
+    return all_stand(folder.glob("*/*.edit"), folder)
+
+
+def clients_stand(name):
+    """Whether each old text of the wrong bodies of clients stands once, and what to say."""
+    return all_stand((TOP / "gate" / "clients_caught").glob("*.edit"), TOP / name)
 
 
 def is_laid_out(name):
@@ -86,6 +97,7 @@ def main():
         print(f"{name}: {'' if well else 'WRONG: '}{text}", flush=True)
         results.append(well)
 
+    tell(clients_stand, "clients")
     with ThreadPoolExecutor(2) as workers:
         running = [workers.submit(tell, tests_pass, name) for name in above]
         for name in named:

@@ -42,7 +42,9 @@ SECONDS = 60  # for one test
 SAID = 400  # how much is told of what was said
 LIBRARY = "string_cache_c"  # its tests are programs in other languages
 # Whose tests see a crate, beside those that name it in crates.txt: they call it by the names that a crate above gives again.
-SEEN_BY = {"text_forms": {"test_table", "test_across"}, "atomic_steps": {"test_table"}}
+SEEN_BY = {
+    "text_forms": {"test_table", "test_across"}, "interner_table": {"test_table", "test_atoms", "test_across"}, "atomic_steps": {"test_table"},
+}
 
 
 @dataclass(eq=False)

@@ -182,7 +182,7 @@ def small_crate():
         crate, program = Path(top) / "crates" / "mine", Path(top) / "atoms"
         (crate / "src").mkdir(parents=True)
         (crate / "src" / "lib.rt").write_text("//! Soups.\n#![tactic(auto)]\n\npub mod soups;\n", encoding="utf-8")
-        (Path(top) / "crates.txt").write_text("mine: string_cache string_cache_core\n", encoding="utf-8")
+        (Path(top) / "crates.txt").write_text("mine: text_forms string_cache\n", encoding="utf-8")
         program.write_text(PROGRAM, encoding="utf-8")
         program.chmod(0o755)
         yield crate, program

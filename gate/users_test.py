@@ -68,6 +68,11 @@ class Begin(unittest.TestCase):
     def test_a_repository_over_tables_runs(self):
         self.runs("table", "example_scopes")
 
+    def test_a_table_is_begun_over_two_crates(self):
+        self.assertEqual(ran(TOOLS / "begin.py", "table", self.room / "few")[0], 0)
+        begun = {path.name for path in (self.room / "few" / "crates").iterdir()}
+        self.assertEqual(begun, {"text_forms", "interner_table", "example_scopes"})
+
     def test_what_is_there_stays(self):
         own = self.room / "mine"
         own.write_text("kept", encoding="utf-8")

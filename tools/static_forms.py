@@ -402,7 +402,7 @@ pub struct {type}Tables;
 
 {words}impl PackedAtomSet for {type}Tables {{
     ghost use Rattle.std.proofs.Common.{{lit<, refl}};
-    ghost use Rattle.string_cache_core.specs.Packed.{{packed}};
+    ghost use Rattle.text_forms.specs.Packed.{{packed}};
     ghost use Rattle.{crate}.specs.declared.{path}.TheConstants.{{{constant}_DISPS, {constant}_HASHES, {constant}_SPANS, {constant}_TEXT}};
 
     ghost text = {{ {constant}_TEXT.now }};

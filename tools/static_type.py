@@ -10,7 +10,7 @@ word. A name of up to 7 bytes is inline under any type, so it gets a constant an
 name, or the same as another, one stands behind it, after a tab.
 
 Packed tables hold all texts in one. The checker takes thousands of them, where it takes some hundreds that are listed one by one as in the
-original. A packed type's constants stand with its tables, as `NamesTables::BLOCKQUOTE`, and its crate uses `string_cache_core` too.
+original. A packed type's constants stand with its tables, as `NamesTables::BLOCKQUOTE`, and its crate uses `text_forms` too.
 
 The program `atoms` makes the tables, so it has to be built: `cd crates/atoms && rt run -- check < /dev/null`. With --tables the standard
 input has what it printed, in place of names, and the module has the type alone: no alias, no constants and no test.

@@ -1,10 +1,16 @@
-//! What `string_cache` 0.11 and 0.8 do differently, as 0.11 does it: hashes of 64 bits, and a text of at most 7 bytes is inline, even if it is
-//! listed.
+//! What `string_cache` 0.11 and 0.8 do differently, as 0.11 does it: hashes of 64 bits, a text of at most 7 bytes is inline, even if it is
+//! listed, and an atom is lent as its bytes, too.
 
 use crate::atom::Atom;
 use crate::static_sets::StaticAtomSet;
 use interned_names::Hashes;
 use std::hash::Hasher;
+
+impl<Static: StaticAtomSet> AsRef<[u8]> for Atom<Static> {
+    fn as_ref(&self) -> &[u8] {
+        self.as_bytes()
+    }
+}
 
 /// What `get_hash` answers.
 pub(crate) type TextHash = u64;

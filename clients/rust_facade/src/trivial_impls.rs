@@ -47,12 +47,6 @@ impl<Static: StaticAtomSet> AsRef<str> for Atom<Static> {
     }
 }
 
-impl<Static: StaticAtomSet> AsRef<[u8]> for Atom<Static> {
-    fn as_ref(&self) -> &[u8] {
-        self.as_bytes()
-    }
-}
-
 impl<Static: StaticAtomSet> fmt::Display for Atom<Static> {
     fn fmt(&self, out: &mut fmt::Formatter<'_>) -> fmt::Result {
         fmt::Display::fmt(self.as_str(), out)

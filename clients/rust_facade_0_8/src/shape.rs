@@ -1,4 +1,5 @@
-//! What `string_cache` 0.11 and 0.8 do differently, as 0.8 does it: hashes of 32 bits, and a text that is listed is static, however short it is.
+//! What `string_cache` 0.11 and 0.8 do differently, as 0.8 does it: hashes of 32 bits, a text that is listed is static, however short it is, and an
+//! atom has one `as_ref`, which lends its text, so that nothing has to say which is meant.
 
 use crate::atom::Atom;
 use crate::static_sets::StaticAtomSet;

@@ -37,6 +37,13 @@ fn a_constant_stands_in_a_match() {
     assert_eq!(["div", "span", "blockquote"].map(form), [1, 2, 2]);
 }
 
+/// `as_ref` alone says which, where 0.11 has two.
+#[test]
+fn an_atom_is_lent_in_one_way() {
+    let atom = DefaultAtom::from("a longer name");
+    assert_eq!(format!("{:?} {}", atom.as_ref(), atom.as_ref().len()), "\"a longer name\" 13");
+}
+
 #[test]
 fn the_empty_text_is_static() {
     assert_eq!(EmptyStaticAtomSet::empty_string_index(), 0);

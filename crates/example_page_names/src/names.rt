@@ -2269,7 +2269,7 @@ impl PageNamesTables {
 
 impl PackedAtomSet for PageNamesTables {
     ghost use Rattle.std.proofs.Common.{lit<, refl};
-    ghost use Rattle.string_cache_core.specs.Packed.{packed};
+    ghost use Rattle.text_forms.specs.Packed.{packed};
     ghost use Rattle.example_page_names.specs.declared.names.TheConstants.{PAGE_NAMES_DISPS, PAGE_NAMES_HASHES, PAGE_NAMES_SPANS, PAGE_NAMES_TEXT};
 
     ghost text = { PAGE_NAMES_TEXT.now };

@@ -2,13 +2,13 @@
 
 use crate::letters::is_keyword;
 use indexmap::IndexMap;
+use interner_table::Fault;
+use interner_table::static_sets::EmptyStaticAtomSet;
+use interner_table::table::Table;
 use std::alloc::{AllocError, Global};
 use std::fmt;
 use std::fmt::Write;
 use std::hash::RandomState;
-use string_cache_core::Fault;
-use string_cache_core::static_sets::EmptyStaticAtomSet;
-use string_cache_core::table::Table;
 
 /// What is known of a name.
 #[derive(Clone, Copy)]

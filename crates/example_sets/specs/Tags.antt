@@ -1,6 +1,6 @@
 -- The tables of tags.
 use Rattle.std.specs.Prelude.{[], ◌∷◌, codes}
-use Rattle.string_cache_core.specs.Tables.{Tables}
+use Rattle.text_forms.specs.Tables.{Tables}
 
 -- what `TAGS` holds
 abbrev pub tag_tables : Tables

@@ -1,7 +1,7 @@
 //! Sets of other sizes.
 
 ghost use Rattle.std.specs.Prelude.{◌≡◌, ◌-◌, IfOk};
-ghost use Rattle.string_cache_core.specs.Layout.{holder_bound, serial_bound};
+ghost use Rattle.text_forms.specs.Layout.{holder_bound, serial_bound};
 
 use std::alloc::Global;
 use string_cache::dynamic_set::Set;

@@ -2,7 +2,7 @@
 
 ghost use Rattle.std.specs.Prelude.{◌≡◌, ◌<◌, ◌⊎◌, ◌↔◌, codes, length, IsTrue};
 ghost use Rattle.std.specs.List.{All, Contains};
-ghost use Rattle.string_cache_core.specs.Tables.{IsPerfectTable, form_of_text, is_static_form};
+ghost use Rattle.text_forms.specs.Tables.{IsPerfectTable, form_of_text, is_static_form};
 ghost use Rattle.example_sets.specs.Tags.{tag_tables};
 
 use string_cache::{Atom, PhfStrSet, StaticAtomSet, StaticTables};

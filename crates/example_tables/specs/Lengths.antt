@@ -1,9 +1,9 @@
 -- What is told of the length of a word's text.
 use Rattle.std.specs.Prelude.{◌≡◌, ℕ, List, length, Option, Some, None}
 use Rattle.std.specs.Str.{IsUtf8}
-use Rattle.string_cache_core.specs.Map.{InternMap}
-use Rattle.string_cache_core.specs.Table.{HasWord, IsHeld}
-use Rattle.string_cache_core.specs.Tables.{Tables}
+use Rattle.interner_table.specs.Map.{InternMap}
+use Rattle.interner_table.specs.Table.{HasWord, IsHeld}
+use Rattle.interner_table.specs.Tables.{Tables}
 
 -- the bytes of the text that has the word; None of a word that isn't held
 abbrev pub IsLengthOf : Tables → InternMap → ℕ → Option ℕ → Type 0

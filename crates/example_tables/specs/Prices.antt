@@ -1,9 +1,9 @@
 -- What a map says of a name, whose keys are words.
 use Rattle.std.specs.Prelude.{◌≡◌, ℕ, ◌⊎◌, List, Option, None, nat_eq}
 use Rattle.std.specs.Map.{lookup}
-use Rattle.string_cache_core.specs.Map.{InternMap}
-use Rattle.string_cache_core.specs.Table.{HasWord}
-use Rattle.string_cache_core.specs.Tables.{Tables}
+use Rattle.interner_table.specs.Map.{InternMap}
+use Rattle.interner_table.specs.Table.{HasWord}
+use Rattle.interner_table.specs.Tables.{Tables}
 
 -- the price under the name's word; None of a name that has no word
 abbrev pub IsPriceOf : Tables → InternMap → List (ℕ × ℕ) → List ℕ → Option ℕ → Type 0

@@ -1,7 +1,7 @@
 -- Replies of a table's calls.
 use Rattle.std.specs.Prelude.{⊤}
-use Rattle.string_cache_core.specs.declared.table.call.TableReply.{TableReply}
-use Rattle.string_cache_core.specs.declared.table.call.TableReply.TheVariants.{Word, Given, NotHeld, Refused}
+use Rattle.interner_table.specs.declared.table.call.TableReply.{TableReply}
+use Rattle.interner_table.specs.declared.table.call.TableReply.TheVariants.{Word, Given, NotHeld, Refused}
 
 -- the call was done: the word was held, and no limit and no want of memory refused it
 abbrev pub IsDone : TableReply → Type 0

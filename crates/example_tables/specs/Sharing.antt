@@ -1,6 +1,6 @@
 -- What is told of the holders of a word.
 use Rattle.std.specs.Prelude.{◌≡◌, ℕ, ◌<◌, ◌⊎◌, ◌↔◌, Bool, false, IsTrue}
-use Rattle.string_cache_core.specs.Map.{InternMap, IsHeldTicket, HasHolders}
+use Rattle.interner_table.specs.Map.{InternMap, IsHeldTicket, HasHolders}
 
 -- whether more than one hold the word; nobody is told of a word that isn't a ticket that is held
 abbrev pub TellsShared : InternMap → ℕ → Bool → Type 0

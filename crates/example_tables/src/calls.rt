@@ -2,14 +2,14 @@
 
 ghost use Rattle.std.specs.Prelude.{◌≡◌, ◌↔◌, List, IfOk, IsTrue, OnErr};
 ghost use Rattle.std.specs.List.{All};
-ghost use Rattle.string_cache_core.specs.Calls.{AnswersAll};
-ghost use Rattle.string_cache_core.specs.Kept.{map_of};
-ghost use Rattle.string_cache_core.specs.declared.table.call.TableReply.{TableReply};
+ghost use Rattle.interner_table.specs.Calls.{AnswersAll};
+ghost use Rattle.interner_table.specs.Kept.{map_of};
+ghost use Rattle.interner_table.specs.declared.table.call.TableReply.{TableReply};
 ghost use Rattle.example_tables.specs.Replies.{IsDone};
 
-use string_cache_core::Fault;
-use string_cache_core::static_sets::StaticTables;
-use string_cache_core::table::{Call, Table, TableReply};
+use interner_table::Fault;
+use interner_table::static_sets::StaticTables;
+use interner_table::table::{Call, Table, TableReply};
 
 /// Makes some calls: whether each was done.
 pub fn all_done<S: StaticTables>(table: &mut Table<S>, calls: &[Call]) -> Result<bool, Fault>

@@ -1,18 +1,18 @@
 //! The names of a program, of kinds that aren't mixed up.
 
 ghost use Rattle.std.specs.Prelude.{◌≡◌, ◌↔◌, ℕ, IfOk, IfSome, IsSome, IsTrue, MatchOption, OnErr, length};
-ghost use Rattle.string_cache_core.specs.Kept.{map_of};
-ghost use Rattle.string_cache_core.specs.Layout.{usual_buckets};
-ghost use Rattle.string_cache_core.specs.Map.{empty_map};
-ghost use Rattle.string_cache_core.specs.Table.{HasWord, IsHeld};
-ghost use Rattle.string_cache_core.specs.Tables.{empty_tables};
+ghost use Rattle.interner_table.specs.Kept.{map_of};
+ghost use Rattle.interner_table.specs.Layout.{usual_buckets};
+ghost use Rattle.interner_table.specs.Map.{empty_map};
+ghost use Rattle.interner_table.specs.Table.{HasWord, IsHeld};
+ghost use Rattle.interner_table.specs.Tables.{empty_tables};
 ghost use Rattle.example_tables.specs.Lengths.{IsLengthOf};
 
+use interner_table::Fault;
+use interner_table::static_sets::EmptyStaticAtomSet;
+use interner_table::table::{Name, Names, Table};
 use std::alloc::Global;
 use std::hash::RandomState;
-use string_cache_core::Fault;
-use string_cache_core::static_sets::EmptyStaticAtomSet;
-use string_cache_core::table::{Name, Names, Table};
 
 /// Where a function stands.
 pub enum File {}
@@ -95,7 +95,7 @@ impl Program {
     }
 
     /// Declares a function once more: whether it was there. It then has to be forgotten once more.
-    #[tactic(auto, unfolding(string_cache_core::specs::Table::IsHeld))]
+    #[tactic(auto, unfolding(interner_table::specs::Table::IsHeld))]
     pub fn declare_again(&mut self, function: Name<Function>) -> Result<bool, Fault>
         ensures held { IfOk result (λ there. IsTrue there ↔ IsHeld empty_tables (map_of self.old.functions.table) function.word) }
         ensures refused { OnErr result (self.new.functions.table ≡ self.old.functions.table) }

@@ -1,14 +1,14 @@
 //! The names of a program, for one thread.
 
 ghost use Rattle.std.specs.Prelude.{◌≡◌, ◌↔◌, ℕ, List, IfOk, IsTrue, string_bytes};
-ghost use Rattle.string_cache_core.specs.Kept.{map_of};
-ghost use Rattle.string_cache_core.specs.Table.{AreHeld};
+ghost use Rattle.interner_table.specs.Kept.{map_of};
+ghost use Rattle.interner_table.specs.Table.{AreHeld};
 
+use interner_table::Fault;
+use interner_table::static_sets::{EmptyStaticAtomSet, StaticAtomSet};
+use interner_table::table::Table;
 use std::alloc::Global;
 use std::hash::RandomState;
-use string_cache_core::Fault;
-use string_cache_core::static_sets::{EmptyStaticAtomSet, StaticAtomSet};
-use string_cache_core::table::Table;
 
 /// Whether two identifiers have one word: exactly if they are one text.
 pub fn same_word(alloc: Global, keys: RandomState, left: &str, right: &str) -> Result<bool, Fault>

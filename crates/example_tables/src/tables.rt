@@ -1,16 +1,16 @@
 //! The names of a program as a table keeps them: found without a holder more, and read by several threads.
 
 ghost use Rattle.std.specs.Prelude.{◌≡◌, ◌↔◌, ℕ, IfSome, IsTrue, Some};
-ghost use Rattle.string_cache_core.specs.Kept.{map_of};
-ghost use Rattle.string_cache_core.specs.Map.{Holding};
-ghost use Rattle.string_cache_core.specs.Table.{HasWord};
-ghost use Rattle.string_cache_core.specs.Tables.{empty_tables};
+ghost use Rattle.interner_table.specs.Kept.{map_of};
+ghost use Rattle.interner_table.specs.Map.{Holding};
+ghost use Rattle.interner_table.specs.Table.{HasWord};
+ghost use Rattle.interner_table.specs.Tables.{empty_tables};
 ghost use Rattle.example_tables.specs.Lengths.{IsLengthOf};
 
+use interner_table::static_sets::{EmptyStaticAtomSet, StaticAtomSet};
+use interner_table::table::Table;
 use std::thread;
 use std::thread::Threads;
-use string_cache_core::static_sets::{EmptyStaticAtomSet, StaticAtomSet};
-use string_cache_core::table::Table;
 
 /// Whether a name has a word: it is inline, static, or held.
 pub fn is_known<Static: StaticAtomSet>(table: &Table<Static>, name: &str) -> bool

@@ -2,21 +2,21 @@
 
 ghost use Rattle.std.specs.Prelude.{◌≡◌, ◌↔◌, ◌/◌, ◌-◌, ◌<◌, ◌≤◌, ℕ, List, IfOk, IfSome, IsSome, IsTrue, MatchOption, None, Some, length, nat_lt, slice_get};
 ghost use Rattle.std.specs.List.{All, list_any, sum_by};
-ghost use Rattle.string_cache_core.specs.Bounds.{AreBounds};
-ghost use Rattle.string_cache_core.specs.Kept.{Pair, map_of};
-ghost use Rattle.string_cache_core.specs.Layout.{serial_bound};
-ghost use Rattle.string_cache_core.specs.Map.{empty_map};
-ghost use Rattle.string_cache_core.specs.Memory.{IsMemory};
-ghost use Rattle.string_cache_core.specs.Table.{IsHeld};
-ghost use Rattle.string_cache_core.specs.Tables.{empty_tables};
+ghost use Rattle.interner_table.specs.Bounds.{AreBounds};
+ghost use Rattle.interner_table.specs.Kept.{Pair, map_of};
+ghost use Rattle.interner_table.specs.Layout.{serial_bound};
+ghost use Rattle.interner_table.specs.Map.{empty_map};
+ghost use Rattle.interner_table.specs.Memory.{IsMemory};
+ghost use Rattle.interner_table.specs.Table.{IsHeld};
+ghost use Rattle.interner_table.specs.Tables.{empty_tables};
 ghost use Rattle.example_tables.specs.Known.{AreKnown};
 
+use interner_table::Fault;
+use interner_table::static_sets::{EmptyStaticAtomSet, StaticTables};
+use interner_table::table::{Table, TrustedTexts};
+use interner_table::word::{Buckets, Limits};
 use std::alloc::Global;
 use std::hash::{BuildHasher, RandomState};
-use string_cache_core::Fault;
-use string_cache_core::static_sets::{EmptyStaticAtomSet, StaticTables};
-use string_cache_core::table::{Table, TrustedTexts};
-use string_cache_core::word::{Buckets, Limits};
 
 /// A table that holds each of some names, found under these keys.
 pub fn table_of(

@@ -1,16 +1,16 @@
 //! Words that come and go: interned, shared, handed on, read and given back. Two of these functions need a proof file, the others none.
 
 ghost use Rattle.std.specs.Prelude.{◌≡◌, ◌↔◌, ℕ, List, IfOk, IsSome, IsTrue, MatchOption, OnErr, slice_get};
-ghost use Rattle.string_cache_core.specs.Kept.{map_of};
-ghost use Rattle.string_cache_core.specs.Table.{HasWord, IsHeld, IsTextOf, IsWordOf};
+ghost use Rattle.interner_table.specs.Kept.{map_of};
+ghost use Rattle.interner_table.specs.Table.{HasWord, IsHeld, IsTextOf, IsWordOf};
 ghost use Rattle.example_tables.specs.Prices.{IsPriceOf};
 ghost use Rattle.example_tables.specs.Sharing.{TellsShared};
 
+use interner_table::Fault;
+use interner_table::static_sets::StaticTables;
+use interner_table::table::Table;
 use std::collections::HashMap;
 use std::hash::RandomState;
-use string_cache_core::Fault;
-use string_cache_core::static_sets::StaticTables;
-use string_cache_core::table::Table;
 
 /// Interns a name, and gives its word back at once. What others hold, they still hold.
 pub fn comes_and_goes<S: StaticTables>(table: &mut Table<S>, name: &str) -> Result<(), Fault>

@@ -1,7 +1,7 @@
 -- What holds of a table that is taken out and put back, or lent, holds of the handle.
 use Rattle.std.proofs.Common.{◌≡◌, sym, subst}
 use Rattle.std.specs.Prelude.{Option, Some}
-use Rattle.string_cache_core.specs.Kept.{Kept}
+use Rattle.interner_table.specs.Kept.{Kept}
 use Rattle.string_cache_c.specs.Calls.{IfOpen, Within}
 use Rattle.string_cache_c.specs.declared.numbered_table.NumberedTable.{NumberedTable}
 

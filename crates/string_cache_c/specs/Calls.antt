@@ -2,11 +2,11 @@
 use Rattle.std.specs.Prelude.{◌≡◌, ℕ, ◌⊎◌, ◌<◌, ◌≤◌, ◌+◌, ◌-◌, ◌^◌, ◌++◌, ⊤, true, List, drop, length, min, Option, None, Some, Result}
 use Rattle.std.specs.List.{sum_by}
 use Rattle.std.specs.Str.{IsUtf8}
-use Rattle.string_cache_core.specs.Kept.{Kept, map_of}
-use Rattle.string_cache_core.specs.Memory.{IsMemory}
-use Rattle.string_cache_core.specs.Outcomes.{Cloned, Given, Interned}
-use Rattle.string_cache_core.specs.Table.{IsHeld, in_some}
-use Rattle.string_cache_core.specs.Tables.{empty_tables}
+use Rattle.interner_table.specs.Kept.{Kept, map_of}
+use Rattle.interner_table.specs.Memory.{IsMemory}
+use Rattle.interner_table.specs.Outcomes.{Cloned, Given, Interned}
+use Rattle.interner_table.specs.Table.{IsHeld, in_some}
+use Rattle.interner_table.specs.Tables.{empty_tables}
 use Rattle.text_forms.specs.declared.faults.Fault.{Fault}
 use Rattle.string_cache_c.specs.Numbers.{IsReply, not_held, not_utf8, too_small}
 use Rattle.string_cache_c.specs.declared.numbered_table.NumberedTable.{NumberedTable}

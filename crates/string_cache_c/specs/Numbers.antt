@@ -1,6 +1,6 @@
 -- The numbers that calls return: 0, a fault's number from 1 to 3, or one of these.
 use Rattle.std.specs.Prelude.{◌≡◌, ℕ, Result, Ok, Err}
-use Rattle.string_cache_core.specs.Faults.{fault_number}
+use Rattle.interner_table.specs.Faults.{fault_number}
 use Rattle.text_forms.specs.declared.faults.Fault.{Fault}
 
 abbrev pub not_utf8 : ℕ

@@ -1,10 +1,10 @@
 //! A table's beginning and end, and its room.
 
 ghost use Rattle.std.specs.Prelude.{◌≡◌, ◌≢◌, ◌-◌, ◌^◌, ◌≤◌, ◌⊎◌, ◌↔◌, [], None, Some, IsSome, IfSome};
-ghost use Rattle.string_cache_core.specs.Bounds.{AreBounds};
-ghost use Rattle.string_cache_core.specs.Kept.{map_of};
-ghost use Rattle.string_cache_core.specs.Layout.{holder_bound, most_bits, serial_bound, usual_buckets};
-ghost use Rattle.string_cache_core.specs.Map.{empty_map};
+ghost use Rattle.interner_table.specs.Bounds.{AreBounds};
+ghost use Rattle.interner_table.specs.Kept.{map_of};
+ghost use Rattle.interner_table.specs.Layout.{holder_bound, most_bits, serial_bound, usual_buckets};
+ghost use Rattle.interner_table.specs.Map.{empty_map};
 ghost use Rattle.string_cache_c.specs.Calls.{Within};
 ghost use Rattle.string_cache_c.specs.Numbers.{closed, not_closed, not_limits};
 ghost use Rattle.string_cache_c.specs.declared.numbered_table.NumberedTable.{NumberedTable};
@@ -13,10 +13,10 @@ use crate::handle::ScTable;
 use crate::numbered_table::NumberedTable;
 use crate::numbers::{CLOSED, NO_MEMORY, NOT_CLOSED, NOT_LIMITS};
 use crate::text_key::TextKey;
+use interner_table::static_sets::EmptyStaticAtomSet;
+use interner_table::table::Table;
+use interner_table::word::{Buckets, Limits};
 use std::alloc::Global;
-use string_cache_core::static_sets::EmptyStaticAtomSet;
-use string_cache_core::table::Table;
-use string_cache_core::word::{Buckets, Limits};
 
 /// Opens a closed table, with nothing held, the greatest limits and the usual number of buckets, whose texts are hashed under this key.
 /// 1 if it finds no memory, and 8 if the table is open; then nothing changes.

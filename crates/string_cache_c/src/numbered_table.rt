@@ -2,20 +2,20 @@
 
 ghost use Rattle.std.specs.Prelude.{◌≡◌, ◌≢◌, ◌<◌, ◌≤◌, ◌⊎◌, ℕ, List, None, Some, slice_get};
 ghost use Rattle.std.specs.Str.{IsUtf8};
-ghost use Rattle.string_cache_core.specs.Kept.{Pair, map_of};
-ghost use Rattle.string_cache_core.specs.Map.{HasHolders, IsHeldTicket};
-ghost use Rattle.string_cache_core.specs.Table.{HasWord, IsHeld};
-ghost use Rattle.string_cache_core.specs.Tables.{empty_tables};
+ghost use Rattle.interner_table.specs.Kept.{Pair, map_of};
+ghost use Rattle.interner_table.specs.Map.{HasHolders, IsHeldTicket};
+ghost use Rattle.interner_table.specs.Table.{HasWord, IsHeld};
+ghost use Rattle.interner_table.specs.Tables.{empty_tables};
 ghost use Rattle.string_cache_c.specs.Calls.{ClonesWord, CopiesText, GivesWord, InternsText, TellsMemory};
 ghost use Rattle.string_cache_c.specs.Numbers.{not_held, not_utf8};
 
 use crate::copies::copy_text;
 use crate::numbers::{NO_MEMORY, NOT_HELD, NOT_UTF8};
 use crate::text_key::TextKey;
+use interner_table::static_sets::EmptyStaticAtomSet;
+use interner_table::table::Table;
 use std::mem::size_of;
 use std::str;
-use string_cache_core::static_sets::EmptyStaticAtomSet;
-use string_cache_core::table::Table;
 
 /// A table whose calls answer with a number: 0, or why they failed.
 #[derive(Drop)]
@@ -107,7 +107,7 @@ impl NumberedTable {
         }
     }
 
-    #[tactic(auto, unfolding(string_cache_core::specs::Table::IsHeld))]
+    #[tactic(auto, unfolding(interner_table::specs::Table::IsHeld))]
     pub fn text(&self, word: u64, room: &mut [u8], len: &mut usize) -> u32
         ensures text { IsHeld empty_tables (map_of self.now.table) word → (text : List ℕ) × IsUtf8 text × HasWord empty_tables (map_of self.now.table) text word × CopiesText text result room.old room.new len.new }
         ensures same { (text : List ℕ) → IsUtf8 text → HasWord empty_tables (map_of self.now.table) text word → CopiesText text result room.old room.new len.new }

@@ -4,10 +4,10 @@ ghost use Rattle.std.specs.Prelude.{◌≡◌, ◌≢◌, ◌<◌, ◌≤◌, �
 ghost use Rattle.std.specs.List.{IsDistinct};
 ghost use Rattle.std.specs.Map.{keys_of};
 ghost use Rattle.std.specs.Str.{IsUtf8, bytes_eq};
-ghost use Rattle.string_cache_core.specs.Kept.{Pair, map_of};
-ghost use Rattle.string_cache_core.specs.Map.{HasHolders, IsHeldTicket};
-ghost use Rattle.string_cache_core.specs.Table.{HasWord, IsHeld};
-ghost use Rattle.string_cache_core.specs.Tables.{empty_tables};
+ghost use Rattle.interner_table.specs.Kept.{Pair, map_of};
+ghost use Rattle.interner_table.specs.Map.{HasHolders, IsHeldTicket};
+ghost use Rattle.interner_table.specs.Table.{HasWord, IsHeld};
+ghost use Rattle.interner_table.specs.Tables.{empty_tables};
 ghost use Rattle.string_cache_c.specs.Calls.{CopiesText, HoldsWord, IfOpen, TellsMemory, entries_of, text_bytes_of};
 ghost use Rattle.string_cache_c.specs.Numbers.{closed, not_held, not_utf8};
 

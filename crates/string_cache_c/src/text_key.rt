@@ -1,24 +1,25 @@
 //! The key under which a table hashes its texts.
 
-ghost use Rattle.core.specs.Hash.DefaultHasher as sip;
+use std::hash::BuildHasher;
+use text_forms::SipKey;
+use text_forms::phf::Sip;
 
-use core::hash::keyed_hasher;
-use std::hash::{BuildHasher, DefaultHasher};
-
-/// A key of SipHash-1-3, as C hands it over: 128 bits that the caller drew, or chose.
+/// A key of SipHash-1-3 that C drew, or chose, and handed over. No function here makes one, so a table is under the key of its caller.
 #[repr(C)]
 #[derive(Clone, Copy, Drop)]
 pub struct TextKey {
-    low: u64,
-    high: u64,
+    key: SipKey,
 }
 
 impl BuildHasher for TextKey {
-    type Hasher = DefaultHasher;
+    type Hasher = Sip;
 
-    ghost build_hasher = { λ key. sip.with_keys key.low key.high };
+    ghost use Rattle.text_forms.specs.Phf.{start};
 
-    fn build_hasher(&self) -> DefaultHasher {
-        keyed_hasher(self.low, self.high)
+    ghost build_hasher = { λ key. start key.key.low key.key.high };
+
+    #[inline]
+    fn build_hasher(&self) -> Sip {
+        self.key.build_hasher()
     }
 }

@@ -2,9 +2,9 @@
 
 ghost use Rattle.std.specs.Prelude.{◌≡◌, ◌≢◌, ◌<◌, ◌≤◌, ◌⊎◌, ℕ, List, None, Some, length};
 ghost use Rattle.std.specs.Str.{IsUtf8};
-ghost use Rattle.string_cache_core.specs.Form.{IsFormOf};
-ghost use Rattle.string_cache_core.specs.Phf.{hashes_of};
-ghost use Rattle.string_cache_core.specs.Word.{IsInlineText, IsInlineWord, inline_word};
+ghost use Rattle.interner_table.specs.Form.{IsFormOf};
+ghost use Rattle.interner_table.specs.Phf.{hashes_of};
+ghost use Rattle.interner_table.specs.Word.{IsInlineText, IsInlineWord, inline_word};
 ghost use Rattle.text_forms.specs.declared.word.Form.{Form};
 ghost use Rattle.string_cache_c.specs.Calls.{CopiesText};
 ghost use Rattle.string_cache_c.specs.Forms.{told};
@@ -13,9 +13,9 @@ ghost use Rattle.string_cache_c.specs.Numbers.{not_utf8, not_word};
 use crate::copies::copy_text;
 use crate::forms::ScForm;
 use crate::numbers::{NOT_UTF8, NOT_WORD};
+use interner_table::phf::{Hashes, hash};
+use interner_table::word::{Form, form_of, pack_inline_word, unpack_inline};
 use std::str;
-use string_cache_core::phf::{Hashes, hash};
-use string_cache_core::word::{Form, form_of, pack_inline_word, unpack_inline};
 
 const VERSION: u32 = 1; // of the calls for C
 

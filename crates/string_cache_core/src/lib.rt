@@ -1,8 +1,6 @@
-//! The table for one thread. The words, hashes and static tables of `text_forms`, and the core of atomic steps of `atomic_steps`, stand
-//! here as well.
+//! The table of `interner_table`, the core of atomic steps of `atomic_steps`, and the words, hashes and static tables of `text_forms`.
 #![tactic(auto)]
 
-pub mod table;
-
 pub use atomic_steps::steps;
-pub use text_forms::{Fault, packed_sets, phf, static_sets, word};
+pub use interner_table::table;
+pub use text_forms::{Fault, SipKey, packed_sets, phf, static_sets, word};

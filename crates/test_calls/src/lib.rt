@@ -3,7 +3,7 @@
 #![tactic(auto)]
 
 ghost use Rattle.std.specs.Prelude.{◌≡◌};
-ghost use Rattle.string_cache_core.specs.Tables.{entry_hash};
+ghost use Rattle.text_forms.specs.Tables.{entry_hash};
 
 use serde_json::Value;
 use std::alloc::Global;

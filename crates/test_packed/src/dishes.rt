@@ -34,7 +34,7 @@ pub struct DishesTables;
 
 impl PackedAtomSet for DishesTables {
     ghost use Rattle.std.proofs.Common.{lit<, refl};
-    ghost use Rattle.string_cache_core.specs.Packed.{packed};
+    ghost use Rattle.text_forms.specs.Packed.{packed};
     ghost use Rattle.test_packed.specs.declared.dishes.TheConstants.{DISHES_DISPS, DISHES_HASHES, DISHES_SPANS, DISHES_TEXT};
 
     ghost text = { DISHES_TEXT.now };

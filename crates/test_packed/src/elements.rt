@@ -466,7 +466,7 @@ pub struct ElementsTables;
 
 impl PackedAtomSet for ElementsTables {
     ghost use Rattle.std.proofs.Common.{lit<, refl};
-    ghost use Rattle.string_cache_core.specs.Packed.{packed};
+    ghost use Rattle.text_forms.specs.Packed.{packed};
     ghost use Rattle.test_packed.specs.declared.elements.TheConstants.{ELEMENTS_DISPS, ELEMENTS_HASHES, ELEMENTS_SPANS, ELEMENTS_TEXT};
 
     ghost text = { ELEMENTS_TEXT.now };

@@ -19,7 +19,7 @@ pub struct MisplacedTables;
 
 impl PackedAtomSet for MisplacedTables {
     ghost use Rattle.std.proofs.Common.{lit<, refl};
-    ghost use Rattle.string_cache_core.specs.Packed.{packed};
+    ghost use Rattle.text_forms.specs.Packed.{packed};
     ghost use Rattle.test_packed.specs.declared.misplaced.TheConstants.{MISPLACED_DISPS, MISPLACED_HASHES, MISPLACED_SPANS, MISPLACED_TEXT};
 
     ghost text = { MISPLACED_TEXT.now };

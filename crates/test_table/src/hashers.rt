@@ -13,6 +13,7 @@ use std::process::Abort;
 use std::random::RandomSource;
 use string_cache_core::static_sets::EmptyStaticAtomSet;
 use string_cache_core::table::{Table, TrustedTexts};
+use text_forms::SipKey;
 
 /// The keys with this number.
 pub fn keys_of(rt: &impl Abort, number: u64) -> RandomState {
@@ -191,6 +192,7 @@ fn gives_words<H: BuildHasher + Drop>(
 fn words_are_the_same_with_each_hasher(rt: HostRuntime) {
     let words = words_of(&rt, rt.alloc(), keys_of(&rt, 1));
     assert_that(&rt, gives_words(&rt, rt.alloc(), keys_of(&rt, 2), &words));
+    assert_that(&rt, gives_words(&rt, rt.alloc(), SipKey::new(1, 2), &words));
     assert_that(&rt, gives_words(&rt, rt.alloc(), TrustedTexts, &words));
     assert_that(&rt, gives_words(&rt, rt.alloc(), Alike, &words));
 }

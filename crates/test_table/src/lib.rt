@@ -22,6 +22,8 @@ mod runs;
 #[cfg(test)]
 mod scripts;
 #[cfg(test)]
+mod sip_keys;
+#[cfg(test)]
 mod steps;
 #[cfg(test)]
 mod table;

@@ -5,7 +5,9 @@ mod faults;
 pub mod numbers;
 pub mod packed_sets;
 pub mod phf;
+mod sip_key;
 pub mod static_sets;
 pub mod word;
 
 pub use faults::Fault;
+pub use sip_key::SipKey;

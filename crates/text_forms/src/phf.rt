@@ -28,16 +28,16 @@ impl Hashes {
 
 /// The state of SipHash.
 #[derive(Clone, Copy)]
-struct Sip {
-    v0: u64,
-    v1: u64,
-    v2: u64,
-    v3: u64,
+pub struct Sip {
+    pub(crate) v0: u64,
+    pub(crate) v1: u64,
+    pub(crate) v2: u64,
+    pub(crate) v3: u64,
 }
 
 impl Sip {
     #[tactic(auto, unfolding(crate::specs::Phf::start))]
-    fn new(k0: u64, k1: u64) -> Sip
+    pub(crate) fn new(k0: u64, k1: u64) -> Sip
         ensures { result ≡ start k0 k1 }
     {
         Sip {
@@ -65,7 +65,7 @@ impl Sip {
     }
 
     #[tactic(auto, unfolding(crate::specs::Phf::rounds))]
-    fn rounds(&mut self, count: u32)
+    pub(crate) fn rounds(&mut self, count: u32)
         ensures { self.new ≡ rounds count self.old }
     {
         for _turn in 0..count {
@@ -75,7 +75,7 @@ impl Sip {
 
     /// Takes one word in, by `count` rounds.
     #[tactic(auto, unfolding(crate::specs::Phf::absorb, crate::specs::Phf::xor_v0, crate::specs::Phf::xor_v3))]
-    fn absorb(&mut self, word: u64, count: u32)
+    pub(crate) fn absorb(&mut self, word: u64, count: u32)
         ensures { self.new ≡ absorb count self.old word }
     {
         self.v3 ^= word;
@@ -84,7 +84,7 @@ impl Sip {
     }
 
     /// Takes all bytes in, eight at a time, by `count` rounds a word.
-    fn absorb_all(&mut self, bytes: &[u8], count: u32)
+    pub(crate) fn absorb_all(&mut self, bytes: &[u8], count: u32)
         ensures { self.new ≡ absorb_all count self.old bytes.now }
     {
         let (words, rest) = bytes.as_chunks::<8>();
@@ -95,7 +95,7 @@ impl Sip {
     }
 
     #[tactic(auto, unfolding(crate::specs::Phf::xor_of))]
-    fn xor(&self) -> u64
+    pub(crate) fn xor(&self) -> u64
         ensures { result ≡ xor_of self.now }
     {
         self.v0 ^ self.v1 ^ self.v2 ^ self.v3

@@ -4,8 +4,8 @@ use super::asked::{Question, check};
 use super::kept::Plain;
 use crate::assert_for;
 use example_tables::{are_one_name, is_keyword, same_word, two_come_and_go};
+use interner_table::word::{Form, form_of};
 use std::process::Abort;
-use string_cache_core::word::{Form, form_of};
 use test_samples::keys;
 
 /// Two names, and whether they are one.

@@ -5,10 +5,10 @@ use example_tables::{
     all_done, all_held, any_shared, bytes_for_each, first_text, last_text, make_room, small_table,
     start_over, table_of, table_with_holders, takes_at_most, usual_length,
 };
+use interner_table::static_sets::EmptyStaticAtomSet;
+use interner_table::table::{Call, Table};
 use std::alloc::Global;
 use std::process::Abort;
-use string_cache_core::static_sets::EmptyStaticAtomSet;
-use string_cache_core::table::{Call, Table};
 use test_samples::keys;
 
 /// A table without static texts.

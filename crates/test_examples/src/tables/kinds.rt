@@ -3,9 +3,9 @@
 use super::kept::filled;
 use crate::assert_that;
 use example_tables::{Function, Program, lengths_of_both};
+use interner_table::table::Name;
 use std::alloc::Global;
 use std::process::Abort;
-use string_cache_core::table::Name;
 use test_samples::keys;
 
 /// The first ticket of "interned" in a table of 4096 buckets.

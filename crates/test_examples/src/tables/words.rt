@@ -7,11 +7,11 @@ use example_tables::{
     comes_and_goes, first_byte, hand_on, is_known, is_shared, lent_text, price_of, reads_back,
     share,
 };
+use interner_table::table::Table;
 use std::alloc::Global;
 use std::collections::HashMap;
 use std::hash::RandomState;
 use std::process::Abort;
-use string_cache_core::table::Table;
 use test_samples::{One, keys};
 
 fn with_static_text<R: Abort>(rt: &R, alloc: Global) -> Table<One> {

@@ -1,6 +1,6 @@
 use Rattle.std.proofs.Common.{◌∙◌, [], subst, sym}
-use Rattle.string_cache_core.specs.Kept.{map_of}
-use Rattle.string_cache_core.specs.Table.{AreHeld}
+use Rattle.interner_table.specs.Kept.{map_of}
+use Rattle.interner_table.specs.Table.{AreHeld}
 use Rattle.example_tables.proofs.symbols.reads_back.Goals as goal
 
 pub returns-in_err-word-clause-held : goal.returns-in_err-word-clause-held

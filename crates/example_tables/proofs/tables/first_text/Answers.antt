@@ -1,7 +1,7 @@
 use Rattle.std.proofs.Common.{◌∙◌, ap, sym, List}
 use Rattle.std.specs.Prelude.{slice_get}
-use Rattle.string_cache_core.specs.HeldText.{pair_of}
-use Rattle.string_cache_core.specs.Kept.{Pair}
+use Rattle.interner_table.specs.HeldText.{pair_of}
+use Rattle.interner_table.specs.Kept.{Pair}
 use Rattle.example_tables.proofs.tables.first_text.Goals as goal
 
 -- the first pair of the table stands at place 0, and what stands there is held

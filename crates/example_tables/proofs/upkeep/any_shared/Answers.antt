@@ -1,8 +1,8 @@
 use Rattle.std.proofs.Common.{nat_lt, rules, tests}
 use Rattle.std.proofs.lemmas.Iterator.Consumers.{YieldsList-from_rest}
 use Rattle.std.proofs.lemmas.Iterator.Search.{any_from_yields_List}
-use Rattle.string_cache_core.specs.HeldText.{pair_of}
-use Rattle.string_cache_core.specs.Kept.{Pair}
+use Rattle.interner_table.specs.HeldText.{pair_of}
+use Rattle.interner_table.specs.Kept.{Pair}
 use Rattle.example_tables.proofs.upkeep.any_shared.Goals as goal
 
 -- the iterator gives the table's pairs, and each is tested

@@ -2,10 +2,10 @@ use Rattle.std.proofs.Common.{arith, List, length, sym, take, ℕ, ◌≤◌}
 use Rattle.std.proofs.lemmas.List.{take_all}
 use Rattle.std.proofs.lemmas.List.Elements.{All-more, All-same, All-weaker}
 use Rattle.std.specs.Borrow.{Bor}
-use Rattle.string_cache_core.specs.Kept.{map_of}
-use Rattle.string_cache_core.specs.Map.{InternMap}
-use Rattle.string_cache_core.specs.Table.{IsWordOf}
-use Rattle.string_cache_core.specs.Tables.{empty_tables}
+use Rattle.interner_table.specs.Kept.{map_of}
+use Rattle.interner_table.specs.Map.{InternMap}
+use Rattle.interner_table.specs.Table.{IsWordOf}
+use Rattle.interner_table.specs.Tables.{empty_tables}
 use Rattle.example_tables.proofs.upkeep.table_of.Goals as goal
 
 abbrev IsKnown : InternMap → Bor (List ℕ) → Type 0

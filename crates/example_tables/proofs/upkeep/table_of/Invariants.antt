@@ -1,6 +1,6 @@
 use Rattle.std.proofs.Common.{take}
-use Rattle.string_cache_core.specs.Kept.{map_of}
-use Rattle.string_cache_core.specs.Tables.{empty_tables}
+use Rattle.interner_table.specs.Kept.{map_of}
+use Rattle.interner_table.specs.Tables.{empty_tables}
 use Rattle.example_tables.specs.Known.{AreKnown}
 use Rattle.example_tables.proofs.upkeep.table_of.Given as goal
 

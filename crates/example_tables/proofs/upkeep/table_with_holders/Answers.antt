@@ -1,5 +1,5 @@
 use Rattle.std.proofs.Common.{◌∙◌, ap, rules}
-use Rattle.string_cache_core.specs.Bounds.{Bounds}
+use Rattle.interner_table.specs.Bounds.{Bounds}
 use Rattle.example_tables.proofs.upkeep.table_with_holders.Goals as goal
 
 -- the limits are those that were asked for

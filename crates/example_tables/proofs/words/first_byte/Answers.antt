@@ -1,5 +1,5 @@
 use Rattle.std.proofs.Common.{rules}
-use Rattle.string_cache_core.specs.Table.{IsWordOf}
+use Rattle.interner_table.specs.Table.{IsWordOf}
 use Rattle.example_tables.proofs.words.first_byte.Goals as goal
 
 -- the text that is lent is the one whose word it is

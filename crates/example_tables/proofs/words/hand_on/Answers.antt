@@ -1,6 +1,6 @@
 use Rattle.std.proofs.Common.{inr, rules, subst}
-use Rattle.string_cache_core.specs.Kept.{map_of}
-use Rattle.string_cache_core.specs.Table.{IsHeld}
+use Rattle.interner_table.specs.Kept.{map_of}
+use Rattle.interner_table.specs.Table.{IsHeld}
 use Rattle.example_tables.proofs.words.hand_on.Goals as goal
 
 -- the next holder's word and the one that is given are both held, so one still is

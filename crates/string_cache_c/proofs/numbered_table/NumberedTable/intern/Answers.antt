@@ -1,6 +1,6 @@
 use Rattle.std.proofs.Common.{inl, refl, subst, List, Ok, ℕ}
-use Rattle.string_cache_core.specs.Outcomes.{Interned}
-use Rattle.string_cache_core.specs.Tables.{empty_tables}
+use Rattle.interner_table.specs.Outcomes.{Interned}
+use Rattle.interner_table.specs.Tables.{empty_tables}
 use Rattle.string_cache_c.proofs.numbered_table.NumberedTable.intern.Goals as goal
 
 -- the text is the bytes, which are UTF-8

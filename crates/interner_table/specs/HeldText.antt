@@ -1,0 +1,6 @@
+-- What an iterator over a table's texts gives.
+use Rattle.interner_table.specs.declared.table.iter.HeldText.{HeldText}
+use Rattle.interner_table.specs.Kept.{Pair}
+
+abbrev pub pair_of : HeldText → Pair
+pair_of item = (item.text.now, record { ticket = item.word; holders = item.holders })

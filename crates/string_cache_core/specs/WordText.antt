@@ -1,8 +1,0 @@
--- The text that a `WordText` lends.
-use Rattle.std.specs.Prelude.{ℕ, List}
-use Rattle.string_cache_core.specs.declared.table.word_text.WordText.{WordText}
-use Rattle.string_cache_core.specs.declared.table.word_text.WordText.TheVariants.{Inline, Lent}
-
-abbrev pub text_in : WordText → List ℕ
-text_in (Inline text) = text
-text_in (Lent text) = text.now
