@@ -5,10 +5,15 @@
 
 enum { TEXTS = 1000, MOST = 2000 };
 
+/* The bytes of a group of nine places, in the map of texts and in that of tickets. A map has a power of two of them: so many for these texts. */
+enum { TEXT_GROUP = 496, TICKET_GROUP = 208, GROUPS = 128 };
+
+static const uint64_t MOST_HOLDERS = (UINT64_C(1) << 63) - 1, MOST_TICKETS = (UINT64_C(1) << 48) - 1;
+
 /* A table of 2 to the power of so many buckets, with the greatest limits. */
 static sc_table with_buckets(uint8_t bucket_bits) {
     sc_table table = SC_CLOSED_TABLE;
-    CHECK(sc_open_with(&table, (UINT64_C(1) << 63) - 1, (UINT64_C(1) << 48) - 1, bucket_bits) == SC_OK);
+    CHECK(sc_open_with(&table, MOST_HOLDERS, MOST_TICKETS, bucket_bits) == SC_OK);
     return table;
 }
 
@@ -63,7 +68,7 @@ static void each_text_is_counted(void) {
 /* Ten texts have two groups of nine places in each of two maps. */
 static void places_come_by_groups_of_nine(void) {
     sc_table table = with_buckets(0);
-    const uint64_t empty = sc_memory(&table), group = 496 + 208, unit = 1;
+    const uint64_t empty = sc_memory(&table), group = TEXT_GROUP + TICKET_GROUP, unit = 1;
     for (int number = 0; number < 10; number++) {
         (void)numbered(&table, number);
         const uint64_t groups = number < 9 ? 1 : 2;
@@ -86,24 +91,50 @@ static void a_text_has_as_many_bytes_as_its_letters(void) {
     close_last(&table);
 }
 
-/* What goes gives its bytes back, and its place stays for the next. */
-static void giving_leaves_the_places(void) {
+/* Fills a table that is new, and lets all texts go in another order: their bytes go with them. Then fills it again, and tells by how much it has
+ * grown. */
+static uint64_t growth_of_a_second_filling(sc_table *table) {
     static uint64_t words[TEXTS];
-    sc_table table = opened();
     for (int number = 0; number < TEXTS; number++) {
-        words[number] = numbered(&table, number);
+        words[number] = numbered(table, number);
     }
-    const uint64_t full = sc_memory(&table), bytes = sc_text_bytes(&table);
+    const uint64_t full = sc_memory(table), bytes = sc_text_bytes(table);
     for (int number = 0; number < TEXTS; number++) {
-        CHECK(sc_give(&table, words[number * 7 % TEXTS]) == SC_OK && tells_all(&table));
+        CHECK(sc_give(table, words[number * 7 % TEXTS]) == SC_OK && tells_all(table));
     }
-    CHECK(sc_memory(&table) == full - bytes);
+    CHECK(sc_memory(table) == full - bytes);
     for (int number = 0; number < TEXTS; number++) {
-        (void)numbered(&table, number);
-        CHECK(tells_all(&table));
+        (void)numbered(table, number);
+        CHECK(tells_all(table));
     }
-    CHECK(sc_memory(&table) == full);
-    close_last(&table);
+    CHECK(sc_text_bytes(table) == bytes && sc_memory(table) >= full);
+    return sc_memory(table) - full;
+}
+
+/* What goes gives its bytes back, and its place stays for the next. But a place in a group that was full when one more text fell there isn't counted
+ * as free until the map puts its groups in order, and where it has to while more than half of its places are taken, it gets as many groups more.
+ * Where texts fall hangs on the key: under the second one here the map gets more. */
+static void giving_leaves_the_places(void) {
+    static const struct {
+        sc_key key;
+        uint64_t growth;
+    } rows[] = {{{1, 2}, 0}, {{1, 30}, GROUPS * TEXT_GROUP}};
+    for (size_t at = 0; at < sizeof rows / sizeof rows[0]; at++) {
+        sc_table table = SC_CLOSED_TABLE;
+        CHECK(sc_open_keyed(&table, MOST_HOLDERS, MOST_TICKETS, 12, rows[at].key) == SC_OK);
+        CHECK(growth_of_a_second_filling(&table) == rows[at].growth);
+        close_last(&table);
+    }
+}
+
+/* Under any key the map of texts grows once or not at all, and the map of tickets never. */
+static void giving_loses_no_place(void) {
+    for (int turn = 0; turn < 20; turn++) {
+        sc_table table = opened();
+        const uint64_t growth = growth_of_a_second_filling(&table);
+        CHECK(growth == 0 || growth == GROUPS * TEXT_GROUP);
+        close_last(&table);
+    }
 }
 
 static void clearing_leaves_the_places(void) {
@@ -185,6 +216,7 @@ static const test tests[] = {
     {"places_come_by_groups_of_nine", places_come_by_groups_of_nine},
     {"a_text_has_as_many_bytes_as_its_letters", a_text_has_as_many_bytes_as_its_letters},
     {"giving_leaves_the_places", giving_leaves_the_places},
+    {"giving_loses_no_place", giving_loses_no_place},
     {"clearing_leaves_the_places", clearing_leaves_the_places},
     {"room_is_counted_before_it_is_used", room_is_counted_before_it_is_used},
     {"two_tables_share_the_heap", two_tables_share_the_heap},

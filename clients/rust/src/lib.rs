@@ -243,8 +243,8 @@ impl Interner {
         unsafe { sys::sc_text_bytes(&self.table) }
     }
 
-    /// How many bytes of memory the table has asked for and still holds. A name that goes gives its bytes back, and its place stays for the
-    /// next one. The `Interner` itself isn't counted.
+    /// How many bytes of memory the table has asked for and still holds. A name that goes gives its bytes back, and its place stays until the
+    /// interner goes. The `Interner` itself isn't counted.
     pub fn memory(&self) -> u64 {
         unsafe { sys::sc_memory(&self.table) }
     }
