@@ -75,12 +75,18 @@ static void steps(worker *self, unsigned number) {
     }
 }
 
+/* The bytes of texts come first: what the tables take later has room for each of these texts still, whatever other threads do meanwhile. */
+static void counts(worker *self) {
+    const uint64_t bytes = sc_shared_text_bytes(self->shared);
+    expect(self, sc_shared_entries(self->shared) <= TEXTS && sc_shared_memory(self->shared) > bytes);
+}
+
 static void *work(void *given) {
     worker *self = given;
     for (int step = 0; step < STEPS; step++) {
         steps(self, below(self, TEXTS));
         if (step % 500 == 0) {
-            expect(self, sc_shared_entries(self->shared) <= TEXTS && sc_shared_memory(self->shared) > sc_shared_text_bytes(self->shared));
+            counts(self);
         }
     }
     return NULL;

@@ -147,7 +147,8 @@ fn work(names: &SharedInterner, seed: usize) {
         }
         assert!(own.iter().all(|symbol| *symbol == own[0]));
     }
-    assert!(names.len() <= NAMES && names.memory() > names.text_bytes());
+    let bytes = names.text_bytes(); // first, since the memory that is told later has room for these names still
+    assert!(names.len() <= NAMES && names.memory() > bytes);
 }
 
 fn threads_share(count: usize, shard_bits: u8) {
