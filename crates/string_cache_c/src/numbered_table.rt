@@ -12,10 +12,10 @@ ghost use Rattle.string_cache_c.specs.Numbers.{not_held, not_utf8};
 use crate::copies::copy_text;
 use crate::numbers::{NO_MEMORY, NOT_HELD, NOT_UTF8};
 use crate::text_key::TextKey;
+use crate::texts::text_of;
 use interner_table::static_sets::EmptyStaticAtomSet;
 use interner_table::table::Table;
 use std::mem::size_of;
-use std::str;
 
 /// A table whose calls answer with a number: 0, or why they failed.
 #[derive(Drop)]
@@ -30,7 +30,7 @@ impl NumberedTable {
         ensures number { (result ≤ 3) ⊎ (result ≡ not_utf8) }
         ensures err { result ≢ 0 → (self.new ≡ self.old) × (word.new ≡ word.old) }
     {
-        let Ok(text) = str::from_utf8(text) else {
+        let Some(text) = text_of(text) else {
             return NOT_UTF8;
         };
         match self.table.intern(text) {
@@ -51,7 +51,7 @@ impl NumberedTable {
         ensures number { IsUtf8 text.now → (result ≡ 0) ⊎ (result ≡ not_held) }
         ensures err { result ≢ 0 → word.new ≡ word.old }
     {
-        let Ok(text) = str::from_utf8(text) else {
+        let Some(text) = text_of(text) else {
             return NOT_UTF8;
         };
         match self.table.get(text) {

@@ -1,7 +1,8 @@
 //! What is asked of texts and words without a table.
 
-ghost use Rattle.std.specs.Prelude.{◌≡◌, ◌≢◌, ◌<◌, ◌≤◌, ◌⊎◌, ℕ, List, None, Some, length};
-ghost use Rattle.std.specs.Str.{IsUtf8};
+ghost use Rattle.std.specs.Prelude.{◌≡◌, ◌≢◌, ◌+◌, ◌<◌, ◌≤◌, ◌⊎◌, ℕ, IsTrue, List, MatchOption, None, Some, length, slice_index};
+ghost use Rattle.std.specs.Str.{IsAscii, IsUtf8};
+ghost use Rattle.core.specs.Slice.Scan.{little_endian};
 ghost use Rattle.interner_table.specs.Form.{IsFormOf};
 ghost use Rattle.interner_table.specs.Phf.{hashes_of};
 ghost use Rattle.interner_table.specs.Word.{IsInlineText, IsInlineWord, inline_word};
@@ -112,10 +113,68 @@ pub extern "C" fn sc_text_hash(text: &[u8], key: u64, hashes: &mut ScHashes) -> 
     ensures f1 { IsUtf8 text.now → hashes.new.f1 ≡ (hashes_of text.now key).f1 }
     ensures f2 { IsUtf8 text.now → hashes.new.f2 ≡ (hashes_of text.now key).f2 }
 {
-    let Ok(text) = str::from_utf8(text) else {
+    let Some(text) = text_of(text) else {
         return NOT_UTF8;
     };
     let Hashes { g, f1, f2 } = hash(text, key);
     *hashes = ScHashes { g, f1, f2 };
     0
+}
+
+// ---- the bytes of a text
+
+/// The text of these bytes, if they are UTF-8. Most are some bytes of ASCII, which is seen sooner than all of UTF-8.
+#[inline(always)]
+pub fn text_of(bytes: &[u8]) -> Option<&str>
+    ensures { MatchOption result (¬ (IsUtf8 bytes.now)) (λ text. (text.now ≡ bytes.now) × IsUtf8 bytes.now) }
+{
+    if is_short_ascii(bytes) {
+        // SAFETY: ASCII is UTF-8.
+        return Some(unsafe { str::from_utf8_unchecked(bytes) });
+    }
+    match str::from_utf8(bytes) {
+        Ok(text) => Some(text),
+        Err(_) => None,
+    }
+}
+
+/// Whether these are 8 to 32 bytes of ASCII: four words, which may overlap, have all of them. Any others are left to `from_utf8`.
+#[inline(always)]
+fn is_short_ascii(bytes: &[u8]) -> bool
+    ensures { IsTrue result → IsAscii bytes.now }
+{
+    if bytes.len() < 8 || 32 < bytes.len() {
+        return false;
+    }
+    let last = bytes.len() - 8;
+    let front = high_bits(bytes, 0) | high_bits(bytes, last.min(8));
+    let back = high_bits(bytes, last.min(16)) | high_bits(bytes, last);
+    front | back == 0
+}
+
+/// The high bits of the eight bytes from a place on.
+#[inline(always)]
+fn high_bits(bytes: &[u8], at: usize) -> u64
+    requires { at + 8 ≤ length bytes.now }
+    ensures { result ≡ 0 → (place : ℕ) → at ≤ place → place < at + 8 → slice_index bytes.now place < 128 }
+{
+    word_at(bytes, at) & 0x8080_8080_8080_8080
+}
+
+/// The eight bytes from a place on, as a number.
+#[inline(always)]
+fn word_at(bytes: &[u8], at: usize) -> u64
+    requires { at + 8 ≤ length bytes.now }
+    ensures { result ≡ little_endian bytes.now at }
+{
+    u64::from_le_bytes([
+        bytes[at],
+        bytes[at + 1],
+        bytes[at + 2],
+        bytes[at + 3],
+        bytes[at + 4],
+        bytes[at + 5],
+        bytes[at + 6],
+        bytes[at + 7],
+    ])
 }
