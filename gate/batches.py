@@ -58,7 +58,7 @@ class Body:
 def is_of(function, name, around):
     """Whether a function of this name, in an impl of that type or in none, can be the one that is meant."""
     *types, last = function.split("::")
-    return last == name and (not types or around is None or around in types[-1])
+    return last == name and (not types or around is None or around[0].upper() + around[1:] in types[-1])
 
 
 def placed(label, folder, function, changes):

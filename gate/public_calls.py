@@ -4,7 +4,7 @@ import re
 from dataclasses import dataclass
 
 # The crates whose calls the page lists.
-LISTED = ("text_forms", "interner_table", "atomic_steps", "counted_set", "named_set", "string_cache", "table_generator")
+LISTED = ("text_forms", "interner_table", "atomic_steps", "counted_set", "named_set", "set_atoms", "table_generator")
 LISTED += ("replay_script", "text_streams", "word_counts", "commands")
 
 USE = re.compile(r"^ *(?:pub )?(?:ghost )?use ([^;]+?);?$", re.M)

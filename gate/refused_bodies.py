@@ -46,7 +46,7 @@ TOOLS = ("refused_bodies.py", "batches.py", "further.py", "spared.py", "function
 SAID = 400  # how much is told of what was said
 PROVED = re.compile(r"^rt: (\w+) (?:proved$|is kept: )", re.MULTILINE)  # what `rt ci` says of a crate that it is done with
 MEASURED = {  # seconds of crates whose bodies were timed, alone
-    "string_cache": 260, "commands": 220, "counted_set": 200, "interner_table": 200, "named_set": 175, "named_atoms": 165,
+    "set_atoms": 400, "commands": 220, "counted_set": 200, "interner_table": 200, "named_set": 175,
     "example_tables": 135, "example_sets": 130, "word_counts": 130, "counted_cell": 125, "string_cache_c": 125, "table_generator": 110,
     "example_named": 100, "atomic_steps": 95, "text_forms": 85, "text_streams": 65, "node_chain": 60, "replay_script": 45,
 }

@@ -65,13 +65,19 @@ class Begin(unittest.TestCase):
     def test_a_repository_over_sets_runs(self):
         self.runs("set", "example_hello")
 
+    def test_a_repository_over_named_sets_runs(self):
+        self.runs("named", "example_hello_named")
+
     def test_a_repository_over_tables_runs(self):
         self.runs("table", "example_scopes")
 
-    def test_a_table_is_begun_over_two_crates(self):
-        self.assertEqual(ran(TOOLS / "begin.py", "table", self.room / "few")[0], 0)
-        begun = {path.name for path in (self.room / "few" / "crates").iterdir()}
-        self.assertEqual(begun, {"text_forms", "interner_table", "example_scopes"})
+    def test_each_kind_is_begun_over_what_it_calls(self):
+        atoms = {"text_forms", "node_chain", "counted_cell", "counted_set", "named_set", "set_atoms"}
+        for kind, crates in (
+            ("set", {"example_hello"} | atoms), ("named", {"example_hello_named"} | atoms), ("table", {"text_forms", "interner_table", "example_scopes"}),
+        ):
+            self.assertEqual(ran(TOOLS / "begin.py", kind, self.room / kind)[0], 0)
+            self.assertEqual({path.name for path in (self.room / kind / "crates").iterdir()}, crates, kind)
 
     def test_what_is_there_stays(self):
         own = self.room / "mine"

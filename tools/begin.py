@@ -3,9 +3,10 @@
 tests of this repository alone, as wrong bodies, isn't copied.
 
 - set:    sets and atoms, which threads share, and `example_hello`, which interns a word and prints its atom
+- named:  the same with sets that have a name, and `example_hello_named`, whose two threads are given one word for one text
 - table:  tables for one thread, and `example_scopes`, which counts the names of a program in C, block by block
 
-usage: tools/begin.py set|table FOLDER     FOLDER is new, or empty
+usage: tools/begin.py set|named|table FOLDER     FOLDER is new, or empty
 """
 
 import argparse
@@ -16,7 +17,11 @@ from pathlib import Path
 from repository import TOP, crates_listed, stands_on
 
 # The example of each kind, and the handles that it may use.
-KINDS = {"set": ("example_hello", "Threads, Wait."), "table": ("example_scopes", "none.")}
+KINDS = {
+    "set": ("example_hello", "Threads, Wait."),
+    "named": ("example_hello_named", "Threads, Wait."),
+    "table": ("example_scopes", "none."),
+}
 PARTS = ("src", "specs", "proofs", "data", "README.md", "CALLING.md", "args", "status", "stdin", "stdout")
 
 

@@ -1,8 +1,8 @@
 //! Interns a word, and prints its atom.
 #![tactic(auto)]
 
-use string_cache::DefaultAtom;
-use string_cache::dynamic_set::Set;
+use counted_set::dynamic_set::Set;
+use set_atoms::DefaultAtom;
 
 fn main(rt: HostRuntime) -> Result<(), anyhow::Error> {
     let set = Set::new(rt.alloc())?;

@@ -108,5 +108,5 @@ fn are_one<N: SetName>(words: &[Word<N>]) -> bool
 fn are_all<N: SetName>(words: &[Word<N>], one: &Word<N>) -> bool
     ensures { IsTrue result ↔ All (λ word. word.text ≡ one.now.text) words.now }
 {
-    words.iter().all(|word| word.same(one))
+    words.iter().all(|word| *word == *one)
 }

@@ -1,17 +1,21 @@
 //! Small programs over a set with a name, as its users write them. Each has a contract that is proved from the contracts of
-//! `named_set` alone. The tests that run them are in `crates/test_examples`.
+//! `named_set` and `set_atoms` alone. The tests that run them are in `crates/test_examples`.
 #![tactic(auto)]
 
+mod atoms;
 mod crew;
 mod readers;
 mod results;
 mod symbols;
+mod words;
 
+pub use atoms::are_one_name;
 pub use crew::crew_agrees;
 use named_set::{Held, NamedSet};
 pub use readers::{Told, declare_and_look_up_all, look_up_all};
 pub use symbols::{Symbols, declare_and_look_up, declare_and_look_up_by_threads};
 use text_forms::static_sets::EmptyStaticAtomSet;
+pub use words::are_one_word;
 
 /// The set with this name, which has no static texts.
 pub type Texts<N> = NamedSet<EmptyStaticAtomSet, N>;

@@ -6,7 +6,6 @@ use crate::calls::{Pairs, Timed, compare_all, drop_all};
 use crate::phases::Phases;
 use crate::sets::Shared;
 use crate::texts::Texts;
-use named_atoms::{ByWord, NamedAtom};
 use named_set::{FreshName, NamedSet, SetName};
 use std::alloc::{AllocError, Global};
 use std::collections::HashMap;
@@ -16,7 +15,7 @@ use std::rt::Clock;
 use std::sync::Wait;
 use std::time::Instant;
 use string_cache::word::{Buckets, Limits};
-use string_cache::{EmptyStaticAtomSet, Fault};
+use string_cache::{ByWord, EmptyStaticAtomSet, Fault, NamedAtom};
 
 /// A set whose atoms are keys by their words.
 trait Keyed: Shared {

@@ -1,10 +1,9 @@
 //! The two kinds of sets whose calls are timed, and what is asked of both.
 
-use named_atoms::NamedAtom;
 use named_set::{NamedSet, SetName};
 use std::sync::Wait;
 use string_cache::dynamic_set::Set;
-use string_cache::{Atom, EmptyStaticAtomSet, Fault, StaticAtomSet};
+use string_cache::{Atom, EmptyStaticAtomSet, Fault, NamedAtom, StaticAtomSet};
 
 /// A set that threads share, by what each of them has of it.
 pub trait Shared: Copy {

@@ -16,7 +16,7 @@ use crate::name::SetName;
 use crate::set::NamedSet;
 use counted_cell::{AtLimit, CellShare, LogSeen, Permit, Receipt};
 use std::hash::{Hash, Hasher};
-use std::marker::Model;
+use std::marker::{Model, PhantomData};
 use std::sync::Wait;
 use text_forms::Fault;
 use text_forms::static_sets::StaticTables;
@@ -53,6 +53,15 @@ impl<'s, Static: StaticTables, N: SetName> SetShare<'s, Static, N> {
     {
         let Self { share, set } = self;
         set.give_back(share)
+    }
+
+    /// The share alone, which has no drop.
+    #[inline]
+    fn into_counted(self) -> CellShare
+        ensures { result ≡ self.entry }
+    {
+        let Self { share, set: _ } = self;
+        share
     }
 
     /// A law: its cell is none of those that are gone.
@@ -111,6 +120,51 @@ impl<'s, Static: StaticTables, N: SetName> HeldCell<'s, Static, N> {
         self.own.share.permit()
     }
 
+    /// The word: the ticket that lies in the cell.
+    #[inline]
+    pub fn word(&self) -> u64
+        ensures { result ≡ self.now.word }
+    {
+        self.own.share.label().ticket
+    }
+
+    /// The share alone. `of_share` makes the same of it again, with the same set.
+    #[doc(hidden)]
+    #[inline]
+    pub fn into_share(self) -> HeldShare<Static, N>
+        ensures { result ≡ self.entry }
+    {
+        let Self { own, seen } = self;
+        HeldShare {
+            counted: own.into_counted(),
+            seen,
+            of: PhantomData,
+        }
+    }
+
+    /// The share with its set, which is the one that it was taken from.
+    #[doc(hidden)]
+    #[inline]
+    pub fn of_share(
+        share: HeldShare<Static, N>,
+        set: &'s NamedSet<Static, N>,
+    ) -> HeldCell<'s, Static, N>
+        ensures { result ≡ share }
+    {
+        let HeldShare {
+            counted,
+            seen,
+            of: _,
+        } = share;
+        HeldCell {
+            own: SetShare {
+                share: counted,
+                set,
+            },
+            seen,
+        }
+    }
+
     /// One more that holds the same cell, for the permit. It is refused only where there are as many as there may be, as the error shows:
     /// then the permit is there again, and nothing has changed.
     pub fn clone_held<R: Wait>(
@@ -144,6 +198,68 @@ impl<'s, Static: StaticTables, N: SetName> HeldCell<'s, Static, N> {
         self.seen.meet(&other.seen);
         self.own.outlives(&other.seen);
         other.own.outlives(&self.seen);
+    }
+}
+
+/// One share of a cell, without its set, for who holds many shares of one set.
+///
+/// It has no drop, so that none can be lost or given twice: it ends as a `HeldCell`, which `HeldCell::of_share` makes of it.
+#[doc(hidden)]
+pub struct HeldShare<Static: StaticTables, N: SetName> {
+    counted: CellShare,
+    seen: LogSeen,
+    of: PhantomData<(Static, N)>,
+}
+
+impl<Static: StaticTables, N: SetName> Model for HeldShare<Static, N> {
+    ghost use Rattle.named_set.specs.Logged.{IsSeen};
+    ghost use Rattle.named_set.specs.Words.{HeldWord, held_word};
+
+    ghost Value = { HeldWord };
+
+    ghost view = { λ h. held_word h.counted.cell };
+
+    ghost invariant = { λ h. IsSeen Static.tables N.logs h.seen h.counted.cell };
+}
+
+impl<Static: StaticTables, N: SetName> HeldShare<Static, N> {
+    /// The text.
+    pub fn text(&self) -> &str
+        ensures { result.now ≡ self.now.text }
+    {
+        self.counted.text()
+    }
+
+    /// A permit for one share more, as `HeldCell::permit` gives it.
+    #[inline]
+    pub fn permit(&self) -> Permit
+        requires { self.now.name.grows ≡ true }
+        ensures { result.name ≡ self.now.name }
+    {
+        self.counted.permit()
+    }
+
+    /// One share more of the same cell, for the permit, with its set, which is the one that this share was taken from. It is refused as
+    /// `HeldCell::clone_held` is.
+    pub fn clone_held<'s, R: Wait>(
+        &self,
+        rt: &R,
+        set: &'s NamedSet<Static, N>,
+        permit: Permit,
+    ) -> Result<HeldCell<'s, Static, N>, (AtLimit, Permit)>
+        requires { permit.name ≡ self.now.name }
+        ensures same { IfOk result (λ held. held ≡ self.now) }
+        ensures full { IfErr result (λ full. (full.0 ≡ self.now.name) × (full.1.name ≡ self.now.name) × (full.1.number ≡ permit.number)) }
+    {
+        // Another step seldom comes between, so nothing has to wait.
+        let share = match self.counted.try_add(permit) {
+            Ok(share) => share,
+            Err(permit) => self.counted.add(rt, permit)?,
+        };
+        Ok(HeldCell {
+            own: SetShare { share, set },
+            seen: self.seen.again(),
+        })
     }
 }
 
@@ -245,16 +361,6 @@ impl<'s, Static: StaticTables, N: SetName> Held<'s, Static, N> {
     {
         self.cell.agree(&other.cell);
     }
-
-    /// Whether the texts are the same, by one comparison of two numbers, which reads no text.
-    #[inline]
-    pub fn same<'t>(&self, other: &Held<'t, Static, N>) -> bool
-        ensures word { result ≡ (self.now.word == other.now.word) }
-        ensures text { IsTrue result ↔ (self.now.text ≡ other.now.text) }
-    {
-        self.agree(other);
-        self.word == other.word
-    }
 }
 
 /// By one comparison of two numbers, which reads no text and yet tells whether the texts are the same.
@@ -268,7 +374,8 @@ impl<'s, Static: StaticTables, N: SetName> PartialEq for Held<'s, Static, N> {
         ensures word { result ≡ (self.now.word == other.now.word) }
         ensures text { IsTrue result ↔ (self.now.text ≡ other.now.text) }
     {
-        self.same(other)
+        self.agree(other);
+        self.word == other.word
     }
 }
 

@@ -6,12 +6,13 @@
 #![tactic(auto)]
 
 mod bucket;
-pub mod callers;
 mod held;
 mod locked;
 mod name;
 mod set;
 
+#[doc(hidden)]
+pub use held::HeldShare;
 pub use held::{Held, HeldCell};
 pub use name::{FreshName, SetName};
 pub use set::NamedSet;

@@ -46,14 +46,17 @@ impl Model for FreshName {
 impl FreshName {
     /// A name that no set has, for one of this many buckets. It is refused for `Memory` alone.
     #[tactic(auto, using(crate::proofs::Rows::each_snoc))]
-    pub fn new(alloc: Global, count: Buckets) -> Result<FreshName, Fault>
-        ensures bits { IfOk result (λ name. name.bits ≡ count) }
+    pub fn new(alloc: Global, buckets: Buckets) -> Result<FreshName, Fault>
+        ensures bits { IfOk result (λ name. name.bits ≡ buckets) }
         ensures refused { IfErr result (λ fault. fault ≡ Memory) }
     {
-        let mut logs = Vec::with_capacity(alloc, count.number())?;
-        for _ in 0..count.number() {
+        let mut logs = Vec::with_capacity(alloc, buckets.number())?;
+        for _ in 0..buckets.number() {
             logs.push(CellLog::new())?;
         }
-        Ok(FreshName { logs, count })
+        Ok(FreshName {
+            logs,
+            count: buckets,
+        })
     }
 }

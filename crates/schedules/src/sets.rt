@@ -2,12 +2,11 @@
 
 use crate::seen::Seen;
 use crate::texts::Case;
-use named_atoms::NamedAtom;
 use named_set::{NamedSet, SetName};
 use serde_json::Value;
 use std::sync::Wait;
 use string_cache::dynamic_set::Set;
-use string_cache::{DefaultAtom, EmptyStaticAtomSet, Fault};
+use string_cache::{DefaultAtom, EmptyStaticAtomSet, Fault, NamedAtom};
 
 /// A set that threads share, by what each of them has of it.
 pub trait Shared: Copy {

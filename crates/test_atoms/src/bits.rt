@@ -5,13 +5,14 @@ use crate::assert_that;
 use crate::samples::{
     BITS, DefaultSet, buckets_of, check_linked, drop_under_locks, intern, word_of,
 };
-use crate::scenes::{Step, play_in_one_bucket};
+use crate::scenes::Step;
+use crate::sets::{ONE_BUCKET, Question, Size, ask, play};
 use std::alloc::Global;
 use std::process::Abort;
 use std::sync::Wait;
-use string_cache::DefaultAtom;
 use string_cache::static_sets::EmptyStaticAtomSet;
 use string_cache::word::Buckets;
+use string_cache::{DefaultAtom, SharedSet};
 use test_calls::{has_word, hash_of, look_up, made_with};
 
 fn set_of(rt: &impl Abort, alloc: Global, buckets: Buckets) -> DefaultSet {
@@ -28,43 +29,38 @@ fn has_one_entry<R: Wait>(rt: &R, set: &DefaultSet, number: usize, place: usize)
 }
 
 /// Whether the text is found with this word.
-fn is_found<R: Wait>(rt: &R, set: &DefaultSet, word: u64) -> bool {
+fn is_found<S: SharedSet, R: Wait>(rt: &R, set: S, word: u64) -> bool {
     match look_up(rt, set, "interned") {
         Ok(Some(atom)) => has_word(&atom, word),
         _ => false,
     }
 }
 
-/// Checks that the text's first word is this one, and that it is the only one.
-fn check_first<R: Wait + Abort>(rt: &R, set: &DefaultSet, number: usize, place: usize, first: u64) {
+/// Whether the text's first word is this one, and it is found with it.
+fn comes_first<S: SharedSet, R: Wait + Abort>(rt: &R, set: S, first: u64) -> bool {
     let atom = intern(rt, set, "interned");
-    assert_that(rt, has_word(&atom, first));
-    assert_that(
-        rt,
-        has_one_entry(rt, set, number, place) && is_found(rt, set, first),
-    );
+    has_word(&atom, first) && is_found(rt, set, first)
 }
 
-/// And that the next one has the next serial.
-fn check_words<R: Wait + Abort>(rt: &R, set: &DefaultSet, number: usize, place: usize, first: u64) {
-    check_first(rt, set, number, place, first);
+/// Checks that the text's first word is this one, and that the next one has the next serial.
+pub fn check<S: SharedSet, R: Wait + Abort>(rt: &R, set: S, first: u64) {
+    assert_that(rt, comes_first(rt, set, first));
     assert_that(
         rt,
         word_of(rt, set, "interned").wrapping_sub(first) == 0x1_0000,
     );
 }
 
-/// Checks them in a set of so many bits.
-fn check_words_of<R: Wait + Abort>(
-    rt: &R,
-    alloc: Global,
-    bits: u8,
-    number: usize,
-    place: usize,
-    first: u64,
-) {
+/// Whether the text lies in the bucket at this place, of as many.
+fn has_place<R: Wait + Abort>(rt: &R, set: &DefaultSet, number: usize, place: usize) -> bool {
+    let _held = intern(rt, set, "interned");
+    has_one_entry(rt, set, number, place)
+}
+
+/// Checks it in a set of so many bits.
+fn check_place<R: Wait + Abort>(rt: &R, alloc: Global, bits: u8, number: usize, place: usize) {
     let set = set_of(rt, alloc, buckets_of(rt, bits));
-    check_words(rt, &set, number, place, first);
+    assert_that(rt, has_place(rt, &set, number, place));
 }
 
 /// Bits, how many buckets these are, the text's bucket, and the first word.
@@ -90,7 +86,12 @@ const WORDS: [(u8, usize, usize, u64); 15] = [
 #[test]
 fn words_have_the_bits_of_their_set(rt: HostRuntime) {
     for (bits, number, place, first) in &WORDS {
-        check_words_of(&rt, rt.alloc(), *bits, *number, *place, *first);
+        let size = Size {
+            bits: *bits,
+            limits: None,
+        };
+        check_place(&rt, rt.alloc(), *bits, *number, *place);
+        ask(&rt, rt.alloc(), size, Question::FirstWord(*first));
     }
 }
 
@@ -104,7 +105,7 @@ const TICKETS: [Step; 5] = [
 
 #[test]
 fn one_bucket_gives_all_tickets(rt: HostRuntime) {
-    play_in_one_bucket(&rt, rt.alloc(), &TICKETS);
+    play(&rt, rt.alloc(), ONE_BUCKET, &[&TICKETS]);
 }
 
 /// A text of the bucket, if one of a million has it.

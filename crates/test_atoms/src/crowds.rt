@@ -1,17 +1,55 @@
 //! Texts of one bucket, and many workers at them.
 
-use crate::samples::{BITS, DefaultSet, buckets_of, check_linked, clone_of, default_set, intern};
+use crate::samples::{BITS, buckets_of, check_linked, clone_of, intern};
+use crate::sets::{self, Size, USUAL, ask};
 use crate::{assert_for, assert_that};
 use std::alloc::Global;
 use std::process::Abort;
 use std::sync::Wait;
 use std::thread::{self, Threads};
-use string_cache::DefaultAtom;
+use std::time::Clock;
 use string_cache::static_sets::EmptyStaticAtomSet;
 use string_cache::table::Table;
 use string_cache::word::{Buckets, Limits};
-use test_calls::{has_text, hash_of, links, made_with};
+use string_cache::{AtomKind, SetAtom, SharedSet};
+use test_calls::{has_text, hash_of, links};
 use test_samples::keys;
+
+/// What is asked of a new set.
+#[derive(Clone, Copy)]
+pub enum Question<'q> {
+    /// Both texts, which are of one bucket, stay apart.
+    Apart(&'q str, &'q str),
+    /// So many workers are at the texts at once, so often.
+    Workers(usize, usize, &'q [String]),
+    /// Many texts come and go, one after another.
+    ComeAndGo,
+}
+
+/// Asks it of a set, which has no text afterwards.
+pub fn check<S: SharedSet + Send + Sync, R: Threads + Wait + Abort + Sync>(
+    rt: &R,
+    set: S,
+    question: Question<'_>,
+) {
+    match question {
+        Question::Apart(first, second) => check_apart_in_a_set(rt, set, first, second),
+        Question::Workers(number, rounds, texts) => check_workers(rt, set, (number, rounds), texts),
+        Question::ComeAndGo => come_and_go(rt, set),
+    }
+    check_linked(rt, set, 0);
+}
+
+/// Asks it of a new set of so many bits, of each kind.
+fn check_both<R: Threads + Clock + Wait + Abort + Sync>(
+    rt: &R,
+    alloc: Global,
+    bits: u8,
+    question: Question<'_>,
+) {
+    let size = Size { bits, limits: None };
+    ask(rt, alloc, size, sets::Question::Crowds(question));
+}
 
 /// The text of a number: `w0000000`, `w0000001` and so on.
 pub fn numbered(rt: &impl Abort, alloc: Global, n: usize) -> String {
@@ -74,17 +112,17 @@ fn bucket_mates(
 }
 
 /// Whether the atoms of two texts have words of their own, and differ.
-fn are_apart(one: &DefaultAtom<'_>, two: &DefaultAtom<'_>) -> bool {
+fn are_apart<H: AtomKind>(one: &SetAtom<H>, two: &SetAtom<H>) -> bool {
     one.unsafe_data() != two.unsafe_data() && one != two
 }
 
 /// Two atoms, as clones of others that were apart and have gone.
-fn cloned_apart<'s, R: Wait + Abort>(
+fn cloned_apart<S: SharedSet, R: Wait + Abort>(
     rt: &R,
-    set: &'s DefaultSet,
+    set: S,
     first: &str,
     second: &str,
-) -> (DefaultAtom<'s>, DefaultAtom<'s>) {
+) -> (SetAtom<S::Held>, SetAtom<S::Held>) {
     let one = intern(rt, set, first);
     let two = intern(rt, set, second);
     assert_that(rt, are_apart(&one, &two));
@@ -92,7 +130,7 @@ fn cloned_apart<'s, R: Wait + Abort>(
 }
 
 /// Interns both texts in a set, and goes on with clones.
-fn check_apart_in_a_set<R: Wait + Abort>(rt: &R, set: &DefaultSet, first: &str, second: &str) {
+fn check_apart_in_a_set<S: SharedSet, R: Wait + Abort>(rt: &R, set: S, first: &str, second: &str) {
     let (one, two) = cloned_apart(rt, set, first, second);
     assert_that(rt, has_text(&one, first) && has_text(&two, second));
     drop(one);
@@ -153,12 +191,6 @@ fn check_apart_in_a_table(
     assert_that(rt, has_entries(table, 0));
 }
 
-/// Checks two texts in a set of this many buckets.
-fn check_set<R: Wait + Abort>(rt: &R, alloc: Global, buckets: Buckets, first: &str, second: &str) {
-    let set = made_with(alloc, buckets).expect(rt, "a set");
-    check_apart_in_a_set(rt, &set, first, second);
-}
-
 fn table_of(rt: &impl Abort, alloc: Global, buckets: Buckets) -> Table<EmptyStaticAtomSet> {
     let keys = keys(1).expect(rt, "keys");
     Table::with_buckets(alloc, keys, Limits::greatest(), buckets).expect(rt, "a table")
@@ -170,8 +202,8 @@ fn check_table(rt: &impl Abort, alloc: Global, buckets: Buckets, first: &str, se
     check_apart_in_a_table(rt, &mut table, first, second);
 }
 
-/// Checks two texts of one bucket in both.
-fn check_apart<R: Wait + Abort>(
+/// Checks two texts of one bucket in a set of each kind, and in a table.
+fn check_apart<R: Threads + Clock + Wait + Abort + Sync>(
     rt: &R,
     alloc: Global,
     buckets: Buckets,
@@ -183,7 +215,7 @@ fn check_apart<R: Wait + Abort>(
         rt,
         bucket_of_text(buckets, first) == bucket_of_text(buckets, second),
     );
-    check_set(rt, alloc, buckets, first, second);
+    check_both(rt, alloc, buckets.bits(), Question::Apart(first, second));
     check_table(rt, alloc, buckets, first, second);
 }
 
@@ -200,16 +232,21 @@ fn first_mates(
 }
 
 /// Checks two texts, which these are.
-fn check_both<R: Wait + Abort>(rt: &R, alloc: Global, buckets: Buckets, mates: &[String]) {
+fn check_mates_of<R: Threads + Clock + Wait + Abort + Sync>(
+    rt: &R,
+    alloc: Global,
+    buckets: Buckets,
+    mates: &[String],
+) {
     assert_that(rt, mates.len() == 2);
     if let [first, second] = mates {
         check_apart(rt, alloc, buckets, first, second);
     }
 }
 
-fn check_mates<R: Wait + Abort>(rt: &R, alloc: Global, buckets: Buckets) {
+fn check_mates<R: Threads + Clock + Wait + Abort + Sync>(rt: &R, alloc: Global, buckets: Buckets) {
     let mates = first_mates(rt, alloc, buckets, buckets.number() + 1, 2);
-    check_both(rt, alloc, buckets, &mates);
+    check_mates_of(rt, alloc, buckets, &mates);
 }
 
 /// Of one text more than there are buckets two have one bucket.
@@ -221,17 +258,22 @@ fn two_texts_of_one_bucket(rt: HostRuntime) {
 }
 
 /// Interns and clones a text. Whether the clone has it once the atom has gone.
-fn is_cloned<R: Wait + Abort>(rt: &R, set: &DefaultSet, text: &str) -> bool {
+fn is_cloned<S: SharedSet, R: Wait + Abort>(rt: &R, set: S, text: &str) -> bool {
     let atom = intern(rt, set, text);
     let clone = clone_of(rt, &atom);
     drop(atom);
     has_text(&clone, text)
 }
 
-/// Interns, clones and drops each of the texts, again and again. Whether each atom had its text.
-fn turn_over<R: Wait + Abort>(rt: &R, set: &DefaultSet, texts: &[String]) -> bool {
+/// Interns, clones and drops each of the texts, so often. Whether each atom had its text.
+fn turn_over<S: SharedSet, R: Wait + Abort>(
+    rt: &R,
+    set: S,
+    rounds: usize,
+    texts: &[String],
+) -> bool {
     let mut is_same = true;
-    for _ in 0..1000 {
+    for _ in 0..rounds {
         for text in texts {
             is_same = is_same && is_cloned(rt, set, text);
         }
@@ -239,58 +281,80 @@ fn turn_over<R: Wait + Abort>(rt: &R, set: &DefaultSet, texts: &[String]) -> boo
     is_same
 }
 
-/// Whether all of 64 turns were as they should be.
-fn is_sixty_four_times(turns: &[bool]) -> bool {
-    turns.len() == 64 && turns.iter().all(|is_same| *is_same)
+/// Whether so many turns were as they should be, and all of them.
+fn are_all(turns: &[bool], number: usize) -> bool {
+    turns.len() == number && turns.iter().all(|is_same| *is_same)
 }
 
-/// Workers at these texts. Whether each atom had its text, and whether none is left linked.
-fn work_together<R: Threads + Wait + Abort + Sync>(
+/// So many workers, each with so many rounds, at these texts. Whether each atom had its text, and whether none is left linked.
+fn work_together<S: SharedSet + Send + Sync, R: Threads + Wait + Abort + Sync>(
     rt: &R,
-    set: &DefaultSet,
+    set: S,
+    (number, rounds): (usize, usize),
     texts: &[String],
 ) -> bool {
-    let turns = thread::map_indices(rt, set.allocator(), 64, &|_| turn_over(rt, set, texts)).expect(
-        rt, "room",
+    let turns = thread::map_indices(
+        rt,
+        set.allocator(),
+        number,
+        &|_| { turn_over(rt, set, rounds, texts) },
     );
+    let turns = turns.expect(rt, "room");
     set.sweep(rt);
-    links(rt, set, 0) && is_sixty_four_times(&turns)
+    links(rt, set, 0) && are_all(&turns, number)
 }
 
-fn check_eleven<R: Threads + Wait + Abort + Sync>(rt: &R, set: &DefaultSet, texts: &[String]) {
+fn check_workers<S: SharedSet + Send + Sync, R: Threads + Wait + Abort + Sync>(
+    rt: &R,
+    set: S,
+    crew: (usize, usize),
+    texts: &[String],
+) {
     assert_that(rt, texts.len() == 11);
-    assert_that(rt, work_together(rt, set, texts));
+    assert_that(rt, work_together(rt, set, crew, texts));
 }
 
-/// Workers at eleven texts of one bucket, in a set of 2 to the power of `bits` buckets. As ten texts for each bucket would be fewer, some
-/// bucket has eleven.
-fn check_workers<R: Threads + Wait + Abort + Sync>(rt: &R, alloc: Global, bits: u8) {
+/// So many workers, each with so many rounds, at eleven texts of one bucket, in sets of 2 to the power of `bits` buckets. As ten texts for each
+/// bucket would be fewer, some bucket has eleven.
+fn check_crew<R: Threads + Clock + Wait + Abort + Sync>(
+    rt: &R,
+    alloc: Global,
+    bits: u8,
+    (number, rounds): (usize, usize),
+) {
     let buckets = buckets_of(rt, bits);
     let mates = first_mates(rt, alloc, buckets, 10 * buckets.number() + 1, 11);
-    let set = made_with(alloc, buckets).expect(rt, "a set");
-    check_eleven(rt, &set, &mates);
+    check_both(rt, alloc, bits, Question::Workers(number, rounds, &mates));
 }
 
 #[test]
 fn many_workers_at_one_bucket(rt: HostRuntime) {
-    check_workers(&rt, rt.alloc(), 12);
+    check_crew(&rt, rt.alloc(), 12, (64, 1_000));
 }
 
 #[test]
 fn many_workers_at_the_only_bucket(rt: HostRuntime) {
-    check_workers(&rt, rt.alloc(), 0);
+    check_crew(&rt, rt.alloc(), 0, (64, 1_000));
 }
 
 #[test]
 fn many_workers_at_one_of_the_most_buckets(rt: HostRuntime) {
-    check_workers(&rt, rt.alloc(), 14);
+    check_crew(&rt, rt.alloc(), 14, (64, 1_000));
 }
 
-fn comes_and_goes<R: Wait + Abort>(rt: &R, set: &DefaultSet, text: &str) -> bool {
+/// A crew may have nobody, one worker, or a hundred.
+#[test]
+fn crews_of_each_number(rt: HostRuntime) {
+    for number in &[0, 1, 100] {
+        check_crew(&rt, rt.alloc(), 1, (*number, 100));
+    }
+}
+
+fn comes_and_goes<S: SharedSet, R: Wait + Abort>(rt: &R, set: S, text: &str) -> bool {
     has_text(&intern(rt, set, text), text)
 }
 
-fn come_and_go<R: Wait + Abort>(rt: &R, set: &DefaultSet) {
+fn come_and_go<S: SharedSet, R: Wait + Abort>(rt: &R, set: S) {
     for n in 0..10_000 {
         assert_that(
             rt,
@@ -305,5 +369,5 @@ fn come_and_go<R: Wait + Abort>(rt: &R, set: &DefaultSet) {
 /// What nobody holds doesn't stay, in a loop over many texts.
 #[test]
 fn ten_thousand_texts_come_and_go(rt: HostRuntime) {
-    come_and_go(&rt, &default_set(&rt, rt.alloc()));
+    check_both(&rt, rt.alloc(), USUAL.bits, Question::ComeAndGo);
 }

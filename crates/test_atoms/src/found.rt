@@ -1,33 +1,26 @@
 //! Texts that are looked up, and not interned. By OpenSSL's SipHash the bucket of "interned" is 0x210, and of "forgotten" and "magnitude"
 //! 0x72f. A word is its serial times 0x10000 and its bucket times 4.
 
-use crate::samples::new_set;
-use crate::scenes::{Call, Step, play_in_new, play_in_one_bucket, play_within};
-use crate::{assert_for, assert_that};
-use std::sync::Wait;
+use crate::scenes::{Call, Step};
+use crate::sets::{ONE_BUCKET, USUAL, play, within};
 use string_cache::Fault;
-use string_cache::dynamic_set::Set;
-use test_calls::{is_of, links, look_up};
-use test_samples::One;
-
-/// Whether the text is found, with this word.
-fn is_found<R: Wait>(rt: &R, set: &Set<One>, text: &str, word: u64) -> bool {
-    match look_up(rt, set, text) {
-        Ok(Some(atom)) => is_of(&atom, word, text),
-        _ => false,
-    }
-}
 
 /// Texts that are inline or static, and their words.
-const FIXED: [(&str, u64); 4] = [("", 1), ("\0", 0x11), ("foo", 0x6f6f_6631), ("sentence", 2)];
+const FIXED: [Step; 9] = [
+    Step::Make(Call::Find("")),
+    Step::Is(0, "", 1),
+    Step::Make(Call::Find("\0")),
+    Step::Is(1, "\0", 0x11),
+    Step::Make(Call::Find("foo")),
+    Step::Is(2, "foo", 0x6f6f_6631),
+    Step::Make(Call::Find("sentence")),
+    Step::Is(3, "sentence", 2),
+    Step::Linked(0),
+];
 
 #[test]
 fn fixed_texts_are_found(rt: HostRuntime) {
-    let set = new_set::<One>(&rt, rt.alloc());
-    for (text, word) in &FIXED {
-        assert_for(&rt, is_found(&rt, &set, text, *word), text);
-    }
-    assert_that(&rt, links(&rt, &set, 0));
+    play(&rt, rt.alloc(), USUAL, &[&FIXED]);
 }
 
 /// "forgotten" has an atom, where another text of its bucket and one of another bucket have none. What is found holds its text after the atom
@@ -48,21 +41,21 @@ const HELD: [Step; 11] = [
 
 #[test]
 fn held_texts_alone_are_found(rt: HostRuntime) {
-    play_in_new(&rt, rt.alloc(), &HELD);
+    play(&rt, rt.alloc(), USUAL, &[&HELD]);
 }
 
-/// Each of five texts of one bucket, which lie in two nodes.
+/// Each of five texts of one bucket, which lie in two nodes of a set without a name.
 const OF_A_BUCKET: [Step; 18] = [
     Step::Intern("interned"),
     Step::Intern("tokenised"),
-    Step::Intern("sentence"),
+    Step::Intern("document"),
     Step::Intern("repeated"),
     Step::Intern("forgotten"),
     Step::Make(Call::Find("interned")),
     Step::One(0, 5),
     Step::Make(Call::Find("tokenised")),
     Step::One(1, 6),
-    Step::Make(Call::Find("sentence")),
+    Step::Make(Call::Find("document")),
     Step::One(2, 7),
     Step::Make(Call::Find("repeated")),
     Step::One(3, 8),
@@ -75,7 +68,7 @@ const OF_A_BUCKET: [Step; 18] = [
 
 #[test]
 fn each_text_of_a_bucket_is_found(rt: HostRuntime) {
-    play_in_one_bucket(&rt, rt.alloc(), &OF_A_BUCKET);
+    play(&rt, rt.alloc(), ONE_BUCKET, &[&OF_A_BUCKET]);
 }
 
 /// The only ticket of "interned" is left after it was looked up, and none then.
@@ -92,7 +85,7 @@ const WITHOUT_TICKETS: [Step; 8] = [
 
 #[test]
 fn look_up_spends_no_ticket(rt: HostRuntime) {
-    play_within(&rt, rt.alloc(), (9, 1), &WITHOUT_TICKETS);
+    play(&rt, rt.alloc(), within(9, 1), &[&WITHOUT_TICKETS]);
 }
 
 /// What is found is a holder, of which there may be two, and gives its share back.
@@ -119,5 +112,5 @@ const HOLDERS: [Step; 18] = [
 
 #[test]
 fn found_atom_is_a_holder(rt: HostRuntime) {
-    play_within(&rt, rt.alloc(), (2, 9), &HOLDERS);
+    play(&rt, rt.alloc(), within(2, 9), &[&HOLDERS]);
 }

@@ -1,17 +1,9 @@
 //! Holders up to their limit, and what is left of them. By OpenSSL's SipHash the bucket of "interned" is 0x210, so that its first two tickets
 //! are 0x1_0840 and 0x2_0840.
 
-use crate::assert_that;
-use crate::samples::{limited_set, new_set};
-use crate::scenes::{Call, Step, play_in_new, play_within};
-use std::process::Abort;
+use crate::scenes::{Call, Step};
+use crate::sets::{Size, USUAL, play, within};
 use string_cache::Fault;
-use string_cache::static_sets::EmptyStaticAtomSet;
-use string_cache::word::Limits;
-
-fn limits_of(rt: &impl Abort, holders: u64, serials: u64) -> Limits {
-    Limits::new(holders, serials).expect(rt, "limits")
-}
 
 /// Two atoms of a text are all that there may be, for each call that would make one more. Where one of them goes, both calls make an atom of
 /// the same word, one after the other.
@@ -40,7 +32,7 @@ const TWO_HOLDERS: [Step; 20] = [
 
 #[test]
 fn two_holders(rt: HostRuntime) {
-    play_within(&rt, rt.alloc(), (2, 9), &TWO_HOLDERS);
+    play(&rt, rt.alloc(), within(2, 9), &[&TWO_HOLDERS]);
 }
 
 const ONE_SERIAL: [Step; 3] = [
@@ -51,15 +43,7 @@ const ONE_SERIAL: [Step; 3] = [
 
 #[test]
 fn one_serial(rt: HostRuntime) {
-    play_within(&rt, rt.alloc(), (9, 1), &ONE_SERIAL);
-}
-
-#[test]
-fn limits_of_a_set(rt: HostRuntime) {
-    let set = new_set::<EmptyStaticAtomSet>(&rt, rt.alloc());
-    assert_that(&rt, set.limits() == Limits::greatest());
-    let set = limited_set(&rt, rt.alloc(), 2, 9);
-    assert_that(&rt, set.limits() == limits_of(&rt, 2, 9));
+    play(&rt, rt.alloc(), within(9, 1), &[&ONE_SERIAL]);
 }
 
 /// A text of two thousand holders and one more, interned and cloned in turn, of which the first is left.
@@ -77,7 +61,7 @@ const MANY: [Step; 9] = [
 
 #[test]
 fn two_thousand_holders(rt: HostRuntime) {
-    play_in_new(&rt, rt.alloc(), &MANY);
+    play(&rt, rt.alloc(), USUAL, &[&MANY]);
 }
 
 /// While the text has a holder more, which is made in lower case of an atom in upper case, there can't be a third. No serial is left, and once
@@ -114,5 +98,109 @@ const NO_SHARE_STAYS: [Step; 26] = [
 /// Neither a refused call nor one in another case leaves a share behind.
 #[test]
 fn no_share_stays_behind(rt: HostRuntime) {
-    play_within(&rt, rt.alloc(), (2, 1), &NO_SHARE_STAYS);
+    play(&rt, rt.alloc(), within(2, 1), &[&NO_SHARE_STAYS]);
+}
+
+/// One bucket of two serials, of which a text may have two holders.
+const NARROW: Size = Size {
+    bits: 0,
+    limits: Some((2, 2)),
+};
+
+/// Each call that would hold once more what has two holders is refused for that, also if another text is put into small letters.
+const FULL: [Step; 13] = [
+    Step::Intern("größenordnung"),
+    Step::Intern("größenordnung"),
+    Step::Refused(Call::Intern("größenordnung"), Fault::FullCount),
+    Step::Refused(Call::Own("größenordnung"), Fault::FullCount),
+    Step::Refused(Call::Cow("größenordnung"), Fault::FullCount),
+    Step::Refused(Call::Json("größenordnung"), Fault::FullCount),
+    Step::Refused(Call::Find("größenordnung"), Fault::FullCount),
+    Step::Refused(Call::Again(0), Fault::FullCount),
+    Step::Refused(Call::Clone(0), Fault::FullCount),
+    Step::Refused(Call::Copy(0), Fault::FullCount),
+    Step::Refused(Call::Lower(0), Fault::FullCount),
+    Step::Intern("GRößENORDNUNG"),
+    Step::Refused(Call::Lower(2), Fault::FullCount),
+];
+
+/// Once both tickets are given, each call that would link another text is refused for that, also if a static one is put into capitals. The
+/// text that has one holder can be held once more by each call.
+const SPENT: [Step; 20] = [
+    Step::Refused(Call::Intern("tokenised"), Fault::TicketsSpent),
+    Step::Refused(Call::Own("tokenised"), Fault::TicketsSpent),
+    Step::Refused(Call::Cow("tokenised"), Fault::TicketsSpent),
+    Step::Refused(Call::Json("tokenised"), Fault::TicketsSpent),
+    Step::Absent("tokenised"),
+    Step::Intern("sentence"),
+    Step::Refused(Call::Upper(3), Fault::TicketsSpent),
+    Step::Drop(1),
+    Step::Make(Call::Own("größenordnung")),
+    Step::Drop(4),
+    Step::Make(Call::Cow("größenordnung")),
+    Step::Drop(5),
+    Step::Make(Call::Json("größenordnung")),
+    Step::Drop(6),
+    Step::Make(Call::Again(0)),
+    Step::Drop(7),
+    Step::Make(Call::Lower(2)),
+    Step::One(0, 8),
+    Step::Keep(0),
+    Step::Linked(0),
+];
+
+#[test]
+fn limits_refuse_calls(rt: HostRuntime) {
+    play(&rt, rt.alloc(), NARROW, &[&FULL, &SPENT]);
+}
+
+/// Inline and static texts are nobody's to hold: the set has none of them.
+const FIXED: [Step; 7] = [
+    Step::Intern(""),
+    Step::Intern("été"),
+    Step::Intern("sentence"),
+    Step::Repeat(
+        &[
+            Call::Own("sentence"),
+            Call::Cow("foo"),
+            Call::Json("sentence"),
+            Call::Clone(2),
+            Call::Lower(2),
+            Call::Again(1),
+        ],
+        3,
+    ),
+    Step::Linked(0),
+    Step::Visits("", ""),
+    Step::Keep(0),
+];
+
+#[test]
+fn fixed_texts_are_not_linked(rt: HostRuntime) {
+    play(&rt, rt.alloc(), within(1, 1), &[&FIXED]);
+}
+
+/// Each call that links a text takes one ticket, and one that finds it takes none. By OpenSSL's SipHash the bucket of "INTERNED" isn't 0x210.
+const TICKETS: [Step; 16] = [
+    Step::Make(Call::Own("interned")),
+    Step::Is(0, "interned", 0x1_0840),
+    Step::Drop(0),
+    Step::Make(Call::Cow("interned")),
+    Step::Is(1, "interned", 0x2_0840),
+    Step::Drop(1),
+    Step::Make(Call::Json("interned")),
+    Step::Is(2, "interned", 0x3_0840),
+    Step::Make(Call::Upper(2)),
+    Step::Drop(2),
+    Step::Make(Call::Lower(3)),
+    Step::Is(4, "interned", 0x4_0840),
+    Step::Make(Call::Again(4)),
+    Step::Make(Call::Lower(4)),
+    Step::Keep(0),
+    Step::Word("interned", 0x5_0840),
+];
+
+#[test]
+fn each_call_takes_one_ticket(rt: HostRuntime) {
+    play(&rt, rt.alloc(), USUAL, &[&TICKETS]);
 }

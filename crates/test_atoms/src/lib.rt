@@ -15,7 +15,11 @@ mod buckets;
 #[cfg(test)]
 mod crowds;
 #[cfg(test)]
+mod dying;
+#[cfg(test)]
 mod every_bucket;
+#[cfg(test)]
+mod forms;
 #[cfg(test)]
 mod found;
 #[cfg(test)]
@@ -39,13 +43,19 @@ mod samples;
 #[cfg(test)]
 mod scenes;
 #[cfg(test)]
+mod sets;
+#[cfg(test)]
 mod single_tries;
 #[cfg(test)]
 mod texts;
 #[cfg(test)]
 mod threads;
 #[cfg(test)]
+mod told;
+#[cfg(test)]
 mod visits;
+#[cfg(test)]
+mod waits;
 
 /// Ends the test unless this is so: one call, where `assert!` writes its message and its ways out into the function that asks.
 #[cfg(test)]

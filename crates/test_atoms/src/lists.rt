@@ -1,63 +1,79 @@
 //! Lists of atoms of one set: what they hold, and that what goes from them is given back.
 
-use crate::samples::{DefaultSet, default_set, intern, limited_set, lock_of, new_set, one_bucket};
+mod many;
+
+use crate::samples::{check_linked, intern, new_set};
+use crate::sets::{self, ONE_BUCKET, Size, USUAL, ask, within};
 use crate::{assert_for, assert_that};
 use std::alloc::Global;
 use std::process::Abort;
 use std::sync::Wait;
 use std::thread::{self, Threads};
+use std::time::Clock;
 use string_cache::dynamic_set::Set;
-use string_cache::static_sets::{EmptyStaticAtomSet, StaticTables};
 use string_cache::word::ticket_word;
-use string_cache::{Atom, AtomList, Fault};
+use string_cache::{Fault, ListOf, SetAtom, SetList, SharedSet};
 use test_calls::{are_one, cloned_at, has_text, is_of, links, pop, push};
 use test_samples::One;
 
-/// A list of atoms without static texts.
-type DefaultList<'s> = AtomList<'s, EmptyStaticAtomSet>;
-
 /// What is done with a new set.
 #[derive(Clone, Copy)]
-enum Scene {
+pub enum Scene {
+    EachForm,
     NarrowSet,
     PlacesGo,
     FilledAgain,
     LongList,
     LongListCleared,
-    LongText,
+    MillionPlaces,
+    Texts,
+    Tickets,
     EndsUnderLock,
+    FixedUnderLock,
     TwoThreads,
-    OtherThread,
 }
 
 /// Plays the scene in a set.
-fn act<R: Threads + Wait + Abort + Sync>(rt: &R, set: &DefaultSet, scene: Scene) {
+fn act<S: SharedSet + Send + Sync, R: Threads + Wait + Abort + Sync>(rt: &R, set: S, scene: Scene) {
     match scene {
+        Scene::EachForm => lend_each_form(rt, set, &list_of(rt, set, &FORMS)),
         Scene::NarrowSet => fill_narrow_set(rt, set, &mut list_of(rt, set, &TWICE)),
         Scene::PlacesGo => take_places(rt, set, &mut list_of(rt, set, &FOUR)),
         Scene::FilledAgain => fill_again(rt, set, &mut list_of(rt, set, &THREE)),
-        Scene::LongList => find_in_long_list(rt, set, &long_list(rt, set)),
-        Scene::LongListCleared => clear_long_list(rt, set, &mut long_list(rt, set)),
-        Scene::LongText => hold_long_text(rt, set),
+        Scene::LongList => many::find_in_long_list(rt, set),
+        Scene::LongListCleared => many::clear_long_list(rt, set),
+        Scene::MillionPlaces => many::fill_million_places(rt, set),
+        Scene::Texts => hold_each_text(rt, set),
+        Scene::Tickets => take_tickets(rt, set),
         Scene::EndsUnderLock => end_under_lock(rt, set),
+        Scene::FixedUnderLock => fill_under_lock(rt, set),
         Scene::TwoThreads => fill_in_two(rt, set),
-        Scene::OtherThread => end_in_another(rt, set),
     }
 }
 
-/// Plays the scene in a set, which has no entry afterwards.
-fn play<R: Threads + Wait + Abort + Sync>(rt: &R, set: DefaultSet, scene: Scene) {
-    act(rt, &set, scene);
-    assert_that(rt, links(rt, &set, 0));
+/// Plays the scene in a set, which has no text afterwards.
+pub fn play<S: SharedSet + Send + Sync, R: Threads + Wait + Abort + Sync>(
+    rt: &R,
+    set: S,
+    scene: Scene,
+) {
+    act(rt, set, scene);
+    check_linked(rt, set, 0);
+}
+
+/// Plays it in a new set of this size, of each kind.
+fn play_both<R: Threads + Clock + Wait + Abort + Sync>(
+    rt: &R,
+    alloc: Global,
+    size: Size,
+    scene: Scene,
+) {
+    ask(rt, alloc, size, sets::Question::Lists(scene));
 }
 
 /// A list of these texts.
-fn list_of<'s, R: Wait + Abort, Static: StaticTables>(
-    rt: &R,
-    set: &'s Set<Static>,
-    texts: &[&str],
-) -> AtomList<'s, Static> {
-    let mut list = AtomList::new(set);
+fn list_of<S: SharedSet, R: Wait + Abort>(rt: &R, set: S, texts: &[&str]) -> SetList<S> {
+    let mut list = ListOf::new(set);
     for text in texts {
         push(rt, &mut list, text).expect(rt, "a place");
     }
@@ -65,12 +81,12 @@ fn list_of<'s, R: Wait + Abort, Static: StaticTables>(
 }
 
 /// Whether the list has this text at this place.
-fn has_at<Static: StaticTables>(list: &AtomList<'_, Static>, at: usize, text: &str) -> bool {
+fn has_at<S: SharedSet>(list: &SetList<S>, at: usize, text: &str) -> bool {
     list.get(at) == Some(text)
 }
 
 /// Whether the list has these texts, at their places and in their order.
-fn has_each<Static: StaticTables>(list: &AtomList<'_, Static>, texts: &[&str]) -> bool {
+fn has_each<S: SharedSet>(list: &SetList<S>, texts: &[&str]) -> bool {
     let mut left = list.iter();
     for (at, text) in texts.iter().enumerate() {
         if !has_at(list, at, text) || left.next() != Some(*text) {
@@ -81,7 +97,7 @@ fn has_each<Static: StaticTables>(list: &AtomList<'_, Static>, texts: &[&str]) -
 }
 
 /// Whether the list has these texts, by each call that tells them.
-fn has_texts<Static: StaticTables>(list: &AtomList<'_, Static>, texts: &[&str]) -> bool {
+fn has_texts<S: SharedSet>(list: &SetList<S>, texts: &[&str]) -> bool {
     list.len() == texts.len()
         && list.is_empty() == texts.is_empty()
         && list.iter().len() == texts.len()
@@ -89,10 +105,10 @@ fn has_texts<Static: StaticTables>(list: &AtomList<'_, Static>, texts: &[&str]) 
 }
 
 /// Whether the list has these texts, and the set so many entries.
-fn holds<R: Wait, Static: StaticTables>(
+fn holds<S: SharedSet, R: Wait>(
     rt: &R,
-    set: &Set<Static>,
-    list: &AtomList<'_, Static>,
+    set: S,
+    list: &SetList<S>,
     texts: &[&str],
     entries: u128,
 ) -> bool {
@@ -100,20 +116,20 @@ fn holds<R: Wait, Static: StaticTables>(
 }
 
 /// The atom at a place.
-fn atom_at<'s, R: Wait + Abort, Static: StaticTables>(
+fn atom_at<S: SharedSet, R: Wait + Abort>(
     rt: &R,
-    list: &AtomList<'s, Static>,
+    list: &SetList<S>,
     at: usize,
-) -> Option<Atom<'s, Static>> {
+) -> Option<SetAtom<S::Held>> {
     cloned_at(rt, list, at).expect(rt, "an answer")
 }
 
 /// Whether the atom at a place is that of its text: of the same word, and equal.
-fn lends_own_atom<R: Wait + Abort, Static: StaticTables>(
+fn lends_own_atom<S: SharedSet, R: Wait + Abort>(
     rt: &R,
-    list: &AtomList<'_, Static>,
+    list: &SetList<S>,
     at: usize,
-    own: &Atom<'_, Static>,
+    own: &SetAtom<S::Held>,
     text: &str,
 ) -> bool {
     match atom_at(rt, list, at) {
@@ -123,11 +139,7 @@ fn lends_own_atom<R: Wait + Abort, Static: StaticTables>(
 }
 
 /// Whether there is no such place, and so no atom.
-fn lends_none<R: Wait + Abort, Static: StaticTables>(
-    rt: &R,
-    list: &AtomList<'_, Static>,
-    at: usize,
-) -> bool {
+fn lends_none<S: SharedSet, R: Wait + Abort>(rt: &R, list: &SetList<S>, at: usize) -> bool {
     atom_at(rt, list, at).is_none()
 }
 
@@ -135,7 +147,7 @@ fn lends_none<R: Wait + Abort, Static: StaticTables>(
 const FORMS: [&str; 5] = ["é", "sentence", "interned", "", "Überfluß"];
 
 /// A list of each form lends the atoms of its texts, and none behind them.
-fn lend_each_form<R: Wait + Abort>(rt: &R, set: &Set<One>, list: &AtomList<'_, One>) {
+fn lend_each_form<S: SharedSet, R: Wait + Abort>(rt: &R, set: S, list: &SetList<S>) {
     assert_that(rt, holds(rt, set, list, &FORMS, 2));
     for (at, text) in FORMS.iter().enumerate() {
         assert_for(
@@ -149,16 +161,14 @@ fn lend_each_form<R: Wait + Abort>(rt: &R, set: &Set<One>, list: &AtomList<'_, O
 
 #[test]
 fn list_of_each_form(rt: HostRuntime) {
-    let set = new_set::<One>(&rt, rt.alloc());
-    lend_each_form(&rt, &set, &list_of(&rt, &set, &FORMS));
-    assert_that(&rt, links(&rt, &set, 0));
+    play_both(&rt, rt.alloc(), USUAL, Scene::EachForm);
 }
 
 /// Whether the last place is of this word and text, and the set then has so many entries with what the list has left.
-fn pops<R: Wait>(
+fn pops<S: SharedSet, R: Wait>(
     rt: &R,
-    set: &DefaultSet,
-    list: &mut DefaultList<'_>,
+    set: S,
+    list: &mut SetList<S>,
     of: (u64, &str),
     left: u128,
 ) -> bool {
@@ -169,7 +179,7 @@ fn pops<R: Wait>(
 }
 
 /// Whether the list has a last place to take.
-fn has_last<Static: StaticTables>(list: &mut AtomList<'_, Static>) -> bool {
+fn has_last<S: SharedSet>(list: &mut SetList<S>) -> bool {
     pop(list).is_some()
 }
 
@@ -177,7 +187,7 @@ fn has_last<Static: StaticTables>(list: &mut AtomList<'_, Static>) -> bool {
 const FOUR: [&str; 4] = ["interned", "a", "interned", "geometric"];
 
 /// Takes and cuts off the places of a list of the four, till it has none.
-fn take_places<R: Wait + Abort>(rt: &R, set: &DefaultSet, list: &mut DefaultList<'_>) {
+fn take_places<S: SharedSet, R: Wait + Abort>(rt: &R, set: S, list: &mut SetList<S>) {
     assert_that(
         rt,
         pops(rt, set, list, (ticket_word(1, 0xfff), "geometric"), 1),
@@ -196,13 +206,13 @@ fn take_places<R: Wait + Abort>(rt: &R, set: &DefaultSet, list: &mut DefaultList
 /// By OpenSSL's SipHash "interned" is in bucket 0x210 and "geometric" in 0xfff.
 #[test]
 fn places_go_from_the_last_on(rt: HostRuntime) {
-    play(&rt, default_set(&rt, rt.alloc()), Scene::PlacesGo);
+    play_both(&rt, rt.alloc(), USUAL, Scene::PlacesGo);
 }
 
 /// Two texts that are dynamic, and one that is inline.
 const THREE: [&str; 3] = ["interned", "Überfluß", "ab"];
 
-fn fill_again<R: Wait + Abort>(rt: &R, set: &DefaultSet, list: &mut DefaultList<'_>) {
+fn fill_again<S: SharedSet, R: Wait + Abort>(rt: &R, set: S, list: &mut SetList<S>) {
     list.clear();
     assert_that(rt, holds(rt, set, list, &[], 0));
     push(rt, list, "tokenised").expect(rt, "a place");
@@ -211,20 +221,20 @@ fn fill_again<R: Wait + Abort>(rt: &R, set: &DefaultSet, list: &mut DefaultList<
 
 #[test]
 fn cleared_list_is_filled_again(rt: HostRuntime) {
-    play(&rt, default_set(&rt, rt.alloc()), Scene::FilledAgain);
+    play_both(&rt, rt.alloc(), USUAL, Scene::FilledAgain);
 }
 
 /// One text, two times.
 const TWICE: [&str; 2] = ["interned", "interned"];
 
 /// Whether the list's every way to one holder more of "interned" is refused, and leaves it as it was.
-fn is_full<R: Wait>(rt: &R, list: &mut DefaultList<'_>) -> bool {
+fn is_full<S: SharedSet, R: Wait>(rt: &R, list: &mut SetList<S>) -> bool {
     push(rt, list, "interned") == Err(Fault::FullCount)
         && cloned_at(rt, list, 0).err() == Some(Fault::FullCount)
         && has_texts(list, &TWICE)
 }
 
-fn fill_narrow_set<R: Wait + Abort>(rt: &R, set: &DefaultSet, list: &mut DefaultList<'_>) {
+fn fill_narrow_set<S: SharedSet, R: Wait + Abort>(rt: &R, set: S, list: &mut SetList<S>) {
     assert_that(rt, is_full(rt, list) && is_full(rt, list));
     list.clear();
     assert_that(rt, links(rt, set, 0));
@@ -235,110 +245,126 @@ fn fill_narrow_set<R: Wait + Abort>(rt: &R, set: &DefaultSet, list: &mut Default
 /// In a set whose entries may have two holders, and whose buckets have one serial each, a refused place leaves no share behind.
 #[test]
 fn full_text_gets_no_place(rt: HostRuntime) {
-    play(&rt, limited_set(&rt, rt.alloc(), 2, 1), Scene::NarrowSet);
+    play_both(&rt, rt.alloc(), within(2, 1), Scene::NarrowSet);
 }
 
-/// Pushes the text of a number, made in `out`: dynamic, each with a letter beyond ASCII.
-fn push_number<R: Wait>(
+/// Texts that are dynamic: one with NUL, one with a line feed, one beyond ASCII and without letters, and those of many bytes.
+const TEXTS: [&str; 4] = ["with\0NUL", "with\na line feed", "長さ、大きさ", "Überfluß"];
+
+/// Whether a clone of the place has the text once the place has gone.
+fn outlives_its_place<S: SharedSet, R: Wait + Abort>(
     rt: &R,
-    list: &mut DefaultList<'_>,
-    out: &mut String,
-    number: u32,
-) -> Result<(), Fault> {
-    out.clear();
-    write!(out, "Nummer für {number}")?;
-    push(rt, list, out)
-}
-
-/// Pushes the texts of these numbers.
-fn push_numbers<R: Wait + Abort>(rt: &R, list: &mut DefaultList<'_>, alloc: Global) {
-    let mut text = String::new(alloc);
-    for number in 0..MANY {
-        push_number(rt, list, &mut text, number).expect(rt, "a place");
+    set: S,
+    mut list: SetList<S>,
+    text: &str,
+) -> bool {
+    let clone = atom_at(rt, &list, 1);
+    list.truncate(1);
+    drop(list);
+    match clone {
+        Some(atom) => has_text(&atom, text) && links(rt, set, 1),
+        None => false,
     }
 }
 
-/// More places than 16 bits count.
-const MANY: u32 = 70_001;
-
-/// A list of the texts of numbers.
-fn long_list<'s, R: Wait + Abort>(rt: &R, set: &'s DefaultSet) -> DefaultList<'s> {
-    let mut list = AtomList::new(set);
-    push_numbers(rt, &mut list, set.allocator());
-    list
+/// Whether the last place of a list is the atom of this text.
+fn gives_last<S: SharedSet>(list: &mut SetList<S>, text: &str) -> bool {
+    match pop(list) {
+        Some(atom) => has_text(&atom, text),
+        None => false,
+    }
 }
 
-/// A list of many texts has the last of them and one between.
-fn find_in_long_list<R: Wait + Abort>(rt: &R, set: &DefaultSet, list: &DefaultList<'_>) {
-    assert_that(rt, list.len() == 70_001 && links(rt, set, 70_001));
-    assert_that(rt, has_at(list, 65_536, "Nummer für 65536"));
-    assert_that(rt, list.iter().last() == Some("Nummer für 70000"));
+/// Whether a list of the text has it at each place, and gives it back by each call, and nothing stays.
+fn is_held<S: SharedSet, R: Wait + Abort>(rt: &R, set: S, text: &str) -> bool {
+    let texts = [text, text, text];
+    let mut list = list_of(rt, set, &texts);
+    let has_all = holds(rt, set, &list, &texts, 1) && gives_last(&mut list, text);
+    has_all && outlives_its_place(rt, set, list, text) && links(rt, set, 0)
 }
 
-#[test]
-fn long_list_gives_all_back(rt: HostRuntime) {
-    play(&rt, default_set(&rt, rt.alloc()), Scene::LongList);
+/// A text of two megabytes, not all ASCII.
+fn long_text(rt: &impl Abort, alloc: Global) -> String {
+    "Überfluß".repeat(alloc, 210_000).expect(rt, "a text")
 }
 
-fn clear_long_list<R: Wait + Abort>(rt: &R, set: &DefaultSet, list: &mut DefaultList<'_>) {
-    list.clear();
-    assert_that(rt, list.is_empty() && links(rt, set, 0));
-}
-
-#[test]
-fn long_list_is_cleared(rt: HostRuntime) {
-    play(&rt, default_set(&rt, rt.alloc()), Scene::LongListCleared);
-}
-
-/// A text of 300,000 bytes, not all ASCII, has a place, and goes with it.
-fn hold_long_text<R: Wait + Abort>(rt: &R, set: &DefaultSet) {
-    let text = "Überfluß"
-        .repeat(set.allocator(), 30_000)
-        .expect(rt, "a text");
-    let list = list_of(rt, set, &[text.as_str()]);
-    assert_that(rt, has_at(&list, 0, &text) && links(rt, set, 1));
+fn hold_each_text<S: SharedSet, R: Wait + Abort>(rt: &R, set: S) {
+    for text in &TEXTS {
+        assert_for(rt, is_held(rt, set, text), text);
+    }
+    assert_that(rt, is_held(rt, set, &long_text(rt, set.allocator())));
 }
 
 #[test]
-fn long_text_in_a_list(rt: HostRuntime) {
-    play(&rt, default_set(&rt, rt.alloc()), Scene::LongText);
+fn texts_in_a_list(rt: HostRuntime) {
+    play_both(&rt, rt.alloc(), USUAL, Scene::Texts);
 }
 
-fn end_under_lock<R: Wait + Abort>(rt: &R, set: &DefaultSet) {
-    let list = list_of(rt, set, &["interned", "geometric"]);
-    let held = lock_of(rt, set, 0x210);
-    drop(list);
-    drop(held);
-    assert_that(rt, links(rt, set, 1));
+/// Whether the text's place in a new list is the atom of the ticket of this serial.
+fn comes_with<S: SharedSet, R: Wait + Abort>(rt: &R, set: S, serial: u64) -> bool {
+    let mut list = list_of(rt, set, &["interned"]);
+    match pop(&mut list) {
+        Some(atom) => is_of(&atom, ticket_word(serial, 0x210), "interned"),
+        None => false,
+    }
+}
+
+fn take_tickets<S: SharedSet, R: Wait + Abort>(rt: &R, set: S) {
+    for serial in 1..10 {
+        assert_for(rt, comes_with(rt, set, serial), &serial);
+    }
+}
+
+/// Each push of a new text takes one ticket.
+#[test]
+fn each_push_takes_one_ticket(rt: HostRuntime) {
+    play_both(&rt, rt.alloc(), USUAL, Scene::Tickets);
+}
+
+/// Drops what there is.
+fn end<T: Drop>(last: &mut Option<T>) {
+    *last = None;
+}
+
+fn end_under_lock<S: SharedSet, R: Wait + Abort>(rt: &R, set: S) {
+    let mut last = Some(list_of(rt, set, &["interned", "geometric"]));
+    set.for_each(rt, |_, _| end(&mut last));
+    check_linked(rt, set, 1);
     set.sweep(rt);
 }
 
-/// The end of a list waits for no lock: what it lets go under one that is held goes with the next pass.
+/// The end of a list waits for no lock: what it lets go under one that a visit has goes with the next pass.
 #[test]
 fn list_ends_under_a_held_lock(rt: HostRuntime) {
-    play(&rt, default_set(&rt, rt.alloc()), Scene::EndsUnderLock);
+    play_both(&rt, rt.alloc(), USUAL, Scene::EndsUnderLock);
 }
 
-/// Gives inline and static texts places, and takes them out.
-fn fill_with_fixed<R: Wait + Abort>(rt: &R, set: &Set<One>) {
+/// Gives inline and static texts places, and takes them out. Whether there was one to take.
+fn fills_with_fixed<S: SharedSet, R: Wait + Abort>(rt: &R, set: S) -> bool {
     let mut list = list_of(rt, set, &["é", "sentence"]);
-    assert_that(rt, !lends_none(rt, &list, 1) && has_last(&mut list));
+    let has_second = !lends_none(rt, &list, 1) && has_last(&mut list);
     list.clear();
+    has_second
+}
+
+/// Does so while a visit has the lock of the only bucket.
+fn fill_under_lock<S: SharedSet, R: Wait + Abort>(rt: &R, set: S) {
+    let _held = intern(rt, set, "interned");
+    let mut is_filled = false;
+    set.for_each(rt, |_, _| is_filled = fills_with_fixed(rt, set));
+    assert_that(rt, is_filled);
 }
 
 /// Inline and static texts take no lock.
 #[test]
 fn fixed_texts_have_places_under_a_held_lock(rt: HostRuntime) {
-    let set = one_bucket::<One>(&rt, rt.alloc());
-    let held = set.buckets()[0].lock(&rt);
-    fill_with_fixed(&rt, &set);
-    drop(held);
+    play_both(&rt, rt.alloc(), ONE_BUCKET, Scene::FixedUnderLock);
 }
 
 /// Pushes four texts in turn.
-fn push_in_turn<R: Wait>(
+fn push_in_turn<S: SharedSet, R: Wait>(
     rt: &R,
-    list: &mut DefaultList<'_>,
+    list: &mut SetList<S>,
     texts: [&str; 4],
 ) -> Result<(), Fault> {
     for round in 0..2_000usize {
@@ -348,19 +374,19 @@ fn push_in_turn<R: Wait>(
 }
 
 /// Pushes four texts, some of which the other thread pushes as well, 500 times over, and lets half of them go.
-fn is_filled<R: Wait>(rt: &R, list: &mut DefaultList<'_>, texts: [&str; 4]) -> bool {
+fn is_filled<S: SharedSet, R: Wait>(rt: &R, list: &mut SetList<S>, texts: [&str; 4]) -> bool {
     let is_pushed = push_in_turn(rt, list, texts).is_ok() && has_at(list, 1_999, texts[3]);
     list.truncate(1_000);
     is_pushed && has_at(list, 999, texts[3]) && list.len() == 1_000
 }
 
 /// Does so with a list, which goes with the rest.
-fn fills_and_goes<R: Wait>(rt: &R, set: &DefaultSet, texts: [&str; 4]) -> bool {
-    is_filled(rt, &mut AtomList::new(set), texts)
+fn fills_and_goes<S: SharedSet, R: Wait>(rt: &R, set: S, texts: [&str; 4]) -> bool {
+    is_filled(rt, &mut ListOf::new(set), texts)
 }
 
 /// Whether two threads fill lists of one set.
-fn two_fill<R: Threads + Wait + Sync>(rt: &R, set: &DefaultSet) -> bool {
+fn two_fill<S: SharedSet + Send + Sync, R: Threads + Wait + Sync>(rt: &R, set: S) -> bool {
     let (left, right) = thread::join(
         rt,
         || fills_and_goes(rt, set, ["interned", "tokenised", "ab", "repeated"]),
@@ -369,20 +395,20 @@ fn two_fill<R: Threads + Wait + Sync>(rt: &R, set: &DefaultSet) -> bool {
     left && right
 }
 
-fn fill_in_two<R: Threads + Wait + Abort + Sync>(rt: &R, set: &DefaultSet) {
+fn fill_in_two<S: SharedSet + Send + Sync, R: Threads + Wait + Abort + Sync>(rt: &R, set: S) {
     assert_that(rt, two_fill(rt, set));
     set.sweep(rt);
 }
 
 #[test]
 fn two_threads_fill_lists_of_one_set(rt: HostRuntime) {
-    play(&rt, default_set(&rt, rt.alloc()), Scene::TwoThreads);
+    play_both(&rt, rt.alloc(), USUAL, Scene::TwoThreads);
 }
 
 /// Compiles only for what threads may share and send.
 fn crosses<T: Send + Sync>(_value: &T) {}
 
-fn end_in_another<R: Threads + Wait + Abort + Sync>(rt: &R, set: &DefaultSet) {
+fn end_in_another<R: Threads + Wait + Abort + Sync>(rt: &R, set: &Set<One>) {
     let list = list_of(rt, set, &["interned", "Überfluß"]);
     crosses(&list);
     thread::join(rt, move || drop(list), || set.sweep(rt));
@@ -392,5 +418,7 @@ fn end_in_another<R: Threads + Wait + Abort + Sync>(rt: &R, set: &DefaultSet) {
 /// A list ends in another thread than the one that filled it.
 #[test]
 fn list_goes_in_another_thread(rt: HostRuntime) {
-    play(&rt, default_set(&rt, rt.alloc()), Scene::OtherThread);
+    let set = new_set::<One>(&rt, rt.alloc());
+    end_in_another(&rt, &set);
+    check_linked(&rt, &set, 0);
 }

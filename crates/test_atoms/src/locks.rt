@@ -1,11 +1,8 @@
 //! Buckets' locks that are held meanwhile, and what stays linked. By OpenSSL's SipHash the bucket of "afterwards" is 0, of
 //! "geometric" 0xfff, and of "forgotten" and "magnitude" 0x72f.
 
-mod unlocked;
-
 use crate::assert_that;
 use crate::samples::{DefaultSet, check_linked, default_set, intern, lock_of, locks_but, shown};
-use crate::scenes::{self, Step, are_free, play_both_in_new, play_in_new};
 use std::alloc::Global;
 use std::process::Abort;
 use std::sync::atomic::{AtomicBool, Ordering};
@@ -21,7 +18,6 @@ use test_calls::{has_word, look_up};
 #[derive(Clone, Copy)]
 enum Scene {
     OneBucket,
-    Waits(Call, u128),
     SweepGoesOn,
     OneLock,
 }
@@ -30,7 +26,6 @@ enum Scene {
 fn play_in<R: Threads + Clock + Wait + Abort + Sync>(rt: &R, set: &DefaultSet, scene: Scene) {
     match scene {
         Scene::OneBucket => intern_beside(rt, set),
-        Scene::Waits(call, wanted) => wait_for_last(rt, set, call, wanted),
         Scene::SweepGoesOn => sweep_on(rt, set),
         Scene::OneLock => hold_one(rt, set),
     }
@@ -41,139 +36,49 @@ fn play<R: Threads + Clock + Wait + Abort + Sync>(rt: &R, alloc: Global, scene: 
     play_in(rt, &default_set(rt, alloc), scene);
 }
 
-/// The words of "interned", which is the first text, and comes again.
+/// The word of "interned", which is the first text.
 const INTERNED: u64 = 0x1_0840;
 
-const INTERNED_AGAIN: u64 = 0x2_0840;
+fn is_free(bucket: &Mutex<Bucket<EmptyStaticAtomSet>>) -> bool {
+    bucket.try_lock().is_some()
+}
 
-/// A text's atom goes while its bucket's lock is held. The other buckets' locks are free meanwhile, and the drop returns: the entry dies, and
-/// stays linked.
-const LET_DIE: [Step; 6] = [
-    Step::Intern("interned"),
-    Step::Lock(0x210),
-    Step::FreeBut(0x210),
-    Step::Drop(0),
-    Step::Unlock,
-    Step::Linked(1),
-];
+/// Whether each lock is free but this bucket's, which is held, or each, where there is no such bucket.
+fn are_free(set: &DefaultSet, held: usize) -> bool {
+    for (at, bucket) in set.buckets().iter().enumerate() {
+        if is_free(bucket) == (at == held) {
+            return false;
+        }
+    }
+    true
+}
 
-const SWEPT: [Step; 2] = [Step::Sweep, Step::Linked(0)];
+/// Lets a text's atom go while its bucket's lock is held. The other buckets' locks are free meanwhile, and the drop returns.
+fn die_under_lock<R: Wait + Abort>(rt: &R, set: &DefaultSet) {
+    let atom = intern(rt, set, "interned");
+    let held = lock_of(rt, set, 0x210);
+    assert_that(rt, are_free(set, 0x210));
+    drop(atom);
+    drop(held);
+    check_linked(rt, set, 1);
+}
 
 #[test]
 fn last_drop_under_a_held_lock(rt: HostRuntime) {
-    play_both_in_new(&rt, rt.alloc(), &LET_DIE, &SWEPT);
+    let set = default_set(&rt, rt.alloc());
+    die_under_lock(&rt, &set);
+    set.sweep(&rt);
+    check_linked(&rt, &set, 0);
 }
 
-/// What is looked up takes the dying entry out, and finds nothing.
-const LOOKED_UP: [Step; 2] = [Step::Absent("interned"), Step::Linked(0)];
-
+/// A last drop keeps no lock, and prunes its own bucket alone.
 #[test]
-fn text_of_a_dying_entry_is_not_found(rt: HostRuntime) {
-    play_both_in_new(&rt, rt.alloc(), &LET_DIE, &LOOKED_UP);
-}
-
-const INTERNED_ANEW: [Step; 3] = [
-    Step::Intern("interned"),
-    Step::Is(1, "interned", INTERNED_AGAIN),
-    Step::Linked(1),
-];
-
-#[test]
-fn text_of_a_dying_entry_gets_a_new_one(rt: HostRuntime) {
-    play_both_in_new(&rt, rt.alloc(), &LET_DIE, &INTERNED_ANEW);
-}
-
-/// The words of "forgotten" and "magnitude", where these are the first two texts.
-const FORGOTTEN: u64 = 0x1_1cbc;
-
-const MAGNITUDE: u64 = 0x2_1cbc;
-
-/// Both held texts are interned again, and swept: neither goes.
-const HELD_STAY: [Step; 15] = [
-    Step::Intern("forgotten"),
-    Step::Intern("magnitude"),
-    Step::Is(0, "forgotten", FORGOTTEN),
-    Step::Is(1, "magnitude", MAGNITUDE),
-    Step::Word("forgotten", FORGOTTEN),
-    Step::Word("magnitude", MAGNITUDE),
-    Step::Sweep,
-    Step::Linked(2),
-    Step::Word("forgotten", FORGOTTEN),
-    Step::Word("magnitude", MAGNITUDE),
-    Step::Sweep,
-    Step::Linked(2),
-    Step::Drop(0),
-    Step::Linked(1),
-    Step::Is(1, "magnitude", MAGNITUDE),
-];
-
-/// Passes for the other text, interning both again, sweeps and drops that aren't the last leave an entry that has a share.
-#[test]
-fn held_texts_stay_linked(rt: HostRuntime) {
-    play_in_new(&rt, rt.alloc(), &HELD_STAY);
-}
-
-/// The locks of the first bucket, the last one and one between are held while the atoms go.
-const SWEEP_EACH: [Step; 13] = [
-    Step::Intern("afterwards"),
-    Step::Intern("geometric"),
-    Step::Intern("forgotten"),
-    Step::Intern("magnitude"),
-    Step::Linked(4),
-    Step::Lock(0),
-    Step::Lock(0x72f),
-    Step::Lock(0xfff),
-    Step::Keep(0),
-    Step::Unlock,
-    Step::Linked(4),
-    Step::Sweep,
-    Step::Linked(0),
-];
-
-/// Entries die under held locks, so that their own drops leave them linked.
-#[test]
-fn sweep_reaches_each_bucket(rt: HostRuntime) {
-    play_in_new(&rt, rt.alloc(), &SWEEP_EACH);
-}
-
-const ONE_OF_TWO_SHARES: [Step; 10] = [
-    Step::Intern("forgotten"),
-    Step::Intern("magnitude"),
-    Step::Make(scenes::Call::Clone(1)),
-    Step::Lock(0x72f),
-    Step::Drop(0),
-    Step::Unlock,
-    Step::Drop(2),
-    Step::Linked(2),
-    Step::Drop(1),
-    Step::Linked(0),
-];
-
-#[test]
-fn drop_of_one_of_two_shares_takes_out_nothing(rt: HostRuntime) {
-    play_in_new(&rt, rt.alloc(), &ONE_OF_TWO_SHARES);
-}
-
-const BESIDE_DYING: [Step; 13] = [
-    Step::Intern("interned"),
-    Step::Intern("afterwards"),
-    Step::Intern("geometric"),
-    Step::Lock(0),
-    Step::Lock(0x72f),
-    Step::Lock(0xfff),
-    Step::Drop(1),
-    Step::Drop(2),
-    Step::Unlock,
-    Step::Drop(0),
-    Step::FreeBut(usize::MAX),
-    Step::Linked(2),
-    Step::Linked(2),
-];
-
-/// Entries of other buckets that died under their locks stay linked, and no lock is kept.
-#[test]
-fn last_drop_prunes_its_own_bucket_alone(rt: HostRuntime) {
-    play_in_new(&rt, rt.alloc(), &BESIDE_DYING);
+fn last_drop_keeps_no_lock(rt: HostRuntime) {
+    let set = default_set(&rt, rt.alloc());
+    die_under_lock(&rt, &set);
+    drop(intern(&rt, &set, "afterwards"));
+    assert_that(&rt, are_free(&set, usize::MAX));
+    check_linked(&rt, &set, 1);
 }
 
 /// The atoms of two texts.
@@ -275,47 +180,6 @@ fn told<R: Wait>(rt: &R, set: &DefaultSet, call: Call) -> u128 {
             0
         }
     }
-}
-
-/// Whether the call waits for the last bucket's lock, which is held for a second, tells this then, and keeps no lock.
-fn waits_for_last<R: Threads + Clock + Wait + Abort + Sync>(
-    rt: &R,
-    set: &DefaultSet,
-    call: Call,
-    wanted: u128,
-) -> bool {
-    let held = lock_of(rt, set, 0xfff);
-    let (found, ended) = beside(rt, 1_000, held, || told(rt, set, call));
-    !ended && found == wanted && are_free(set, usize::MAX)
-}
-
-/// It does so of two entries that are held.
-fn wait_for_last<R: Threads + Clock + Wait + Abort + Sync>(
-    rt: &R,
-    set: &DefaultSet,
-    call: Call,
-    wanted: u128,
-) {
-    let _held = two_atoms(rt, set, "afterwards", "geometric");
-    assert_that(rt, waits_for_last(rt, set, call, wanted));
-}
-
-#[test]
-fn linked_waits_for_each_lock(rt: HostRuntime) {
-    play(&rt, rt.alloc(), Scene::Waits(Call::Linked, 2));
-}
-
-#[test]
-fn visits_wait_for_each_lock(rt: HostRuntime) {
-    play(&rt, rt.alloc(), Scene::Waits(Call::Visits, 2));
-}
-
-/// The bytes of two entries beside those of the buckets: each has a node of 48 bytes, and a cell of 56 with its text.
-const BYTES: u128 = 4096 * 32 + 2 * (48 + 56);
-
-#[test]
-fn memory_waits_for_each_lock(rt: HostRuntime) {
-    play(&rt, rt.alloc(), Scene::Waits(Call::Memory, BYTES));
 }
 
 /// Whether the bucket is without entries within ten seconds.

@@ -1,48 +1,62 @@
-//! More holders, entries and serials of one bucket than 16 bits count.
+//! More holders, entries and serials of one bucket than 16 bits count, and many texts of one bucket that die.
 
-use crate::samples::{DefaultSet, clone_of, intern, lock_of, one_bucket, shown, word_of};
-use crate::{assert_for, assert_that};
+use crate::assert_that;
+use crate::crowds::numbered;
+use crate::samples::{
+    DefaultSet, check_linked, clone_of, intern, lock_of, one_bucket, shown, word_of,
+};
+use crate::sets::{self, ONE_BUCKET, ask};
 use std::alloc::Global;
+use std::ops::Range;
 use std::process::Abort;
 use std::sync::Wait;
+use std::thread::Threads;
+use std::time::Clock;
 use string_cache::dynamic_set::{Bucket, FreeGrant, Share};
 use string_cache::static_sets::EmptyStaticAtomSet;
 use string_cache::word::Limits;
-use string_cache::{DefaultAtom, Fault};
+use string_cache::{AtomKind, Fault, SetAtom, SharedSet};
 use test_calls::{hash_of, is_of, links, look_up};
 
 const MANY: u32 = 70_000;
 
-/// Of what there are so many.
+/// Of what there are so many in the only bucket of a new set.
 #[derive(Clone, Copy)]
-enum Question {
+pub enum Question {
     Holders,
-    Entries,
     Serials,
+    Texts,
+    Dying,
 }
 
-/// Asks it of a new set of one bucket.
-fn ask<R: Wait + Abort>(rt: &R, alloc: Global, question: Question) {
-    let set = one_bucket(rt, alloc);
+/// Asks it of a set, which has no text afterwards.
+pub fn check<S: SharedSet, R: Wait + Abort>(rt: &R, set: S, question: Question) {
     match question {
-        Question::Holders => hold_by_many(rt, &set),
-        Question::Entries => link_many(rt, &set),
-        Question::Serials => come_many_times(rt, &set),
+        Question::Holders => hold_by_many(rt, set),
+        Question::Serials => come_many_times(rt, set),
+        Question::Texts => hold_many(rt, set),
+        Question::Dying => let_many_die(rt, set),
     }
+    check_linked(rt, set, 0);
 }
 
-/// How many entries a visit shows, and how many holders they have together.
-fn visited<R: Wait>(rt: &R, set: &DefaultSet) -> (u64, u64) {
+/// Asks it of a new set of one bucket, of each kind.
+fn check_both<R: Threads + Clock + Wait + Abort + Sync>(rt: &R, alloc: Global, question: Question) {
+    ask(rt, alloc, ONE_BUCKET, sets::Question::Many(question));
+}
+
+/// How many texts a visit shows, and how many holders they have together.
+fn visited<S: SharedSet, R: Wait>(rt: &R, set: S) -> (u64, u64) {
     let shown = shown(rt, set);
     (shown.entries, shown.holders)
 }
 
 /// So many clones of an atom.
-fn clones_of<'s, R: Wait + Abort>(
+fn clones_of<H: AtomKind, R: Wait + Abort>(
     rt: &R,
     alloc: Global,
-    atom: &DefaultAtom<'s>,
-) -> Vec<DefaultAtom<'s>> {
+    atom: &SetAtom<H>,
+) -> Vec<SetAtom<H>> {
     let mut clones = Vec::new(alloc);
     for _ in 0..MANY {
         clones.push(clone_of(rt, atom)).expect(rt, "room");
@@ -51,11 +65,11 @@ fn clones_of<'s, R: Wait + Abort>(
 }
 
 /// So many atoms of one text.
-fn atoms_of<'s, R: Wait + Abort>(rt: &R, set: &'s DefaultSet, text: &str) -> Vec<DefaultAtom<'s>> {
+fn atoms_of<S: SharedSet, R: Wait + Abort>(rt: &R, set: S, text: &str) -> Vec<SetAtom<S::Held>> {
     clones_of(rt, set.allocator(), &intern(rt, set, text))
 }
 
-fn hold_by_many<R: Wait + Abort>(rt: &R, set: &DefaultSet) {
+fn hold_by_many<S: SharedSet, R: Wait + Abort>(rt: &R, set: S) {
     let clones = atoms_of(rt, set, "interned");
     assert_that(rt, visited(rt, set) == (1, 70_000));
     drop(clones);
@@ -64,7 +78,108 @@ fn hold_by_many<R: Wait + Abort>(rt: &R, set: &DefaultSet) {
 
 #[test]
 fn one_text_has_many_holders(rt: HostRuntime) {
-    ask(&rt, rt.alloc(), Question::Holders);
+    check_both(&rt, rt.alloc(), Question::Holders);
+}
+
+/// Whether the text comes with this serial. It goes at once.
+fn comes_with<S: SharedSet, R: Wait + Abort>(rt: &R, set: S, serial: u64) -> bool {
+    word_of(rt, set, "interned") >> 16 == serial
+}
+
+fn come_many_times<S: SharedSet, R: Wait + Abort>(rt: &R, set: S) {
+    for n in 0..u64::from(MANY) {
+        assert_that(rt, comes_with(rt, set, n + 1));
+    }
+}
+
+/// Each time it has the next serial.
+#[test]
+fn one_text_comes_many_times(rt: HostRuntime) {
+    check_both(&rt, rt.alloc(), Question::Serials);
+}
+
+/// How many texts one bucket holds here: each call walks over all of them.
+const TEXTS: usize = 2_500;
+
+/// Atoms of the texts of these numbers.
+fn numbered_atoms<S: SharedSet, R: Wait + Abort>(
+    rt: &R,
+    set: S,
+    numbers: Range<usize>,
+) -> Vec<SetAtom<S::Held>> {
+    let mut atoms = Vec::new(set.allocator());
+    for n in numbers {
+        let atom = intern(rt, set, &numbered(rt, set.allocator(), n));
+        atoms.push(atom).expect(rt, "room");
+    }
+    atoms
+}
+
+/// Whether the text is found with this word.
+fn is_found<S: SharedSet, R: Wait>(rt: &R, set: S, text: &str, word: u64) -> bool {
+    match look_up(rt, set, text) {
+        Ok(Some(atom)) => is_of(&atom, word, text),
+        _ => false,
+    }
+}
+
+/// Whether the set shows them, with the oldest and the newest found.
+fn shows_texts<S: SharedSet, R: Wait>(rt: &R, set: S) -> bool {
+    links(rt, set, TEXTS as u128)
+        && visited(rt, set) == (TEXTS as u64, TEXTS as u64)
+        && is_found(rt, set, "w0000000", 0x1_0000)
+        && is_found(rt, set, "w0002499", 2_500 * 0x1_0000)
+}
+
+fn hold_many<S: SharedSet, R: Wait + Abort>(rt: &R, set: S) {
+    let _atoms = numbered_atoms(rt, set, 0..TEXTS);
+    assert_that(rt, shows_texts(rt, set));
+}
+
+#[test]
+fn one_bucket_has_thousands_of_texts(rt: HostRuntime) {
+    check_both(&rt, rt.alloc(), Question::Texts);
+}
+
+/// Drops what there is.
+fn end<T: Drop>(last: &mut Option<T>) {
+    *last = None;
+}
+
+/// Lets 300 texts die while a visit has the lock of their bucket, in which so many others are held.
+fn let_die<S: SharedSet, R: Wait + Abort>(rt: &R, set: S, held: u64) {
+    let mut last = Some(numbered_atoms(rt, set, 0..300));
+    set.for_each(rt, |_, _| end(&mut last));
+    assert_that(rt, visited(rt, set) == (300 + held, held));
+}
+
+/// They go with the next sweep, with a text that is interned then or looked for, and with the end of a text's last atom. The others stay.
+fn let_go_beside<S: SharedSet, R: Wait + Abort>(rt: &R, set: S, held: u64) {
+    let left = u128::from(held);
+    let_die(rt, set, held);
+    set.sweep(rt);
+    check_linked(rt, set, left);
+    let_die(rt, set, held);
+    let atom = intern(rt, set, "interned");
+    check_linked(rt, set, left + 1);
+    let_die(rt, set, held + 1);
+    drop(atom);
+    check_linked(rt, set, left);
+    let_die(rt, set, held);
+    assert_that(rt, matches!(look_up(rt, set, "interned"), Ok(None)));
+    check_linked(rt, set, left);
+}
+
+/// They go in a bucket of their own, and in one that had 150 texts before, which are held.
+fn let_many_die<S: SharedSet, R: Wait + Abort>(rt: &R, set: S) {
+    let_go_beside(rt, set, 0);
+    let _held = numbered_atoms(rt, set, 1_000..1_150);
+    let_go_beside(rt, set, 150);
+}
+
+#[test]
+fn many_dying_texts_of_a_bucket_go(rt: HostRuntime) {
+    check_both(&rt, rt.alloc(), Question::Dying);
 }
 
 /// Links the text of a number in a bucket.
@@ -91,14 +206,6 @@ fn linked_in(
     shares
 }
 
-/// Whether the text has an atom with this word already.
-fn is_found<R: Wait>(rt: &R, set: &DefaultSet, text: &str, word: u64) -> bool {
-    match look_up(rt, set, text) {
-        Ok(Some(atom)) => is_of(&atom, word, text),
-        _ => false,
-    }
-}
-
 /// Whether the set shows them, with the oldest and the newest found.
 fn shows_many<R: Wait>(rt: &R, set: &DefaultSet) -> bool {
     links(rt, set, 70_000)
@@ -116,20 +223,8 @@ fn link_many<R: Wait + Abort>(rt: &R, set: &DefaultSet) {
     assert_that(rt, links(rt, set, 0));
 }
 
+/// Of a set without a name, whose bucket can be asked to link without a walk.
 #[test]
 fn one_bucket_has_many_entries(rt: HostRuntime) {
-    ask(&rt, rt.alloc(), Question::Entries);
-}
-
-fn come_many_times<R: Wait + Abort>(rt: &R, set: &DefaultSet) {
-    for n in 0..MANY {
-        let word = word_of(rt, set, "interned");
-        assert_for(rt, word >> 16 == u64::from(n) + 1, &n);
-    }
-}
-
-/// Each time it has the next serial.
-#[test]
-fn one_text_comes_many_times(rt: HostRuntime) {
-    ask(&rt, rt.alloc(), Question::Serials);
+    link_many(&rt, &one_bucket(&rt, rt.alloc()));
 }

@@ -165,6 +165,7 @@ fn json_texts(rt: HostRuntime) {
     for (text, json) in &JSON_TEXTS {
         check_json(&rt, &set, text, json);
     }
+    assert_that(&rt, set.linked(&rt) == 0);
 }
 
 /// It is dynamic, and the atom of "interned".

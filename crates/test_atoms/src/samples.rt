@@ -5,10 +5,10 @@ use crate::assert_that;
 use std::alloc::Global;
 use std::process::Abort;
 use std::sync::{MutexGuard, Wait};
-use string_cache::Atom;
 use string_cache::dynamic_set::{Bucket, Set};
 use string_cache::static_sets::{EmptyStaticAtomSet, StaticTables};
 use string_cache::word::Buckets;
+use string_cache::{AtomKind, SetAtom, SharedSet, TextSet};
 use test_calls::{cloned, interned, limited, links, locked, made, made_with};
 
 /// A set without static texts.
@@ -41,27 +41,16 @@ pub fn limited_set(rt: &impl Abort, alloc: Global, holders: u64, serials: u64) -
 }
 
 /// The word of a text's atom, which goes at once.
-pub fn word_of<R: Wait + Abort, Static: StaticTables>(
-    rt: &R,
-    set: &Set<Static>,
-    text: &str,
-) -> u64 {
+pub fn word_of<S: TextSet, R: Wait + Abort>(rt: &R, set: S, text: &str) -> u64 {
     intern(rt, set, text).unsafe_data()
 }
 
 /// The atom of a text.
-pub fn intern<'s, R: Wait + Abort, Static: StaticTables>(
-    rt: &R,
-    set: &'s Set<Static>,
-    text: &str,
-) -> Atom<'s, Static> {
+pub fn intern<S: TextSet, R: Wait + Abort>(rt: &R, set: S, text: &str) -> SetAtom<S::Held> {
     interned(rt, set, text).expect(rt, "an atom")
 }
 
-pub fn clone_of<'s, R: Wait + Abort, Static: StaticTables>(
-    rt: &R,
-    atom: &Atom<'s, Static>,
-) -> Atom<'s, Static> {
+pub fn clone_of<H: AtomKind, R: Wait + Abort>(rt: &R, atom: &SetAtom<H>) -> SetAtom<H> {
     cloned(rt, atom).expect(rt, "an atom")
 }
 
@@ -93,7 +82,7 @@ impl Visit {
     }
 }
 
-pub fn shown<R: Wait>(rt: &R, set: &DefaultSet) -> Visit {
+pub fn shown<S: SharedSet, R: Wait>(rt: &R, set: S) -> Visit {
     let mut shown = Visit {
         entries: 0,
         holders: 0,
@@ -104,8 +93,8 @@ pub fn shown<R: Wait>(rt: &R, set: &DefaultSet) -> Visit {
     shown
 }
 
-/// Checks that this many entries are linked.
-pub fn check_linked<R: Wait + Abort>(rt: &R, set: &DefaultSet, count: u128) {
+/// Checks that this many texts are linked.
+pub fn check_linked<S: SharedSet, R: Wait + Abort>(rt: &R, set: S, count: u128) {
     assert_that(rt, links(rt, set, count));
 }
 

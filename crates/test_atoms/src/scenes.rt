@@ -1,16 +1,17 @@
-//! Scenes over one set as data: what is done there, and what has to be so then. One function plays them, and keeps the atoms and the locks,
+//! Scenes over one set of either kind as data: what is done there, and what has to be so then. One function plays them, and keeps the atoms,
 //! so that a test has none of its own.
 
 use crate::assert_for;
-use crate::samples::{DefaultSet, default_set, limited_set, one_bucket};
+use crate::sets::Kind;
+use serde_json::Value;
 use std::alloc::Global;
+use std::borrow::CowStr;
 use std::process::Abort;
-use std::sync::{Mutex, MutexGuard, Wait};
-use string_cache::dynamic_set::Bucket;
-use string_cache::static_sets::EmptyStaticAtomSet;
-use string_cache::{DefaultAtom, Fault};
+use std::sync::Wait;
+use string_cache::{AtomKind, Fault, SetAtom, SharedSet, TextSet};
 use test_calls::{
-    are_one, cloned, copied, has_word, interned, is_of, links, locked, look_up, lowered, raised,
+    are_one, cloned, copied, has_text, has_word, interned, interned_cow, interned_owned, is_of,
+    json_of, links, look_up, lowered, raised, read_json,
 };
 
 /// A step of a scene: what is done, or what has to be so. Its atoms have numbers, in the order in which they are made: 0 is the first.
@@ -26,10 +27,8 @@ pub enum Step {
     Drop(usize),
     /// All atoms go but so many, the first ones.
     Keep(usize),
-    /// The lock of this bucket is taken, and held.
-    Lock(usize),
-    /// All held locks are let go.
-    Unlock,
+    /// All atoms of the text go while a visit has the lock of its bucket, so that it stays linked.
+    Die(&'static str),
     Sweep,
     /// The atom has this text and this word.
     Is(usize, &'static str, u64),
@@ -43,134 +42,177 @@ pub enum Step {
     Absent(&'static str),
     /// The text is interned with this word, and its atom goes.
     Word(&'static str, u64),
-    /// So many entries are linked.
+    /// So many texts are linked.
     Linked(u128),
-    /// These are the texts of the entries, each with the number of its holders.
-    Visits(&'static str),
-    /// The set takes so many bytes.
-    Memory(u128),
-    /// Each lock is free but this bucket's, which is held, or each, where there is no such bucket.
-    FreeBut(usize),
+    /// These are the texts that are linked, each with the number of its holders: in a set without a name, and in one with a name.
+    Visits(&'static str, &'static str),
+    /// The set takes so many bytes: one without a name, and one with a name.
+    Memory(u128, u128),
 }
 
 /// A call that gives an atom, or is refused.
 #[derive(Drop)]
 pub enum Call {
     Intern(&'static str),
+    /// The text is interned as one that is owned, as one that may be, or from a JSON text.
+    Own(&'static str),
+    Cow(&'static str),
+    Json(&'static str),
     /// The text is looked up, and has to be found unless that is refused.
     Find(&'static str),
     Clone(usize),
     Copy(usize),
     Lower(usize),
     Upper(usize),
+    /// The atom, there and back as JSON.
+    Again(usize),
 }
 
-/// What a scene keeps: its atoms, where those that have gone are replaced by that of the empty text, and the locks that it holds.
-#[derive(Drop)]
-struct Kept<'s> {
-    atoms: Vec<DefaultAtom<'s>>,
-    locks: Vec<MutexGuard<'s, Bucket<EmptyStaticAtomSet>>>,
-}
+/// What a scene keeps: its atoms, where those that have gone are replaced by that of the empty text.
+type Atoms<S> = Vec<SetAtom<<S as TextSet>::Held>>;
 
 // These say nothing of what they do, so that what calls them is proved in a moment.
 
-fn nothing<'s>(alloc: Global) -> Kept<'s> {
-    Kept {
-        atoms: Vec::new(alloc),
-        locks: Vec::new(alloc),
-    }
-}
-
 /// The atom of a number.
-fn atom_at<'a, 's>(rt: &impl Abort, kept: &'a Kept<'s>, at: usize) -> &'a DefaultAtom<'s> {
-    kept.atoms.get(at).expect(rt, "an atom's number")
+fn atom_at<'a, H: AtomKind>(
+    rt: &impl Abort,
+    atoms: &'a Vec<SetAtom<H>>,
+    at: usize,
+) -> &'a SetAtom<H> {
+    atoms.get(at).expect(rt, "an atom's number")
 }
 
 /// The atom of a text that has one, unless the look-up is refused.
-fn found<'s, R: Wait + Abort>(
+fn found<S: SharedSet, R: Wait + Abort>(
     rt: &R,
-    set: &'s DefaultSet,
+    set: S,
     text: &str,
-) -> Result<DefaultAtom<'s>, Fault> {
+) -> Result<SetAtom<S::Held>, Fault> {
     match look_up(rt, set, text) {
         Ok(atom) => Ok(atom.expect(rt, "an atom")),
         Err(fault) => Err(fault),
     }
 }
 
-/// What a call gives, or is refused for.
-fn called<'s, R: Wait + Abort>(
+fn owned(rt: &impl Abort, alloc: Global, text: &str) -> String {
+    String::from_str(alloc, text).expect(rt, "a text")
+}
+
+/// The atom of a JSON text.
+fn read<S: SharedSet, R: Wait + Abort>(
     rt: &R,
-    set: &'s DefaultSet,
-    kept: &Kept<'s>,
+    set: S,
+    text: &str,
+) -> Result<SetAtom<S::Held>, Fault> {
+    read_json(rt, set, &Value::String(owned(rt, set.allocator(), text)))
+}
+
+/// The atom, there and back as JSON.
+fn again<S: SharedSet, R: Wait + Abort>(
+    rt: &R,
+    set: S,
+    atom: &SetAtom<S::Held>,
+) -> Result<SetAtom<S::Held>, Fault> {
+    let value = json_of(atom, set.allocator()).expect(rt, "a value");
+    read_json(rt, set, &value)
+}
+
+/// What a call that takes a text gives, or is refused for.
+fn called_with<S: SharedSet, R: Wait + Abort>(
+    rt: &R,
+    set: S,
     call: &Call,
-) -> Result<DefaultAtom<'s>, Fault> {
+) -> Result<SetAtom<S::Held>, Fault> {
     match call {
-        Call::Intern(text) => interned(rt, set, text),
+        Call::Own(text) => interned_owned(rt, set, owned(rt, set.allocator(), text)),
+        Call::Cow(text) => interned_cow(rt, set, CowStr::Borrowed(text)),
+        Call::Json(text) => read(rt, set, text),
         Call::Find(text) => found(rt, set, text),
-        Call::Clone(at) => cloned(rt, atom_at(rt, kept, *at)),
-        Call::Copy(at) => copied(rt, atom_at(rt, kept, *at)),
-        Call::Lower(at) => lowered(rt, set, atom_at(rt, kept, *at)),
-        Call::Upper(at) => raised(rt, set, atom_at(rt, kept, *at)),
+        Call::Intern(text) => interned(rt, set, text),
+        _ => Err(Fault::NotText),
     }
 }
 
-fn make<'s, R: Wait + Abort>(rt: &R, set: &'s DefaultSet, kept: &mut Kept<'s>, call: &Call) {
-    let atom = called(rt, set, kept, call).expect(rt, "an atom");
-    kept.atoms.push(atom).expect(rt, "room");
+/// What a call gives, or is refused for.
+fn called<S: SharedSet, R: Wait + Abort>(
+    rt: &R,
+    set: S,
+    atoms: &Atoms<S>,
+    call: &Call,
+) -> Result<SetAtom<S::Held>, Fault> {
+    match call {
+        Call::Clone(at) => cloned(rt, atom_at(rt, atoms, *at)),
+        Call::Copy(at) => copied(rt, atom_at(rt, atoms, *at)),
+        Call::Lower(at) => lowered(rt, set, atom_at(rt, atoms, *at)),
+        Call::Upper(at) => raised(rt, set, atom_at(rt, atoms, *at)),
+        Call::Again(at) => again(rt, set, atom_at(rt, atoms, *at)),
+        _ => called_with(rt, set, call),
+    }
 }
 
-fn make_each<'s, R: Wait + Abort>(
-    rt: &R,
-    set: &'s DefaultSet,
-    kept: &mut Kept<'s>,
-    calls: &[Call],
-) {
+fn make<S: SharedSet, R: Wait + Abort>(rt: &R, set: S, atoms: &mut Atoms<S>, call: &Call) {
+    let atom = called(rt, set, atoms, call).expect(rt, "an atom");
+    atoms.push(atom).expect(rt, "room");
+}
+
+fn make_each<S: SharedSet, R: Wait + Abort>(rt: &R, set: S, atoms: &mut Atoms<S>, calls: &[Call]) {
     for call in calls {
-        make(rt, set, kept, call);
+        make(rt, set, atoms, call);
     }
 }
 
 /// Makes these calls so often.
-fn repeat<'s, R: Wait + Abort>(
+fn repeat<S: SharedSet, R: Wait + Abort>(
     rt: &R,
-    set: &'s DefaultSet,
-    kept: &mut Kept<'s>,
+    set: S,
+    atoms: &mut Atoms<S>,
     calls: &[Call],
     times: usize,
 ) {
     for _ in 0..times {
-        make_each(rt, set, kept, calls);
+        make_each(rt, set, atoms, calls);
     }
 }
 
-fn let_go(rt: &impl Abort, kept: &mut Kept<'_>, at: usize) {
-    *kept.atoms.get_mut(at).expect(rt, "an atom's number") = DefaultAtom::default();
+fn let_go<H: AtomKind>(rt: &impl Abort, atoms: &mut Vec<SetAtom<H>>, at: usize) {
+    *atoms.get_mut(at).expect(rt, "an atom's number") = SetAtom::<H>::default();
 }
 
-fn keep_first(kept: &mut Kept<'_>, number: usize) {
-    kept.atoms.truncate(number);
+/// Lets all atoms of the text go.
+fn let_all_go<H: AtomKind>(atoms: &mut Vec<SetAtom<H>>, text: &str) {
+    for atom in atoms.iter_mut() {
+        if has_text(atom, text) {
+            *atom = SetAtom::<H>::default();
+        }
+    }
 }
 
-fn lock<'s, R: Wait + Abort>(rt: &R, set: &'s DefaultSet, kept: &mut Kept<'s>, at: usize) {
-    let held = locked(rt, set, at).expect(rt, "a bucket");
-    kept.locks.push(held).expect(rt, "room");
+/// Lets them go if it is this text that is visited.
+fn let_visited_go<H: AtomKind>(atoms: &mut Vec<SetAtom<H>>, text: &str, visited: &str) {
+    if text == visited {
+        let_all_go(atoms, text);
+    }
 }
 
-fn unlock(kept: &mut Kept<'_>) {
-    kept.locks.clear();
+/// Lets all atoms of the text go while a visit has the lock of its bucket.
+fn let_die<S: SharedSet, R: Wait>(rt: &R, set: S, atoms: &mut Atoms<S>, text: &str) {
+    set.for_each(rt, |visited, _| let_visited_go(atoms, text, visited));
 }
 
-fn sweep<R: Wait>(rt: &R, set: &DefaultSet) {
+fn keep_first<H: AtomKind>(atoms: &mut Vec<SetAtom<H>>, number: usize) {
+    atoms.truncate(number);
+}
+
+fn sweep<S: SharedSet, R: Wait>(rt: &R, set: S) {
     set.sweep(rt);
 }
 
-fn is_one(one: &DefaultAtom<'_>, other: &DefaultAtom<'_>) -> bool {
+fn is_one<H: AtomKind>(one: &SetAtom<H>, other: &SetAtom<H>) -> bool {
     are_one(one, other) && one == other
 }
 
-fn have_word(kept: &Kept<'_>, word: u64) -> bool {
-    for atom in &kept.atoms {
+fn have_word<H: AtomKind>(atoms: &[SetAtom<H>], word: u64) -> bool {
+    for atom in atoms {
         if !has_word(atom, word) {
             return false;
         }
@@ -178,29 +220,29 @@ fn have_word(kept: &Kept<'_>, word: u64) -> bool {
     true
 }
 
-fn is_refused<'s, R: Wait + Abort>(
+fn is_refused<S: SharedSet, R: Wait + Abort>(
     rt: &R,
-    set: &'s DefaultSet,
-    kept: &Kept<'s>,
+    set: S,
+    atoms: &Atoms<S>,
     call: &Call,
     fault: Fault,
 ) -> bool {
-    called(rt, set, kept, call).err() == Some(fault)
+    called(rt, set, atoms, call).err() == Some(fault)
 }
 
-fn is_absent<R: Wait + Abort>(rt: &R, set: &DefaultSet, text: &str) -> bool {
+fn is_absent<S: SharedSet, R: Wait + Abort>(rt: &R, set: S, text: &str) -> bool {
     look_up(rt, set, text).expect(rt, "an answer").is_none()
 }
 
-fn gets_word<R: Wait>(rt: &R, set: &DefaultSet, text: &str, word: u64) -> bool {
+fn gets_word<S: SharedSet, R: Wait>(rt: &R, set: S, text: &str, word: u64) -> bool {
     match interned(rt, set, text) {
         Ok(atom) => is_of(&atom, word, text),
         Err(_) => false,
     }
 }
 
-/// The texts of the entries that are linked, each with the number of its holders.
-fn visited<R: Wait>(rt: &R, set: &DefaultSet) -> String {
+/// The texts that are linked, each with the number of its holders.
+fn visited<S: SharedSet, R: Wait>(rt: &R, set: S) -> String {
     let mut seen = String::new(set.allocator());
     set.for_each(rt, |text, holders| {
         let _ = write!(seen, "{text} {holders};");
@@ -208,107 +250,83 @@ fn visited<R: Wait>(rt: &R, set: &DefaultSet) -> String {
     seen
 }
 
-fn visits<R: Wait>(rt: &R, set: &DefaultSet, wanted: &str) -> bool {
+fn visits<S: SharedSet, R: Wait>(rt: &R, set: S, wanted: &str) -> bool {
     visited(rt, set).as_str() == wanted
 }
 
-fn takes<R: Wait>(rt: &R, set: &DefaultSet, bytes: u128) -> bool {
+fn takes<S: SharedSet, R: Wait>(rt: &R, set: S, bytes: u128) -> bool {
     set.memory(rt) == bytes
 }
 
-fn is_free(bucket: &Mutex<Bucket<EmptyStaticAtomSet>>) -> bool {
-    bucket.try_lock().is_some()
-}
-
-/// Whether each lock is free but this bucket's, or each, where there is no such bucket.
-pub fn are_free(set: &DefaultSet, held: usize) -> bool {
-    for (at, bucket) in set.buckets().iter().enumerate() {
-        if is_free(bucket) == (at == held) {
-            return false;
-        }
-    }
-    true
-}
-
-/// Whether it is as the step says, which does nothing.
-fn is_so<'s, R: Wait + Abort>(rt: &R, set: &'s DefaultSet, kept: &Kept<'s>, step: &Step) -> bool {
-    match step {
-        Step::Is(at, text, word) => is_of(atom_at(rt, kept, *at), *word, text),
-        Step::One(one, other) => is_one(atom_at(rt, kept, *one), atom_at(rt, kept, *other)),
-        Step::AllAre(word) => have_word(kept, *word),
-        Step::Refused(call, fault) => is_refused(rt, set, kept, call, *fault),
-        Step::Absent(text) => is_absent(rt, set, text),
-        Step::Word(text, word) => gets_word(rt, set, text, *word),
-        Step::Linked(count) => links(rt, set, *count),
-        Step::Visits(wanted) => visits(rt, set, wanted),
-        Step::Memory(bytes) => takes(rt, set, *bytes),
-        Step::FreeBut(held) => are_free(set, *held),
+/// Whether the set of this kind tells of its texts as the step says.
+fn is_told<S: SharedSet, R: Wait>(rt: &R, set: S, kind: Kind, step: &Step) -> bool {
+    match (step, kind) {
+        (Step::Visits(wanted, _), Kind::Plain) => visits(rt, set, wanted),
+        (Step::Visits(_, wanted), Kind::Named) => visits(rt, set, wanted),
+        (Step::Memory(bytes, _), Kind::Plain) => takes(rt, set, *bytes),
+        (Step::Memory(_, bytes), Kind::Named) => takes(rt, set, *bytes),
+        (Step::Linked(count), _) => links(rt, set, *count),
         _ => false,
     }
 }
 
-/// Takes a step. Whether what it says was so.
-fn is_taken<'s, R: Wait + Abort>(
+/// Whether it is as the step says, which does nothing.
+fn is_so<S: SharedSet, R: Wait + Abort>(
     rt: &R,
-    set: &'s DefaultSet,
-    kept: &mut Kept<'s>,
+    set: S,
+    kind: Kind,
+    atoms: &Atoms<S>,
     step: &Step,
 ) -> bool {
     match step {
-        Step::Intern(text) => make(rt, set, kept, &Call::Intern(text)),
-        Step::Make(call) => make(rt, set, kept, call),
-        Step::Repeat(calls, times) => repeat(rt, set, kept, calls, *times),
-        Step::Drop(at) => let_go(rt, kept, *at),
-        Step::Keep(number) => keep_first(kept, *number),
-        Step::Lock(at) => lock(rt, set, kept, *at),
-        Step::Unlock => unlock(kept),
+        Step::Is(at, text, word) => is_of(atom_at(rt, atoms, *at), *word, text),
+        Step::One(one, other) => is_one(atom_at(rt, atoms, *one), atom_at(rt, atoms, *other)),
+        Step::AllAre(word) => have_word(atoms, *word),
+        Step::Refused(call, fault) => is_refused(rt, set, atoms, call, *fault),
+        Step::Absent(text) => is_absent(rt, set, text),
+        Step::Word(text, word) => gets_word(rt, set, text, *word),
+        _ => is_told(rt, set, kind, step),
+    }
+}
+
+/// Takes a step. Whether what it says was so.
+fn is_taken<S: SharedSet, R: Wait + Abort>(
+    rt: &R,
+    set: S,
+    kind: Kind,
+    atoms: &mut Atoms<S>,
+    step: &Step,
+) -> bool {
+    match step {
+        Step::Intern(text) => make(rt, set, atoms, &Call::Intern(text)),
+        Step::Make(call) => make(rt, set, atoms, call),
+        Step::Repeat(calls, times) => repeat(rt, set, atoms, calls, *times),
+        Step::Drop(at) => let_go(rt, atoms, *at),
+        Step::Keep(number) => keep_first(atoms, *number),
+        Step::Die(text) => let_die(rt, set, atoms, text),
         Step::Sweep => sweep(rt, set),
-        _ => return is_so(rt, set, kept, step),
+        _ => return is_so(rt, set, kind, atoms, step),
     }
     true
 }
 
 /// Takes the steps, one after another.
-fn take_each<'s, R: Wait + Abort>(
+fn take_each<S: SharedSet, R: Wait + Abort>(
     rt: &R,
-    set: &'s DefaultSet,
-    kept: &mut Kept<'s>,
+    set: S,
+    kind: Kind,
+    atoms: &mut Atoms<S>,
     steps: &[Step],
 ) {
     for (at, step) in steps.iter().enumerate() {
-        assert_for(rt, is_taken(rt, set, kept, step), &at);
+        assert_for(rt, is_taken(rt, set, kind, atoms, step), &at);
     }
 }
 
-/// Plays the scenes in a set, each where the one before it ends.
-fn play<R: Wait + Abort>(rt: &R, set: &DefaultSet, scenes: &[&[Step]]) {
-    let mut kept = nothing(set.allocator());
+/// Plays the scenes in a set of this kind, each where the one before it ends.
+pub fn play<S: SharedSet, R: Wait + Abort>(rt: &R, set: S, kind: Kind, scenes: &[&[Step]]) {
+    let mut atoms = Vec::new(set.allocator());
     for steps in scenes {
-        take_each(rt, set, &mut kept, steps);
+        take_each(rt, set, kind, &mut atoms, steps);
     }
-}
-
-/// Plays a scene in a new set.
-pub fn play_in_new<R: Wait + Abort>(rt: &R, alloc: Global, steps: &[Step]) {
-    play(rt, &default_set(rt, alloc), &[steps]);
-}
-
-/// Plays a scene in a new set, and another one where it ends.
-pub fn play_both_in_new<R: Wait + Abort>(rt: &R, alloc: Global, first: &[Step], second: &[Step]) {
-    play(rt, &default_set(rt, alloc), &[first, second]);
-}
-
-/// Plays a scene in a new set of one bucket.
-pub fn play_in_one_bucket<R: Wait + Abort>(rt: &R, alloc: Global, steps: &[Step]) {
-    play(rt, &one_bucket(rt, alloc), &[steps]);
-}
-
-/// Plays a scene in a new set whose texts may have so many holders, and its buckets so many serials.
-pub fn play_within<R: Wait + Abort>(
-    rt: &R,
-    alloc: Global,
-    (holders, serials): (u64, u64),
-    steps: &[Step],
-) {
-    play(rt, &limited_set(rt, alloc, holders, serials), &[steps]);
 }

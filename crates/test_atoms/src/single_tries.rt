@@ -43,7 +43,7 @@ fn has_second(first: &Held<'_>, text: &str) -> bool
 
 /// Whether a single try gives a share of the text's entry while it has fewer than three holders, and none then.
 fn tries<R: Wait>(rt: &R, set: &DefaultSet, text: &str) -> bool {
-    match set.intern(rt, text, hash_of::<EmptyStaticAtomSet>(text)) {
+    match set.intern_hashed(rt, text, hash_of::<EmptyStaticAtomSet>(text)) {
         Ok(first) => has_second(&first, text),
         Err(_) => false,
     }

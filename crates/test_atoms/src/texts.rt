@@ -2,25 +2,25 @@
 
 mod keys;
 
-use crate::samples::{clone_of, intern, new_set};
+use crate::samples::{clone_of, intern};
+use crate::sets::{self, USUAL, ask};
 use crate::{assert_for, assert_that};
 use std::alloc::Global;
 use std::borrow::CowStr;
 use std::cmp::Ordering;
 use std::process::Abort;
 use std::sync::Wait;
-use string_cache::dynamic_set::Set;
-use string_cache::static_sets::{EmptyStaticAtomSet, StaticTables};
-use string_cache::{Atom, DefaultAtom};
+use std::thread::Threads;
+use std::time::Clock;
+use string_cache::{AtomKind, DefaultAtom, SetAtom, SharedSet};
 use test_calls::{
     are_one, copied, has_text, has_word, interned_cow, interned_owned, json_of, lowered, raised,
     read_json,
 };
-use test_samples::One;
 
 /// What is asked of a new set.
 #[derive(Clone, Copy)]
-enum Question {
+pub enum Question {
     Hashes,
     Orders,
     Equalities,
@@ -34,7 +34,7 @@ enum Question {
 }
 
 /// Asks it of a set.
-fn check<Static: StaticTables, R: Wait + Abort>(rt: &R, set: &Set<Static>, question: Question) {
+pub fn check<S: SharedSet, R: Wait + Abort>(rt: &R, set: S, question: Question) {
     match question {
         Question::Hashes => check_hashes(rt, set),
         Question::Orders => check_orders(rt, set),
@@ -49,18 +49,9 @@ fn check<Static: StaticTables, R: Wait + Abort>(rt: &R, set: &Set<Static>, quest
     }
 }
 
-/// Asks it of a new set.
-fn ask<Static: StaticTables, R: Wait + Abort>(rt: &R, alloc: Global, question: Question) {
-    check(rt, &new_set::<Static>(rt, alloc), question);
-}
-
-fn ask_default<R: Wait + Abort>(rt: &R, alloc: Global, question: Question) {
-    ask::<EmptyStaticAtomSet, R>(rt, alloc, question);
-}
-
-/// Asks it of a set with the static text "sentence".
-fn ask_one<R: Wait + Abort>(rt: &R, alloc: Global, question: Question) {
-    ask::<One, R>(rt, alloc, question);
+/// Asks it of a new set of each kind.
+fn check_both<R: Threads + Clock + Wait + Abort + Sync>(rt: &R, alloc: Global, question: Question) {
+    ask(rt, alloc, USUAL, sets::Question::Texts(question));
 }
 
 #[test]
@@ -70,11 +61,7 @@ fn default_atom(rt: HostRuntime) {
     assert_that(&rt, atom.as_str().is_empty());
 }
 
-fn hash_of_text<R: Wait + Abort, Static: StaticTables>(
-    rt: &R,
-    set: &Set<Static>,
-    text: &str,
-) -> u64 {
+fn hash_of_text<S: SharedSet, R: Wait + Abort>(rt: &R, set: S, text: &str) -> u64 {
     intern(rt, set, text).get_hash()
 }
 
@@ -86,7 +73,7 @@ const HASHES: [(&str, u64); 4] = [
     ("interned", 0x556a_6dba_06a4_7210),
 ];
 
-fn check_hashes<R: Wait + Abort, Static: StaticTables>(rt: &R, set: &Set<Static>) {
+fn check_hashes<S: SharedSet, R: Wait + Abort>(rt: &R, set: S) {
     for (text, number) in &HASHES {
         assert_for(rt, hash_of_text(rt, set, text) == *number, text);
     }
@@ -94,16 +81,11 @@ fn check_hashes<R: Wait + Abort, Static: StaticTables>(rt: &R, set: &Set<Static>
 
 #[test]
 fn hash_numbers(rt: HostRuntime) {
-    ask_one(&rt, rt.alloc(), Question::Hashes);
+    check_both(&rt, rt.alloc(), Question::Hashes);
 }
 
 /// The order of the atoms of two texts, of which "sentence" is static.
-fn order<R: Wait + Abort, Static: StaticTables>(
-    rt: &R,
-    set: &Set<Static>,
-    left: &str,
-    right: &str,
-) -> Ordering {
+fn order<S: SharedSet, R: Wait + Abort>(rt: &R, set: S, left: &str, right: &str) -> Ordering {
     let left = intern(rt, set, left);
     left.cmp(&intern(rt, set, right))
 }
@@ -118,7 +100,7 @@ const ORDERS: [(&str, &str, Ordering); 6] = [
     ("interned", "interned", Ordering::Equal),
 ];
 
-fn check_orders<R: Wait + Abort, Static: StaticTables>(rt: &R, set: &Set<Static>) {
+fn check_orders<S: SharedSet, R: Wait + Abort>(rt: &R, set: S) {
     for (left, right, wanted) in &ORDERS {
         assert_for(rt, order(rt, set, left, right) == *wanted, &(left, right));
     }
@@ -126,13 +108,13 @@ fn check_orders<R: Wait + Abort, Static: StaticTables>(rt: &R, set: &Set<Static>
 
 #[test]
 fn orders(rt: HostRuntime) {
-    ask_one(&rt, rt.alloc(), Question::Orders);
+    check_both(&rt, rt.alloc(), Question::Orders);
 }
 
 /// Whether atoms of two texts are equal as they are, and without case, where these are true and not elsewhere.
-fn have_equalities<R: Wait + Abort, Static: StaticTables>(
+fn have_equalities<S: SharedSet, R: Wait + Abort>(
     rt: &R,
-    set: &Set<Static>,
+    set: S,
     left: &str,
     right: &str,
     (equal, without_case): (bool, bool),
@@ -142,8 +124,8 @@ fn have_equalities<R: Wait + Abort, Static: StaticTables>(
 }
 
 /// Whether the atom equals a text as it is, and without case, where these are true and not elsewhere.
-fn equals_text<Static: StaticTables>(
-    atom: &Atom<'_, Static>,
+fn equals_text<H: AtomKind>(
+    atom: &SetAtom<H>,
     text: &str,
     equal: bool,
     without_case: bool,
@@ -160,7 +142,7 @@ const EQUALITIES: [(&str, &str, bool, bool); 5] = [
     ("foo", "foo", true, true),
 ];
 
-fn check_equalities<R: Wait + Abort, Static: StaticTables>(rt: &R, set: &Set<Static>) {
+fn check_equalities<S: SharedSet, R: Wait + Abort>(rt: &R, set: S) {
     for (left, right, equal, without_case) in &EQUALITIES {
         assert_that(
             rt,
@@ -171,7 +153,7 @@ fn check_equalities<R: Wait + Abort, Static: StaticTables>(rt: &R, set: &Set<Sta
 
 #[test]
 fn without_case(rt: HostRuntime) {
-    ask_default(&rt, rt.alloc(), Question::Equalities);
+    check_both(&rt, rt.alloc(), Question::Equalities);
 }
 
 /// Texts, and whether the atom of "Foo" equals them: as they are, and without case.
@@ -182,7 +164,7 @@ const EQUAL_TEXTS: [(&str, bool, bool); 4] = [
     ("fo", false, false),
 ];
 
-fn check_equal_texts<Static: StaticTables>(rt: &impl Abort, atom: &Atom<'_, Static>) {
+fn check_equal_texts<H: AtomKind>(rt: &impl Abort, atom: &SetAtom<H>) {
     for (text, equal, without_case) in &EQUAL_TEXTS {
         assert_for(rt, equals_text(atom, text, *equal, *without_case), text);
     }
@@ -190,20 +172,16 @@ fn check_equal_texts<Static: StaticTables>(rt: &impl Abort, atom: &Atom<'_, Stat
 
 #[test]
 fn without_case_of_a_text(rt: HostRuntime) {
-    ask_default(&rt, rt.alloc(), Question::EqualTexts);
+    check_both(&rt, rt.alloc(), Question::EqualTexts);
 }
 
 /// Whether the clone, which goes, has the atom's word, and this text.
-fn is_clone<Static: StaticTables>(
-    clone: Atom<'_, Static>,
-    atom: &Atom<'_, Static>,
-    text: &str,
-) -> bool {
+fn is_clone<H: AtomKind>(clone: SetAtom<H>, atom: &SetAtom<H>, text: &str) -> bool {
     are_one(&clone, atom) && has_text(&clone, text)
 }
 
 /// Whether both calls clone the atom of the text.
-fn is_cloned<R: Wait + Abort, Static: StaticTables>(rt: &R, set: &Set<Static>, text: &str) -> bool {
+pub fn is_cloned<S: SharedSet, R: Wait + Abort>(rt: &R, set: S, text: &str) -> bool {
     let atom = intern(rt, set, text);
     is_clone(clone_of(rt, &atom), &atom, text)
         && is_clone(copied(rt, &atom).expect(rt, "an atom"), &atom, text)
@@ -212,7 +190,7 @@ fn is_cloned<R: Wait + Abort, Static: StaticTables>(rt: &R, set: &Set<Static>, t
 /// Texts that are inline, static and dynamic.
 const CLONED: [&str; 3] = ["foo", "sentence", "interned"];
 
-fn check_clones<R: Wait + Abort, Static: StaticTables>(rt: &R, set: &Set<Static>) {
+fn check_clones<S: SharedSet, R: Wait + Abort>(rt: &R, set: S) {
     for text in &CLONED {
         assert_for(rt, is_cloned(rt, set, text), text);
     }
@@ -220,11 +198,11 @@ fn check_clones<R: Wait + Abort, Static: StaticTables>(rt: &R, set: &Set<Static>
 
 #[test]
 fn clones(rt: HostRuntime) {
-    ask_one(&rt, rt.alloc(), Question::Clones);
+    check_both(&rt, rt.alloc(), Question::Clones);
 }
 
 /// Whether the other, which goes, is dynamic as the atom is, and one with it.
-fn is_same<Static: StaticTables>(atom: &Atom<'_, Static>, other: Atom<'_, Static>) -> bool {
+pub fn is_same<H: AtomKind>(atom: &SetAtom<H>, other: SetAtom<H>) -> bool {
     other.is_dynamic() && other == *atom && are_one(&other, atom)
 }
 
@@ -232,10 +210,10 @@ fn owned(rt: &impl Abort, alloc: Global, text: &str) -> String {
     String::from_str(alloc, text).expect(rt, "a text")
 }
 
-fn is_owned<R: Wait + Abort, Static: StaticTables>(
+fn is_owned<S: SharedSet, R: Wait + Abort>(
     rt: &R,
-    set: &Set<Static>,
-    atom: &Atom<'_, Static>,
+    set: S,
+    atom: &SetAtom<S::Held>,
     text: &str,
 ) -> bool {
     let own = owned(rt, set.allocator(), text);
@@ -245,10 +223,10 @@ fn is_owned<R: Wait + Abort, Static: StaticTables>(
     }
 }
 
-fn is_cow<R: Wait, Static: StaticTables>(
+fn is_cow<S: SharedSet, R: Wait>(
     rt: &R,
-    set: &Set<Static>,
-    atom: &Atom<'_, Static>,
+    set: S,
+    atom: &SetAtom<S::Held>,
     text: CowStr<'_>,
 ) -> bool {
     match interned_cow(rt, set, text) {
@@ -258,10 +236,10 @@ fn is_cow<R: Wait, Static: StaticTables>(
 }
 
 /// Whether each call that takes a text which may be owned gives the atom.
-fn is_of_each_owner<R: Wait + Abort, Static: StaticTables>(
+pub fn is_of_each_owner<S: SharedSet, R: Wait + Abort>(
     rt: &R,
-    set: &Set<Static>,
-    atom: &Atom<'_, Static>,
+    set: S,
+    atom: &SetAtom<S::Held>,
     text: &str,
 ) -> bool {
     let own = owned(rt, set.allocator(), text);
@@ -270,39 +248,35 @@ fn is_of_each_owner<R: Wait + Abort, Static: StaticTables>(
         && is_cow(rt, set, atom, CowStr::Owned(own))
 }
 
-fn check_owners<R: Wait + Abort, Static: StaticTables>(
-    rt: &R,
-    set: &Set<Static>,
-    atom: &Atom<'_, Static>,
-) {
+fn check_owners<S: SharedSet, R: Wait + Abort>(rt: &R, set: S, atom: &SetAtom<S::Held>) {
     assert_that(rt, is_of_each_owner(rt, set, atom, "interned"));
 }
 
 #[test]
 fn owned_texts(rt: HostRuntime) {
-    ask_default(&rt, rt.alloc(), Question::Owners);
+    check_both(&rt, rt.alloc(), Question::Owners);
 }
 
-fn upper_of<'s, R: Wait + Abort, Static: StaticTables>(
+pub fn upper_of<S: SharedSet, R: Wait + Abort>(
     rt: &R,
-    set: &'s Set<Static>,
-    atom: &Atom<'s, Static>,
-) -> Atom<'s, Static> {
+    set: S,
+    atom: &SetAtom<S::Held>,
+) -> SetAtom<S::Held> {
     raised(rt, set, atom).expect(rt, "an atom")
 }
 
-fn lower_of<'s, R: Wait + Abort, Static: StaticTables>(
+pub fn lower_of<S: SharedSet, R: Wait + Abort>(
     rt: &R,
-    set: &'s Set<Static>,
-    atom: &Atom<'s, Static>,
-) -> Atom<'s, Static> {
+    set: S,
+    atom: &SetAtom<S::Held>,
+) -> SetAtom<S::Held> {
     lowered(rt, set, atom).expect(rt, "an atom")
 }
 
 /// Whether the text has these cases.
-fn has_cases<R: Wait + Abort, Static: StaticTables>(
+fn has_cases<S: SharedSet, R: Wait + Abort>(
     rt: &R,
-    set: &Set<Static>,
+    set: S,
     text: &str,
     upper: &str,
     lower: &str,
@@ -316,11 +290,7 @@ fn repeated(rt: &impl Abort, alloc: Global, text: &str, times: usize) -> String 
 }
 
 /// Whether a text of this many letters has these cases.
-fn has_long_cases<R: Wait + Abort, Static: StaticTables>(
-    rt: &R,
-    set: &Set<Static>,
-    letters: usize,
-) -> bool {
+fn has_long_cases<S: SharedSet, R: Wait + Abort>(rt: &R, set: S, letters: usize) -> bool {
     let lower = repeated(rt, set.allocator(), "a", letters);
     let upper = repeated(rt, set.allocator(), "A", letters);
     has_cases(rt, set, &lower, &upper, &lower)
@@ -335,7 +305,7 @@ const CASES: [(&str, &str, &str); 5] = [
     ("azAZ", "AZAZ", "azaz"),
 ];
 
-fn check_cases<R: Wait + Abort, Static: StaticTables>(rt: &R, set: &Set<Static>) {
+fn check_cases<S: SharedSet, R: Wait + Abort>(rt: &R, set: S) {
     for (text, upper, lower) in &CASES {
         assert_that(rt, has_cases(rt, set, text, upper, lower));
     }
@@ -345,85 +315,81 @@ fn check_cases<R: Wait + Abort, Static: StaticTables>(rt: &R, set: &Set<Static>)
 
 #[test]
 fn cases(rt: HostRuntime) {
-    ask_default(&rt, rt.alloc(), Question::Cases);
+    check_both(&rt, rt.alloc(), Question::Cases);
 }
 
 /// Whether the atom, which goes, is that of the static text.
-fn is_sentence<Static: StaticTables>(atom: Atom<'_, Static>) -> bool {
+fn is_sentence<H: AtomKind>(atom: SetAtom<H>) -> bool {
     atom.is_static() && has_word(&atom, 2)
 }
 
 /// Whether the atom in capitals is dynamic, and the static one again in small letters.
-fn has_static_lower<R: Wait + Abort, Static: StaticTables>(
+fn has_static_lower<S: SharedSet, R: Wait + Abort>(
     rt: &R,
-    set: &Set<Static>,
-    upper: &Atom<'_, Static>,
+    set: S,
+    upper: &SetAtom<S::Held>,
 ) -> bool {
     has_text(upper, "SENTENCE") && upper.is_dynamic() && is_sentence(lower_of(rt, set, upper))
 }
 
-fn check_static_cases<R: Wait + Abort, Static: StaticTables>(rt: &R, set: &Set<Static>) {
+fn check_static_cases<S: SharedSet, R: Wait + Abort>(rt: &R, set: S) {
     let upper = upper_of(rt, set, &intern(rt, set, "sentence"));
     assert_that(rt, has_static_lower(rt, set, &upper));
 }
 
 #[test]
 fn cases_of_a_static_text(rt: HostRuntime) {
-    ask_one(&rt, rt.alloc(), Question::StaticCases);
+    check_both(&rt, rt.alloc(), Question::StaticCases);
 }
 
 #[test]
 fn keys_of_maps(rt: HostRuntime) {
-    ask_one(&rt, rt.alloc(), Question::Keys);
+    check_both(&rt, rt.alloc(), Question::Keys);
 }
 
 /// The atom, there and back as JSON.
-fn json_copy<'s, R: Wait + Abort, Static: StaticTables>(
+pub fn json_copy<S: SharedSet, R: Wait + Abort>(
     rt: &R,
-    set: &'s Set<Static>,
-    atom: &Atom<'s, Static>,
-) -> Atom<'s, Static> {
+    set: S,
+    atom: &SetAtom<S::Held>,
+) -> SetAtom<S::Held> {
     let value = json_of(atom, set.allocator()).expect(rt, "an answer");
     read_json(rt, set, &value).expect(rt, "an atom")
 }
 
-fn has_length<Static: StaticTables>(atom: &Atom<'_, Static>, bytes: usize) -> bool {
+fn has_length<H: AtomKind>(atom: &SetAtom<H>, bytes: usize) -> bool {
     atom.as_bytes().len() == bytes
 }
 
 /// Checks the other case of an atom that has small letters and none beyond ASCII to change.
-fn check_upper<R: Wait + Abort, Static: StaticTables>(
-    rt: &R,
-    set: &Set<Static>,
-    atom: &Atom<'_, Static>,
-) {
+fn check_upper<S: SharedSet, R: Wait + Abort>(rt: &R, set: S, atom: &SetAtom<S::Held>) {
     let upper = upper_of(rt, set, atom);
     assert_that(
         rt,
-        has_length(&upper, 300_000) && upper != *atom && upper.eq_ignore_ascii_case(atom),
+        has_length(&upper, 2_100_000) && upper != *atom && upper.eq_ignore_ascii_case(atom),
     );
 }
 
 /// Checks the atom of a long text, its other case, and its copies.
-fn check_long_atom<R: Wait + Abort, Static: StaticTables>(
+fn check_long_atom<S: SharedSet, R: Wait + Abort>(
     rt: &R,
-    set: &Set<Static>,
-    atom: &Atom<'_, Static>,
+    set: S,
+    atom: &SetAtom<S::Held>,
     text: &str,
 ) {
-    assert_that(rt, has_length(atom, 300_000));
+    assert_that(rt, has_length(atom, 2_100_000));
     assert_that(rt, is_same(atom, json_copy(rt, set, atom)));
     assert_that(rt, is_owned(rt, set, atom, text));
     check_upper(rt, set, atom);
 }
 
-/// A text of 300,000 bytes, not all of them ASCII, interned, put into another case, and there and back as JSON.
-fn check_long_text<R: Wait + Abort, Static: StaticTables>(rt: &R, set: &Set<Static>) {
-    let text = repeated(rt, set.allocator(), "aé", 100_000);
+/// A text of two megabytes, not all of it ASCII, interned, put into another case, and there and back as JSON.
+fn check_long_text<S: SharedSet, R: Wait + Abort>(rt: &R, set: S) {
+    let text = repeated(rt, set.allocator(), "aé", 700_000);
     check_long_atom(rt, set, &intern(rt, set, &text), &text);
 }
 
 #[test]
 fn long_text(rt: HostRuntime) {
-    ask_default(&rt, rt.alloc(), Question::LongText);
+    check_both(&rt, rt.alloc(), Question::LongText);
 }

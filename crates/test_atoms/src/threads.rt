@@ -1,55 +1,72 @@
-//! Threads at work on one set, and on one atom.
+//! Threads at work on one set, and on one text.
 
 use crate::assert_that;
-use crate::samples::{DefaultSet, check_linked, clone_of, default_set, intern, limited_set};
+use crate::samples::{check_linked, clone_of, intern};
+use crate::sets::{self, Size, USUAL, ask, within};
+use std::alloc::Global;
 use std::process::Abort;
 use std::sync::Wait;
 use std::sync::atomic::{AtomicU64, Ordering};
 use std::thread::{self, Threads};
-use string_cache::{DefaultAtom, Fault};
+use std::time::Clock;
+use string_cache::{AtomKind, Fault, SetAtom, SharedSet};
 use test_calls::{cloned, has_text};
 
 /// What threads do with a new set.
 #[derive(Clone, Copy)]
-enum Scene {
+pub enum Scene {
     AtWork,
-    OneAtom,
+    Clones,
     OneText,
 }
 
-/// Plays the scene in a set, which has no entry afterwards.
-fn play<R: Threads + Wait + Abort + Sync>(rt: &R, set: DefaultSet, scene: Scene) {
+/// Plays the scene in a set, which has no text afterwards.
+pub fn play<S: SharedSet + Send + Sync, R: Threads + Wait + Abort + Sync>(
+    rt: &R,
+    set: S,
+    scene: Scene,
+) {
     match scene {
-        Scene::AtWork => work_in_two(rt, &set),
-        Scene::OneAtom => share_one_atom(rt, &set),
-        Scene::OneText => meet_at_one_text(rt, &set),
+        Scene::AtWork => work_in_two(rt, set),
+        Scene::Clones => clone_one_text(rt, set),
+        Scene::OneText => meet_at_one_text(rt, set),
     }
-    check_linked(rt, &set, 0);
+    check_linked(rt, set, 0);
+}
+
+/// Plays it in a new set of this size, of each kind.
+fn play_both<R: Threads + Clock + Wait + Abort + Sync>(
+    rt: &R,
+    alloc: Global,
+    size: Size,
+    scene: Scene,
+) {
+    ask(rt, alloc, size, sets::Question::Threads(scene));
 }
 
 /// Whether a clone is equal to its atom, and has the text.
-fn is_clone(clone: &DefaultAtom<'_>, atom: &DefaultAtom<'_>, text: &str) -> bool {
+fn is_clone<H: AtomKind>(clone: &SetAtom<H>, atom: &SetAtom<H>, text: &str) -> bool {
     clone == atom && has_text(clone, text)
 }
 
 /// Interns, clones and drops a text. Whether both atoms were equal, and had it.
-fn comes_and_goes<R: Wait + Abort>(rt: &R, set: &DefaultSet, text: &str) -> bool {
+fn comes_and_goes<S: SharedSet, R: Wait + Abort>(rt: &R, set: S, text: &str) -> bool {
     let atom = intern(rt, set, text);
     is_clone(&clone_of(rt, &atom), &atom, text)
 }
 
 /// Does so with each of the texts, again and again.
-fn turn_over<R: Wait + Abort>(rt: &R, set: &DefaultSet) -> bool {
+fn turn_over<S: SharedSet, R: Wait + Abort>(rt: &R, set: S) -> bool {
     let mut is_same = true;
     for _ in 0..100 {
-        for text in "interned tokenised sentence repeated".split_whitespace() {
+        for text in "interned tokenised document repeated".split_whitespace() {
             is_same = is_same && comes_and_goes(rt, set, text);
         }
     }
     is_same
 }
 
-fn work_in_two<R: Threads + Wait + Abort + Sync>(rt: &R, set: &DefaultSet) {
+fn work_in_two<S: SharedSet + Send + Sync, R: Threads + Wait + Abort + Sync>(rt: &R, set: S) {
     let (left, right) = thread::join(rt, || turn_over(rt, set), || turn_over(rt, set));
     assert_that(rt, left && right);
     set.sweep(rt);
@@ -57,47 +74,53 @@ fn work_in_two<R: Threads + Wait + Abort + Sync>(rt: &R, set: &DefaultSet) {
 
 #[test]
 fn threads_at_work(rt: HostRuntime) {
-    play(&rt, default_set(&rt, rt.alloc()), Scene::AtWork);
+    play_both(&rt, rt.alloc(), USUAL, Scene::AtWork);
 }
 
-/// Clones and drops the atom, again and again.
-fn clone_and_drop<R: Wait + Abort>(rt: &R, atom: &DefaultAtom<'_>) {
+/// Clones and drops an atom of its own, again and again.
+fn clone_and_drop<S: SharedSet, R: Wait + Abort>(rt: &R, set: S) {
+    let atom = intern(rt, set, "interned");
     for _ in 0..30_000 {
-        drop(clone_of(rt, atom));
+        drop(clone_of(rt, &atom));
     }
 }
 
-fn takes_no_more<R: Wait>(rt: &R, atom: &DefaultAtom<'_>) -> bool {
+fn takes_no_more<H: AtomKind, R: Wait>(rt: &R, atom: &SetAtom<H>) -> bool {
     matches!(cloned(rt, atom), Err(Fault::FullCount))
 }
 
-/// Whether the atom, which has a single holder, takes just two more.
-fn takes_two_more<R: Wait + Abort>(rt: &R, atom: &DefaultAtom<'_>) -> bool {
-    let _second = clone_of(rt, atom);
+/// Whether the atom takes just two more beside its two.
+fn takes_two_more<H: AtomKind, R: Wait + Abort>(rt: &R, atom: &SetAtom<H>) -> bool {
     let _third = clone_of(rt, atom);
+    let _fourth = clone_of(rt, atom);
     takes_no_more(rt, atom)
 }
 
-fn clone_in_two<R: Threads + Wait + Abort + Sync>(rt: &R, atom: &DefaultAtom<'_>) {
-    thread::join(rt, || clone_and_drop(rt, atom), || clone_and_drop(rt, atom));
+/// Whether the text, of which there is one holder, takes just three more.
+fn takes_three_more<H: AtomKind, R: Wait + Abort>(rt: &R, atom: &SetAtom<H>) -> bool {
+    let second = clone_of(rt, atom);
+    takes_two_more(rt, &second)
 }
 
-/// Shares the only atom of a set between two threads.
-fn share<R: Threads + Wait + Abort + Sync>(rt: &R, set: &DefaultSet, atom: &DefaultAtom<'_>) {
-    clone_in_two(rt, atom);
-    check_linked(rt, set, 1);
-    assert_that(rt, has_text(atom, "interned"));
-    assert_that(rt, takes_two_more(rt, atom));
+fn clone_in_two<S: SharedSet + Send + Sync, R: Threads + Wait + Abort + Sync>(rt: &R, set: S) {
+    thread::join(rt, || clone_and_drop(rt, set), || clone_and_drop(rt, set));
 }
 
-fn share_one_atom<R: Threads + Wait + Abort + Sync>(rt: &R, set: &DefaultSet) {
-    share(rt, set, &intern(rt, set, "interned"));
+/// Two threads clone atoms of one text, of which each has one, so that there are at most four holders.
+fn clone_one_text<S: SharedSet + Send + Sync, R: Threads + Wait + Abort + Sync>(rt: &R, set: S) {
+    clone_in_two(rt, set);
+    set.sweep(rt);
+    let atom = intern(rt, set, "interned");
+    assert_that(
+        rt,
+        has_text(&atom, "interned") && takes_three_more(rt, &atom),
+    );
 }
 
 /// No share is lost or left over, and none is refused, though both threads change one count.
 #[test]
-fn one_atom_in_two_threads(rt: HostRuntime) {
-    play(&rt, limited_set(&rt, rt.alloc(), 3, 9), Scene::OneAtom);
+fn two_threads_clone_one_text(rt: HostRuntime) {
+    play_both(&rt, rt.alloc(), within(4, 9), Scene::Clones);
 }
 
 /// Waits until two threads have come here as often as this.
@@ -113,9 +136,9 @@ fn meet<R: Wait>(rt: &R, gate: &AtomicU64, times: u64) {
 
 /// Interns a text at the same time as another thread does, which nobody holds before, in each of 2,000 rounds. In how many both had
 /// one word.
-fn intern_beside<R: Wait + Abort>(
+fn intern_beside<S: SharedSet, R: Wait + Abort>(
     rt: &R,
-    set: &DefaultSet,
+    set: S,
     gate: &AtomicU64,
     mine: &AtomicU64,
     other: &AtomicU64,
@@ -151,7 +174,11 @@ impl Meeting {
     }
 }
 
-fn intern_in_two<R: Threads + Wait + Abort + Sync>(rt: &R, set: &DefaultSet, at: &Meeting) {
+fn intern_in_two<S: SharedSet + Send + Sync, R: Threads + Wait + Abort + Sync>(
+    rt: &R,
+    set: S,
+    at: &Meeting,
+) {
     let (left, right) = thread::join(
         rt,
         || intern_beside(rt, set, &at.gate, &at.one, &at.two),
@@ -161,12 +188,12 @@ fn intern_in_two<R: Threads + Wait + Abort + Sync>(rt: &R, set: &DefaultSet, at:
     set.sweep(rt);
 }
 
-fn meet_at_one_text<R: Threads + Wait + Abort + Sync>(rt: &R, set: &DefaultSet) {
+fn meet_at_one_text<S: SharedSet + Send + Sync, R: Threads + Wait + Abort + Sync>(rt: &R, set: S) {
     intern_in_two(rt, set, &Meeting::new());
 }
 
 /// Of two threads that find a text absent one links it, and the other finds that entry.
 #[test]
 fn two_threads_at_one_new_text(rt: HostRuntime) {
-    play(&rt, default_set(&rt, rt.alloc()), Scene::OneText);
+    play_both(&rt, rt.alloc(), USUAL, Scene::OneText);
 }

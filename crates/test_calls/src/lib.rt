@@ -9,11 +9,12 @@ use serde_json::Value;
 use std::alloc::Global;
 use std::borrow::CowStr;
 use std::sync::{MutexGuard, Wait};
+use string_cache::atom::AtomOf;
 use string_cache::dynamic_set::{Bucket, Set};
 use string_cache::phf::hash;
 use string_cache::static_sets::{StaticAtomSet, StaticTables};
 use string_cache::word::{Buckets, Limits};
-use string_cache::{Atom, AtomList, Fault};
+use string_cache::{AtomKind, Fault, SetAtom, SetList, SharedSet, TextSet};
 
 /// The hash of a text's entry.
 #[tactic(auto, unfolding(text_forms::specs::Tables::entry_hash))]
@@ -23,8 +24,8 @@ pub fn hash_of<Static: StaticAtomSet>(text: &str) -> u64
     hash(text, Static::get().key).entry_hash()
 }
 
-/// Whether so many entries are linked.
-pub fn links<R: Wait, Static: StaticTables>(rt: &R, set: &Set<Static>, count: u128) -> bool {
+/// Whether so many texts are linked.
+pub fn links<S: SharedSet, R: Wait>(rt: &R, set: S, count: u128) -> bool {
     set.linked(rt) == count
 }
 
@@ -57,140 +58,123 @@ pub fn locked<'s, R: Wait, Static: StaticTables>(
 }
 
 /// The atom of a text, unless it is refused.
-pub fn interned<'s, R: Wait, Static: StaticTables>(
+pub fn interned<S: TextSet, R: Wait>(
     rt: &R,
-    set: &'s Set<Static>,
+    set: S,
     text: &str,
-) -> Result<Atom<'s, Static>, Fault> {
-    Atom::from_str_in(rt, set, text)
+) -> Result<SetAtom<S::Held>, Fault> {
+    AtomOf::from_str_in(rt, set, text)
 }
 
 /// The atom of a text that the set has, unless it is refused.
-pub fn look_up<'s, R: Wait, Static: StaticTables>(
+pub fn look_up<S: TextSet, R: Wait>(
     rt: &R,
-    set: &'s Set<Static>,
+    set: S,
     text: &str,
-) -> Result<Option<Atom<'s, Static>>, Fault> {
-    Atom::get_in(rt, set, text)
+) -> Result<Option<SetAtom<S::Held>>, Fault> {
+    AtomOf::get_in(rt, set, text)
 }
 
 /// A clone of an atom, unless it is refused.
-pub fn cloned<'s, R: Wait, Static: StaticTables>(
-    rt: &R,
-    atom: &Atom<'s, Static>,
-) -> Result<Atom<'s, Static>, Fault> {
+pub fn cloned<H: AtomKind, R: Wait>(rt: &R, atom: &SetAtom<H>) -> Result<SetAtom<H>, Fault> {
     atom.clone_atom(rt)
 }
 
 /// An atom of another's text, unless it is refused.
-pub fn copied<'s, R: Wait, Static: StaticTables>(
-    rt: &R,
-    atom: &Atom<'s, Static>,
-) -> Result<Atom<'s, Static>, Fault> {
-    Atom::from_atom(rt, atom)
+pub fn copied<H: AtomKind, R: Wait>(rt: &R, atom: &SetAtom<H>) -> Result<SetAtom<H>, Fault> {
+    AtomOf::from_atom(rt, atom)
 }
 
 /// The atom of a text that is owned, unless it is refused.
-pub fn interned_owned<'s, R: Wait, Static: StaticTables>(
+pub fn interned_owned<S: TextSet, R: Wait>(
     rt: &R,
-    set: &'s Set<Static>,
+    set: S,
     text: String,
-) -> Result<Atom<'s, Static>, Fault> {
-    Atom::from_string_in(rt, set, text)
+) -> Result<SetAtom<S::Held>, Fault> {
+    AtomOf::from_string_in(rt, set, text)
 }
 
 /// That of one which may be owned.
-pub fn interned_cow<'s, R: Wait, Static: StaticTables>(
+pub fn interned_cow<S: TextSet, R: Wait>(
     rt: &R,
-    set: &'s Set<Static>,
+    set: S,
     text: CowStr<'_>,
-) -> Result<Atom<'s, Static>, Fault> {
-    Atom::from_cow_in(rt, set, text)
+) -> Result<SetAtom<S::Held>, Fault> {
+    AtomOf::from_cow_in(rt, set, text)
 }
 
 /// The JSON text of an atom, unless it is refused.
-pub fn json_of<Static: StaticTables>(
-    atom: &Atom<'_, Static>,
-    alloc: Global,
-) -> Result<Value, Fault> {
+pub fn json_of<H: AtomKind>(atom: &SetAtom<H>, alloc: Global) -> Result<Value, Fault> {
     atom.to_json(alloc)
 }
 
 /// The atom of a JSON text, unless it is refused.
-pub fn read_json<'s, R: Wait, Static: StaticTables>(
+pub fn read_json<S: TextSet, R: Wait>(
     rt: &R,
-    set: &'s Set<Static>,
+    set: S,
     value: &Value,
-) -> Result<Atom<'s, Static>, Fault> {
-    Atom::from_json_in(rt, set, value)
+) -> Result<SetAtom<S::Held>, Fault> {
+    AtomOf::from_json_in(rt, set, value)
 }
 
 /// The atom in small letters, unless it is refused.
-pub fn lowered<'s, R: Wait, Static: StaticTables>(
+pub fn lowered<S: TextSet, R: Wait>(
     rt: &R,
-    set: &'s Set<Static>,
-    atom: &Atom<'s, Static>,
-) -> Result<Atom<'s, Static>, Fault> {
+    set: S,
+    atom: &SetAtom<S::Held>,
+) -> Result<SetAtom<S::Held>, Fault> {
     atom.to_ascii_lowercase_in(rt, set)
 }
 
 /// The atom in capitals, unless it is refused.
-pub fn raised<'s, R: Wait, Static: StaticTables>(
+pub fn raised<S: TextSet, R: Wait>(
     rt: &R,
-    set: &'s Set<Static>,
-    atom: &Atom<'s, Static>,
-) -> Result<Atom<'s, Static>, Fault> {
+    set: S,
+    atom: &SetAtom<S::Held>,
+) -> Result<SetAtom<S::Held>, Fault> {
     atom.to_ascii_uppercase_in(rt, set)
 }
 
 /// Gives a text a place in a list, unless it is refused.
-pub fn push<R: Wait, Static: StaticTables>(
-    rt: &R,
-    list: &mut AtomList<'_, Static>,
-    text: &str,
-) -> Result<(), Fault> {
+pub fn push<S: SharedSet, R: Wait>(rt: &R, list: &mut SetList<S>, text: &str) -> Result<(), Fault> {
     list.push_str(rt, text)
 }
 
 /// Takes the last atom from a list.
-pub fn pop<'s, Static: StaticTables>(list: &mut AtomList<'s, Static>) -> Option<Atom<'s, Static>> {
+pub fn pop<S: SharedSet>(list: &mut SetList<S>) -> Option<SetAtom<S::Held>> {
     list.pop()
 }
 
 /// The atom at a place of a list, unless it is refused.
-pub fn cloned_at<'s, R: Wait, Static: StaticTables>(
+pub fn cloned_at<S: SharedSet, R: Wait>(
     rt: &R,
-    list: &AtomList<'s, Static>,
+    list: &SetList<S>,
     at: usize,
-) -> Result<Option<Atom<'s, Static>>, Fault> {
+) -> Result<Option<SetAtom<S::Held>>, Fault> {
     list.clone_atom(rt, at)
 }
 
 /// What a text is refused for.
-pub fn refusal<R: Wait, Static: StaticTables>(
-    rt: &R,
-    set: &Set<Static>,
-    text: &str,
-) -> Option<Fault> {
-    Atom::from_str_in(rt, set, text).err()
+pub fn refusal<S: TextSet, R: Wait>(rt: &R, set: S, text: &str) -> Option<Fault> {
+    interned(rt, set, text).err()
 }
 
 /// Whether the atom has this word.
-pub fn has_word<Static: StaticTables>(atom: &Atom<'_, Static>, word: u64) -> bool {
+pub fn has_word<H: AtomKind>(atom: &SetAtom<H>, word: u64) -> bool {
     atom.unsafe_data() == word
 }
 
 /// Whether the atom has this text.
-pub fn has_text<Static: StaticTables>(atom: &Atom<'_, Static>, text: &str) -> bool {
+pub fn has_text<H: AtomKind>(atom: &SetAtom<H>, text: &str) -> bool {
     atom.as_str() == text
 }
 
 /// Whether the atom has this word and this text.
-pub fn is_of<Static: StaticTables>(atom: &Atom<'_, Static>, word: u64, text: &str) -> bool {
+pub fn is_of<H: AtomKind>(atom: &SetAtom<H>, word: u64, text: &str) -> bool {
     has_word(atom, word) && has_text(atom, text)
 }
 
 /// Whether both have one word.
-pub fn are_one<Static: StaticTables>(one: &Atom<'_, Static>, other: &Atom<'_, Static>) -> bool {
+pub fn are_one<H: AtomKind>(one: &SetAtom<H>, other: &SetAtom<H>) -> bool {
     one.unsafe_data() == other.unsafe_data()
 }

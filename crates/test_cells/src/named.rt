@@ -4,7 +4,6 @@ ghost use Rattle.std.specs.Prelude.{◌≡◌};
 
 use crate::assert_that;
 use crate::calls::{are_one, cloned, found, interned, is_found_as, links};
-use named_set::callers::of_two;
 use named_set::{FreshName, Held, NamedSet, SetName};
 use std::alloc::Global;
 use std::marker::Brand;
@@ -16,14 +15,14 @@ use text_forms::word::{Buckets, Limits};
 
 type Named<N> = NamedSet<EmptyStaticAtomSet, N>;
 
-/// A long text beyond ASCII.
+/// A text of two megabytes beyond ASCII.
 fn long_text(alloc: Global) -> Result<String, Fault> {
-    Ok("Größe, 長さ, 🦀".repeat(alloc, 10_000)?)
+    Ok("Größe, 長さ, 🦀".repeat(alloc, 100_000)?)
 }
 
 /// Whether the words differ, and the two aren't equal.
 fn are_two<S: StaticTables, N: SetName>(one: &Held<'_, S, N>, other: &Held<'_, S, N>) -> bool {
-    one != other && !one.same(other)
+    one != other && one.word() != other.word()
 }
 
 /// Whether a text is given another word than the one that is held.
@@ -261,20 +260,5 @@ fn tickets_are_spent_at_the_limit(rt: HostRuntime) {
     assert_that(
         &rt,
         spends::<Brand, _>(&rt, rt.alloc(), name).expect(&rt, "an answer") == 20,
-    );
-}
-
-/// Threads are given one word for one text, and two for two.
-#[test]
-fn threads_agree(rt: HostRuntime) {
-    let long = long_text(rt.alloc()).expect(&rt, "a text");
-    let short = String::from_str(rt.alloc(), "Größe").expect(&rt, "a text");
-    assert_that(
-        &rt,
-        of_two(&rt, rt.alloc(), &long, &long).expect(&rt, "an answer"),
-    );
-    assert_that(
-        &rt,
-        !of_two(&rt, rt.alloc(), &long, &short).expect(&rt, "an answer"),
     );
 }

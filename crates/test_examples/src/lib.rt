@@ -11,6 +11,8 @@ mod named;
 #[cfg(test)]
 mod named_counts;
 #[cfg(test)]
+mod named_texts;
+#[cfg(test)]
 mod sets;
 #[cfg(test)]
 mod tables;

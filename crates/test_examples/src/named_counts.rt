@@ -3,8 +3,8 @@
 ghost use Rattle.std.specs.Prelude.{◌≡◌};
 
 use crate::assert_that;
-use named_atoms::{ByWord, NamedAtom};
 use named_set::{FreshName, NamedSet, SetName};
+use set_atoms::{ByWord, NamedAtom};
 use std::alloc::Global;
 use std::collections::HashMap;
 use std::marker::Brand;

@@ -137,7 +137,7 @@ impl<'s, Static: StaticTables> Held<'s, Static> {
 
     /// The hash of the entry's text.
     #[doc(hidden)]
-    pub fn hash(&self) -> u64
+    pub fn text_hash(&self) -> u64
         ensures { result ≡ self.now.hash }
     {
         self.own.share.label().hash

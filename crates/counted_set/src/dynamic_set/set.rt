@@ -60,15 +60,14 @@ impl<Static: StaticTables> Set<Static> {
     }
 
     /// A set without texts, with these limits and this many buckets. It is refused for `Memory` alone.
-    pub fn with_buckets(alloc: Global, limits: Limits, count: Buckets) -> Result<Self, Fault>
+    pub fn with_buckets(alloc: Global, limits: Limits, buckets: Buckets) -> Result<Self, Fault>
         ensures limits { IfOk result (λ set. set.limits ≡ limits) }
-        ensures bits { IfOk result (λ set. set.bits ≡ count) }
+        ensures bits { IfOk result (λ set. set.bits ≡ buckets) }
         ensures refused { IfErr result (λ fault. fault ≡ Fault.Memory) }
     {
-        let buckets = Self::empty_buckets(alloc, count)?;
         Ok(Set {
-            buckets,
-            count,
+            buckets: Self::empty_buckets(alloc, buckets)?,
+            count: buckets,
             limits,
             alloc,
         })
@@ -153,7 +152,7 @@ impl<Static: StaticTables> Set<Static> {
 
     /// A share of the entry of a text with this hash, in the bucket of the hash. Atoms ask for it.
     #[doc(hidden)]
-    pub fn intern<'s, R: Wait>(
+    pub fn intern_hashed<'s, R: Wait>(
         &'s self,
         rt: &R,
         text: &str,
@@ -174,7 +173,7 @@ impl<Static: StaticTables> Set<Static> {
     /// A share of the entry of a text with this hash, in the bucket of the hash, if one is linked there that isn't dying. Atoms ask
     /// for it.
     #[doc(hidden)]
-    pub fn find<'s, R: Wait>(
+    pub fn find_hashed<'s, R: Wait>(
         &'s self,
         rt: &R,
         text: &str,

@@ -69,10 +69,13 @@ fn text_is_pushed(rt: HostRuntime) {
     assert_that(&rt, links(&rt, &set, 0));
 }
 
-/// A list of four texts, whose fifth place is the first past the room that it has.
-fn list_of_four<'s, R: Wait + Abort>(rt: &R, set: &'s Set<EmptyStaticAtomSet>) -> DefaultList<'s> {
+/// A list of 64 texts, whose next place is the first past the room that it has.
+fn list_of_sixty_four<'s, R: Wait + Abort>(
+    rt: &R,
+    set: &'s Set<EmptyStaticAtomSet>,
+) -> DefaultList<'s> {
     let mut list = list_of_one(rt, set, "interned");
-    for _ in 1..4 {
+    for _ in 1..64 {
         push(rt, &mut list, "ab").expect(rt, "a place");
     }
     list
@@ -82,10 +85,10 @@ fn list_of_four<'s, R: Wait + Abort>(rt: &R, set: &'s Set<EmptyStaticAtomSet>) -
 #[test]
 fn place_is_pushed(rt: HostRuntime) {
     let set = new_set(&rt, rt.alloc());
-    let mut list = list_of_four(&rt, &set);
+    let mut list = list_of_sixty_four(&rt, &set);
     assert_that(
         &rt,
-        is_pushed_at_last(&rt, &mut list, 4, ["ab", "interned"]),
+        is_pushed_at_last(&rt, &mut list, 64, ["ab", "interned"]),
     );
     drop(list);
     assert_that(&rt, links(&rt, &set, 0));

@@ -2,7 +2,6 @@
 ghost use Rattle.std.specs.Prelude.{◌≡◌};
 
 use crate::assert_that;
-use named_atoms::NamedAtom;
 use named_set::{FreshName, NamedSet, SetName};
 use serde_json::Value;
 use std::alloc::Global;
@@ -12,7 +11,7 @@ use std::marker::Brand;
 use std::process::Abort;
 use std::sync::Wait;
 use string_cache::word::{Buckets, Limits};
-use string_cache::{EmptyStaticAtomSet, Fault};
+use string_cache::{EmptyStaticAtomSet, Fault, NamedAtom};
 use test_refusals::{End, at_last, begin, finish, finishes_refused};
 
 type Named<N> = NamedSet<EmptyStaticAtomSet, N>;
@@ -43,6 +42,8 @@ enum Call {
     Upper,
     /// What makes an atom's JSON value.
     ToJson,
+    /// What interns a long text.
+    Long,
 }
 
 fn owned(rt: &impl Abort, alloc: Global, text: &str) -> String {
@@ -178,6 +179,13 @@ fn has_json<N: SetName, R: Wait + Print + Abort>(rt: &R, set: &Named<N>) -> bool
     value.as_str() == Some(SMALL)
 }
 
+/// Whether a long text, of 350,000 bytes beyond ASCII, comes first, and is given back.
+fn is_long_given<N: SetName, R: Wait + Print + Abort>(rt: &R, set: &Named<N>) -> bool {
+    let long = "Größe".repeat(set.allocator(), 50_000).expect(rt, "a text");
+    let atom = interned_at_last(rt, set, &long).expect(rt, "an atom");
+    is_of(&atom, FIRST, &long)
+}
+
 /// Whether the call, made in a new set, gives what it must.
 fn is_made_in<N: SetName, R: Wait + Print + Abort>(rt: &R, set: &Named<N>, call: Call) -> bool {
     let alloc = set.allocator();
@@ -189,6 +197,7 @@ fn is_made_in<N: SetName, R: Wait + Print + Abort>(rt: &R, set: &Named<N>, call:
         Call::Json => read_at_last(rt, set, &Value::String(owned(rt, alloc, SMALL))),
         Call::Upper => return is_put_into_capitals(rt, set),
         Call::ToJson => return has_json(rt, set),
+        Call::Long => return is_long_given(rt, set) && set.linked(rt) == 0,
     };
     is_first(rt, set, answer)
 }
@@ -287,4 +296,9 @@ fn long_text_is_put_into_capitals(rt: HostRuntime) {
 #[test]
 fn json_is_made(rt: HostRuntime) {
     check(&rt, rt.alloc(), Call::ToJson);
+}
+
+#[test]
+fn long_text_is_interned(rt: HostRuntime) {
+    check(&rt, rt.alloc(), Call::Long);
 }

@@ -426,12 +426,13 @@ fn is_cloned<R: Wait + Abort>(rt: &R, list: &DefaultList<'_>) -> bool {
     cloned_at(rt, list, 0).expect(rt, "an answer").is_some()
 }
 
-/// Whether "interned" is read in the list, which is cleared.
+/// Whether "interned" is read in the list, which is cleared, and has room for another text then.
 fn is_read_and_cleared<R: Wait + Abort>(rt: &R, list: &mut DefaultList<'_>) -> bool {
     let has_text = list.get(0) == Some("interned") && list.iter().len() == 1;
     let is_cloned = is_cloned(rt, list);
     list.clear();
-    has_text && is_cloned && pop(list).is_none()
+    let is_empty = pop(list).is_none();
+    has_text && is_cloned && is_empty && push(rt, list, "ab") == Ok(())
 }
 
 fn new_list_is_empty(set: &Set<EmptyStaticAtomSet>) -> bool {

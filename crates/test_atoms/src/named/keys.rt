@@ -1,12 +1,14 @@
 //! Atoms of a set with a name as keys by their words.
 
-use super::calls::{Named, interned, is_of};
-use named_atoms::ByWord;
+use super::Named;
+use crate::samples::intern;
 use named_set::SetName;
 use std::collections::HashMap;
 use std::hash::Hash;
 use std::process::Abort;
 use std::sync::Wait;
+use string_cache::ByWord;
+use test_calls::has_text;
 use test_samples::One;
 
 /// A map by words.
@@ -18,7 +20,7 @@ fn key_of<'s, N: SetName, R: Wait + Abort>(
     set: &'s Named<N>,
     text: &str,
 ) -> ByWord<'s, One, N> {
-    ByWord::new(interned(rt, set, text))
+    ByWord::new(intern(rt, set, text))
 }
 
 /// Puts a place under the word of a text.
@@ -70,7 +72,7 @@ pub fn are_keys<N: SetName, R: Wait + Abort>(rt: &R, set: &Named<N>) -> bool {
 /// Whether a key has the atom that it was made of.
 pub fn is_key<N: SetName, R: Wait + Abort>(rt: &R, set: &Named<N>, text: &str) -> bool {
     let key = key_of(rt, set, text);
-    let has = is_of(key.atom(), text);
+    let has = has_text(key.atom(), text);
     let atom = key.into_atom();
-    has && is_of(&atom, text)
+    has && has_text(&atom, text)
 }

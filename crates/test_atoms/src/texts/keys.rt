@@ -7,9 +7,7 @@ use std::convert::AsStr;
 use std::hash::Hash;
 use std::process::Abort;
 use std::sync::Wait;
-use string_cache::Atom;
-use string_cache::dynamic_set::Set;
-use string_cache::static_sets::StaticTables;
+use string_cache::{SetAtom, SharedSet};
 
 /// Adds one to the count of a key.
 fn count_hashed<K: Hash + Eq + Drop>(rt: &impl Abort, counts: &mut HashMap<K, u64>, key: K) {
@@ -29,10 +27,10 @@ fn times_of<K: Hash + Eq>(counts: &HashMap<K, u64>, key: &K) -> Option<u64> {
 }
 
 /// How often the map has the atom of this word.
-fn count_of<R: Wait + Abort, Static: StaticTables>(
+fn count_of<S: SharedSet, R: Wait + Abort>(
     rt: &R,
-    set: &Set<Static>,
-    counts: &HashMap<Atom<'_, Static>, u64>,
+    set: S,
+    counts: &HashMap<SetAtom<S::Held>, u64>,
     word: &str,
 ) -> Option<u64> {
     times_of(counts, &intern(rt, set, word))
@@ -54,11 +52,11 @@ fn has_counts<K: Ord + AsStr>(sorted: &BTreeMap<K, u64>, wanted: &[(&str, u64)])
 }
 
 /// Counts the words of a text, by the hashes of their atoms and by their order.
-fn count_words<'s, R: Wait + Abort, Static: StaticTables>(
+fn count_words<S: SharedSet, R: Wait + Abort>(
     rt: &R,
-    set: &'s Set<Static>,
-    counts: &mut HashMap<Atom<'s, Static>, u64>,
-    sorted: &mut BTreeMap<Atom<'s, Static>, u64>,
+    set: S,
+    counts: &mut HashMap<SetAtom<S::Held>, u64>,
+    sorted: &mut BTreeMap<SetAtom<S::Held>, u64>,
     text: &str,
 ) {
     for word in text.split_whitespace() {
@@ -72,10 +70,10 @@ fn count_words<'s, R: Wait + Abort, Static: StaticTables>(
 const COUNTS: [(&str, u64); 4] = [("a", 2), ("b", 1), ("interned", 3), ("sentence", 1)];
 
 /// Whether the map has these words, as often as this, and no others.
-fn has_hashed<R: Wait + Abort, Static: StaticTables>(
+fn has_hashed<S: SharedSet, R: Wait + Abort>(
     rt: &R,
-    set: &Set<Static>,
-    counts: &HashMap<Atom<'_, Static>, u64>,
+    set: S,
+    counts: &HashMap<SetAtom<S::Held>, u64>,
     wanted: &[(&str, u64)],
 ) -> bool {
     for (word, times) in wanted {
@@ -87,11 +85,7 @@ fn has_hashed<R: Wait + Abort, Static: StaticTables>(
 }
 
 /// Whether both maps have the words of a text.
-fn have_words<R: Wait + Abort, Static: StaticTables>(
-    rt: &R,
-    set: &Set<Static>,
-    text: &str,
-) -> bool {
+fn have_words<S: SharedSet, R: Wait + Abort>(rt: &R, set: S, text: &str) -> bool {
     let mut counts = HashMap::new(set.allocator());
     let mut sorted = BTreeMap::new(set.allocator());
     count_words(rt, set, &mut counts, &mut sorted, text);
@@ -99,7 +93,7 @@ fn have_words<R: Wait + Abort, Static: StaticTables>(
 }
 
 /// The words of a text are counted as often as they come.
-pub fn check_keys<R: Wait + Abort, Static: StaticTables>(rt: &R, set: &Set<Static>) {
+pub fn check_keys<S: SharedSet, R: Wait + Abort>(rt: &R, set: S) {
     assert_that(
         rt,
         have_words(rt, set, "interned sentence a interned b a interned"),

@@ -1,2 +1,0 @@
-pub mod NamedAtomValue
-pub mod NamedForm

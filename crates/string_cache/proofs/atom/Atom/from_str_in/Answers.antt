@@ -1,6 +1,0 @@
-use Rattle.std.proofs.Common.{sym}
-use Rattle.string_cache.proofs.Forms.{static_own}
-use Rattle.string_cache.proofs.atom.Atom.from_str_in.Goals as goal
-
-pub of_form-requires-in-Static : goal.of_form-requires-in-Static
-of_form-requires-in-Static g c = static_own g.Static.StaticTables.tables c.args.text.now c.in-Static.index (sym c.in-Static.ensures)

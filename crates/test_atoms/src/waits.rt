@@ -1,0 +1,299 @@
+//! Calls beside another thread's visit, which has a bucket's lock meanwhile: which of them wait for it, and what they tell then. By OpenSSL's
+//! SipHash the bucket of "afterwards" is 0, of "geometric" 0xfff, and of "interned" 0x210.
+
+use crate::assert_for;
+use crate::samples::{check_linked, clone_of, intern, shown};
+use crate::scenes::{self, Step};
+use crate::sets::{self, Kind, ONE_BUCKET, USUAL, ask};
+use serde_json::Value;
+use std::process::Abort;
+use std::sync::Wait;
+use std::sync::atomic::{AtomicBool, Ordering};
+use std::thread::{self, Threads};
+use std::time::{Clock, Duration};
+use string_cache::{Fault, SetAtom, SharedSet};
+use test_calls::{has_text, has_word, look_up, lowered, read_json};
+
+/// What is done beside the visit.
+#[derive(Clone, Copy, Debug)]
+pub enum Call {
+    /// What takes the lock of each bucket.
+    Linked,
+    Visits,
+    Memory,
+    Sweep,
+    /// Interning and looking up in the bucket of the lock, and in others.
+    SameBucket,
+    OtherBucket,
+    /// What takes no lock.
+    Unlocked,
+}
+
+impl Call {
+    /// Whether it ends without the lock.
+    fn needs_none(self) -> bool {
+        matches!(self, Call::OtherBucket | Call::Unlocked)
+    }
+}
+
+/// Where the visit and the call wait for each other.
+#[derive(Drop)]
+struct Meeting {
+    is_ready: AtomicBool,
+    is_locked: AtomicBool,
+    has_ended: AtomicBool,
+}
+
+/// Waits till this is so, for so many milliseconds at the most. Whether it is.
+fn waits_for<R: Clock>(rt: &R, is_so: &AtomicBool, most: u32) -> bool {
+    for _ in 0..most {
+        if is_so.load(Ordering::SeqCst) {
+            return true;
+        }
+        thread::sleep(rt, Duration::from_millis(1));
+    }
+    is_so.load(Ordering::SeqCst)
+}
+
+impl Meeting {
+    fn new() -> Self {
+        Meeting {
+            is_ready: AtomicBool::new(false),
+            is_locked: AtomicBool::new(false),
+            has_ended: AtomicBool::new(false),
+        }
+    }
+
+    /// Lets the visit begin, and waits till it has the lock.
+    fn meet<R: Clock>(&self, rt: &R) {
+        self.is_ready.store(true, Ordering::SeqCst);
+        let _ = waits_for(rt, &self.is_locked, 10_000);
+    }
+
+    /// Keeps the lock till the call has ended, for so many milliseconds at the most. Whether it has.
+    fn keep<R: Clock>(&self, rt: &R, most: u32) -> bool {
+        self.is_locked.store(true, Ordering::SeqCst);
+        waits_for(rt, &self.has_ended, most)
+    }
+
+    fn end(&self) {
+        self.has_ended.store(true, Ordering::SeqCst);
+    }
+}
+
+/// Visits the set, and stays at the text. Whether the call ended meanwhile.
+fn visits_long<S: SharedSet, R: Clock + Wait>(
+    rt: &R,
+    set: S,
+    at: &Meeting,
+    text: &str,
+    most: u32,
+) -> bool {
+    let _ = waits_for(rt, &at.is_ready, 10_000);
+    let mut has_ended = false;
+    set.for_each(rt, |next, _| {
+        if next == text {
+            has_ended = at.keep(rt, most);
+        }
+    });
+    has_ended
+}
+
+/// The bytes of the usual buckets that have two texts of 16 bytes, each of its own bucket.
+fn bytes_of(kind: Kind) -> u128 {
+    match kind {
+        Kind::Plain => 4096 * 32 + 2 * (48 + 40 + 16),
+        Kind::Named => 4096 * 48 + 2 * (32 + 40 + 16),
+    }
+}
+
+/// Whether the set tells of two texts with one holder each.
+fn tells_two<S: SharedSet, R: Wait>(rt: &R, set: S, kind: Kind, call: Call) -> bool {
+    match call {
+        Call::Linked => set.linked(rt) == 2,
+        Call::Visits => shown(rt, set).holders == 2,
+        Call::Memory => set.memory(rt) == bytes_of(kind),
+        _ => false,
+    }
+}
+
+/// Whether a sweep leaves none of two dying texts.
+fn sweeps<S: SharedSet, R: Wait>(rt: &R, set: S) -> bool {
+    set.sweep(rt);
+    set.linked(rt) == 0
+}
+
+/// Whether the text is interned, and found as itself.
+fn is_found<S: SharedSet, R: Wait + Abort>(rt: &R, set: S, text: &str) -> bool {
+    let atom = intern(rt, set, text);
+    match look_up(rt, set, text) {
+        Ok(Some(found)) => found == atom,
+        _ => false,
+    }
+}
+
+/// Whether this is a text's first word, and it is found as itself.
+fn is_first<S: SharedSet, R: Wait + Abort>(rt: &R, set: S, text: &str, word: u64) -> bool {
+    let atom = intern(rt, set, text);
+    has_word(&atom, word) && is_found(rt, set, text)
+}
+
+/// Whether a clone's text in small letters is this one, and not dynamic.
+fn lowers_to<S: SharedSet, R: Wait + Abort>(
+    rt: &R,
+    set: S,
+    atom: &SetAtom<S::Held>,
+    text: &str,
+) -> bool {
+    let lower = lowered(rt, set, &clone_of(rt, atom)).expect(rt, "an atom");
+    has_text(&lower, text) && !lower.is_dynamic()
+}
+
+/// Whether a text that isn't dynamic is interned, cloned, looked up and put into small letters.
+fn keeps_fixed<S: SharedSet, R: Wait + Abort>(rt: &R, set: S, text: &str) -> bool {
+    lowers_to(rt, set, &intern(rt, set, text), text) && is_found(rt, set, text)
+}
+
+/// Whether a JSON value that is no text is refused as such.
+fn refuses_null<S: SharedSet, R: Wait>(rt: &R, set: S) -> bool {
+    matches!(read_json(rt, set, &Value::Null), Err(Fault::NotText))
+}
+
+/// Works with an inline and a static text, a dynamic atom, and a JSON value. Whether each was as it should be.
+fn works_unlocked<S: SharedSet, R: Clock + Wait + Abort>(rt: &R, set: S, at: &Meeting) -> bool {
+    let dynamic = intern(rt, set, "interned");
+    at.meet(rt);
+    drop(clone_of(rt, &dynamic));
+    let is_right = keeps_fixed(rt, set, "foo") && keeps_fixed(rt, set, "sentence");
+    let is_right = is_right && refuses_null(rt, set) && has_text(&dynamic, "interned");
+    at.end();
+    is_right
+}
+
+/// What the call tells once the visit has the lock.
+fn works<S: SharedSet, R: Clock + Wait + Abort>(
+    rt: &R,
+    set: S,
+    kind: Kind,
+    at: &Meeting,
+    call: Call,
+) -> bool {
+    at.meet(rt);
+    let is_right = match call {
+        Call::Sweep => sweeps(rt, set),
+        Call::SameBucket => is_found(rt, set, "geometric"),
+        Call::OtherBucket => is_first(rt, set, "interned", 0x1_0840),
+        _ => tells_two(rt, set, kind, call),
+    };
+    at.end();
+    is_right
+}
+
+/// Whether the call tells what it must, and whether it ended while a visit had the last bucket's lock.
+fn beside<S: SharedSet + Send + Sync, R: Threads + Clock + Wait + Abort + Sync>(
+    rt: &R,
+    set: S,
+    kind: Kind,
+    call: Call,
+) -> (bool, bool) {
+    let at = Meeting::new();
+    let most = if call.needs_none() { 10_000 } else { 500 };
+    thread::join(
+        rt,
+        || match call {
+            Call::Unlocked => works_unlocked(rt, set, &at),
+            _ => works(rt, set, kind, &at, call),
+        },
+        || visits_long(rt, set, &at, "geometric", most),
+    )
+}
+
+/// Texts of the first bucket and the last one that die.
+const BOTH_DIE: [Step; 5] = [
+    Step::Intern("afterwards"),
+    Step::Intern("geometric"),
+    Step::Die("afterwards"),
+    Step::Die("geometric"),
+    Step::Linked(2),
+];
+
+/// Makes the call beside a visit of two texts.
+fn call_beside<S: SharedSet + Send + Sync, R: Threads + Clock + Wait + Abort + Sync>(
+    rt: &R,
+    set: S,
+    kind: Kind,
+    call: Call,
+) {
+    let (is_right, ended) = beside(rt, set, kind, call);
+    assert_for(rt, is_right, &call);
+    assert_for(rt, ended == call.needs_none(), &call);
+}
+
+/// Plays it in a set, which has no text afterwards.
+pub fn play<S: SharedSet + Send + Sync, R: Threads + Clock + Wait + Abort + Sync>(
+    rt: &R,
+    set: S,
+    kind: Kind,
+    call: Call,
+) {
+    if matches!(call, Call::Sweep) {
+        scenes::play(rt, set, kind, &[&BOTH_DIE]);
+        call_beside(rt, set, kind, call);
+    } else {
+        let _first = intern(rt, set, "afterwards");
+        let _last = intern(rt, set, "geometric");
+        call_beside(rt, set, kind, call);
+    }
+    check_linked(rt, set, 0);
+}
+
+#[test]
+fn linked_waits_for_each_lock(rt: HostRuntime) {
+    ask(&rt, rt.alloc(), USUAL, sets::Question::Waits(Call::Linked));
+}
+
+#[test]
+fn visits_wait_for_each_lock(rt: HostRuntime) {
+    ask(&rt, rt.alloc(), USUAL, sets::Question::Waits(Call::Visits));
+}
+
+#[test]
+fn memory_waits_for_each_lock(rt: HostRuntime) {
+    ask(&rt, rt.alloc(), USUAL, sets::Question::Waits(Call::Memory));
+}
+
+#[test]
+fn sweep_waits_for_each_lock(rt: HostRuntime) {
+    ask(&rt, rt.alloc(), USUAL, sets::Question::Waits(Call::Sweep));
+}
+
+#[test]
+fn texts_wait_for_the_lock_of_their_bucket(rt: HostRuntime) {
+    ask(
+        &rt,
+        rt.alloc(),
+        USUAL,
+        sets::Question::Waits(Call::SameBucket),
+    );
+}
+
+#[test]
+fn texts_of_other_buckets_wait_for_none(rt: HostRuntime) {
+    ask(
+        &rt,
+        rt.alloc(),
+        USUAL,
+        sets::Question::Waits(Call::OtherBucket),
+    );
+}
+
+/// In a set of one bucket, which is the one of the lock.
+#[test]
+fn calls_that_take_no_lock(rt: HostRuntime) {
+    ask(
+        &rt,
+        rt.alloc(),
+        ONE_BUCKET,
+        sets::Question::Waits(Call::Unlocked),
+    );
+}
