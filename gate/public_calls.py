@@ -1,5 +1,6 @@
 """The public calls of the crates as their sources have them, and the rows of the page that lists them, docs/CALLS.md."""
 
+import itertools
 import re
 from dataclasses import dataclass
 
@@ -64,9 +65,16 @@ def form_of(text, owner):
     return packed(text)
 
 
+def past_parameters(head):
+    """What follows the parameters in angle brackets that a head begins with, if it does."""
+    depths = itertools.accumulate({"<": 1, ">": -1}.get(it, 0) for it in head)
+    end = next((at for at, depth in enumerate(depths) if depth == 0), 0) if head.startswith("<") else -1
+    return head[end + 1 :].strip()
+
+
 def owner_of(step):
     """What an `impl` or a trait has calls of: None where it is a trait's `impl`, or a trait that isn't public."""
-    head = re.sub(r"^<(?:[^<>]|<[^<>]*>)*>", "", step["head"].strip()).strip()
+    head = past_parameters(step["head"].strip())
     is_other = " for " in head or step["kind"] == "trait" and not step["pub"]
     return None if is_other else re.match(r"\w+", head)[0]
 

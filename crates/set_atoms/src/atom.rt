@@ -205,7 +205,13 @@ impl<H: AtomKind> SetAtom<H> {
         let form = match &self.form {
             Repr::Inline(text) => Repr::Inline(*text),
             Repr::Static(index) => Repr::Static(*index),
-            Repr::Dynamic(beside, held) => Repr::Dynamic(*beside, held.clone_held(rt)?),
+            Repr::Dynamic(beside, held) => {
+                let held = held.clone_held(rt)?;
+                return Ok(AtomOf {
+                    ahead: self.ahead,
+                    form: Repr::Dynamic(*beside, held),
+                });
+            }
         };
         Ok(AtomOf {
             ahead: self.ahead,

@@ -6,7 +6,7 @@ ghost use Rattle.set_atoms.specs.AtomValue.{IsTicketOfBits};
 
 use crate::atom::{AtomKind, SetAtom};
 use crate::form::Repr;
-use crate::held::{HeldText, ListedSet, TextSet};
+use crate::held::{BareText, HeldText, ListedSet, TakesBack, TextSet};
 use counted_set::dynamic_set::{Held, HeldShare, Set};
 use std::alloc::Global;
 use std::sync::Wait;
@@ -80,17 +80,32 @@ impl<'s, Static: StaticTables> TextSet for &'s Set<Static> {
     }
 }
 
-impl<'s, Static: StaticTables> ListedSet<HeldShare<Static>> for &'s Set<Static> {
-    ghost with_set = { λ bare. bare };
+impl<Static: StaticTables> BareText for HeldShare<Static> {
+    type Static = Static;
 
+    ghost atom_of = { λ bare. record { text = bare.text; word = bare.ticket; bits = Some bare.bits } };
+
+    ghost is_kept = { λ bare. IsRight Static.tables bare × (bare.name.grows ≡ true) };
+
+    ghost is_ticket = { IsTicketOfBits Static.tables };
+
+    #[inline]
+    fn text(&self) -> &str {
+        HeldShare::text(self)
+    }
+}
+
+impl<'s, Static: StaticTables> TakesBack<HeldShare<Static>> for &'s Set<Static> {
+    #[inline]
+    fn take_back(self, bare: HeldShare<Static>) {
+        drop(Held::of_share(bare, self));
+    }
+}
+
+impl<'s, Static: StaticTables> ListedSet<HeldShare<Static>> for &'s Set<Static> {
     #[inline]
     fn bare_of(held: Held<'s, Static>) -> HeldShare<Static> {
         held.into_share()
-    }
-
-    #[inline]
-    fn bare_text(bare: &HeldShare<Static>) -> &str {
-        bare.text()
     }
 
     #[inline]

@@ -117,7 +117,7 @@ pub trait TextSet: Copy {
     type Held: AtomKind;
 
     /// The share without its set, for who holds many shares of one set.
-    type Bare;
+    type Bare: BareText<Static = <Self::Held as HeldText>::Static>;
 
     /// What the set takes its memory from.
     fn allocator(self) -> Global;
@@ -137,27 +137,55 @@ pub trait TextSet: Copy {
         ensures refused { IfErr result (λ fault. fault ≡ Fault.FullCount) };
 }
 
-/// A set whose shares can be kept without it. `Bare` is such a share, which stands here too so that a list may stand where one that borrows
-/// its set for a shorter time is asked for. It has no drop: it ends as a share with its set again.
-pub trait ListedSet<Bare>: TextSet {
-    /// The share that it was, with its set.
-    ghost with_set: { Bare → Self.Held };
+/// One share of a text of a set, without the set, for who holds many shares of one set. It has no drop: its set ends it, or makes it a share
+/// with its set again.
+pub trait BareText {
+    ghost use Rattle.std.specs.Prelude.{ℕ, List, Option};
+    ghost use Rattle.set_atoms.specs.AtomValue.{AtomValue};
 
+    /// The static type of its set.
+    type Static: StaticTables;
+
+    /// The atom of the share, as clauses see it.
+    ghost atom_of: { Self → AtomValue };
+
+    /// What a list knows of its share, so that there can be more of them.
+    ghost is_kept: { Self → Type 0 };
+
+    /// Whether a dynamic text may have this word, by the text, the bits and the word.
+    ghost is_ticket: { List ℕ → Option ℕ → ℕ → Type 0 };
+
+    /// The text.
+    fn text(&self) -> &str
+        ensures { result.now ≡ (atom_of self.now).text };
+}
+
+/// A set, borrowed, to which shares without it are given back. It says nothing else of its shares, so that a list may stand where one that
+/// borrows its set for a shorter time is asked for.
+pub trait TakesBack<Bare>: Copy {
+    /// Gives the share back, as its end with its set does: it never waits.
+    fn take_back(self, bare: Bare);
+}
+
+/// A set whose shares can be kept without it.
+pub trait ListedSet<Bare: BareText<Static = <Self::Held as HeldText>::Static>>: TextSet
+    + TakesBack<Bare> {
     /// The share without its set. It isn't counted anew.
     fn bare_of(held: Self::Held) -> Bare
-        ensures { with_set result ≡ held };
-
-    /// The text of a share without its set.
-    fn bare_text(bare: &Bare) -> &str
-        ensures { result.now ≡ (Self.Held.atom_of (with_set bare.now)).text };
+        requires { IsOwnShare Self.Held.atom_of Self.Held.is_kept Self.Held.is_ticket held }
+        ensures atom { Bare.atom_of result ≡ Self.Held.atom_of held }
+        ensures own { IsOwnShare Bare.atom_of Bare.is_kept Bare.is_ticket result };
 
     /// The share with its set again, which is this one. It isn't counted anew.
     fn again(self, bare: Bare) -> Self::Held
-        ensures { result ≡ with_set bare };
+        requires { IsOwnShare Bare.atom_of Bare.is_kept Bare.is_ticket bare }
+        ensures atom { Self.Held.atom_of result ≡ Bare.atom_of bare }
+        ensures own { IsOwnShare Self.Held.atom_of Self.Held.is_kept Self.Held.is_ticket result };
 
     /// One share more of the same text, with its set, which is this one. It is refused as `clone_held` is.
     fn clone_bare<R: Wait>(self, rt: &R, bare: &Bare) -> Result<Self::Held, Fault>
-        requires { Self.Held.is_kept (with_set bare.now) }
-        ensures same { IfOk result (λ held. held ≡ with_set bare.now) }
+        requires { IsOwnShare Bare.atom_of Bare.is_kept Bare.is_ticket bare.now }
+        ensures atom { IfOk result (λ held. Self.Held.atom_of held ≡ Bare.atom_of bare.now) }
+        ensures own { IfOk result (IsOwnShare Self.Held.atom_of Self.Held.is_kept Self.Held.is_ticket) }
         ensures full { IfErr result (λ fault. fault ≡ Fault.FullCount) };
 }

@@ -16,5 +16,5 @@ pub use atom::{
     SetList,
 };
 pub use by_word::ByWord;
-pub use held::{Ahead, Beside, HeldText, ListedSet, TextSet};
+pub use held::{Ahead, BareText, Beside, HeldText, ListedSet, TakesBack, TextSet};
 pub use shared::SharedSet;

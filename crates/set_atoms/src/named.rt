@@ -5,7 +5,7 @@ ghost use Rattle.named_set.specs.Words.{AreOneToOne, IsTicketOf};
 
 use crate::atom::{AtomKind, NamedAtom, SetAtom};
 use crate::form::Repr;
-use crate::held::{HeldText, ListedSet, TextSet};
+use crate::held::{BareText, HeldText, ListedSet, TakesBack, TextSet};
 use named_set::{Held, HeldCell, HeldShare, NamedSet, SetName};
 use std::alloc::Global;
 use std::sync::Wait;
@@ -94,18 +94,34 @@ impl<'s, Static: StaticTables, N: SetName> TextSet for &'s NamedSet<Static, N> {
     }
 }
 
+impl<Static: StaticTables, N: SetName> BareText for HeldShare<Static, N> {
+    type Static = Static;
+
+    ghost atom_of = { λ bare. record { text = bare.text; word = bare.word; bits = None } };
+
+    ghost is_kept = { λ bare. bare.name.grows ≡ true };
+
+    ghost is_ticket = { λ text bits word. IsTicketOf Static.tables (length N.logs) text word };
+
+    #[inline]
+    fn text(&self) -> &str {
+        HeldShare::text(self)
+    }
+}
+
+impl<'s, Static: StaticTables, N: SetName> TakesBack<HeldShare<Static, N>>
+    for &'s NamedSet<Static, N> {
+    #[inline]
+    fn take_back(self, bare: HeldShare<Static, N>) {
+        drop(HeldCell::of_share(bare, self));
+    }
+}
+
 impl<'s, Static: StaticTables, N: SetName> ListedSet<HeldShare<Static, N>>
     for &'s NamedSet<Static, N> {
-    ghost with_set = { λ bare. bare };
-
     #[inline]
     fn bare_of(held: HeldCell<'s, Static, N>) -> HeldShare<Static, N> {
         held.into_share()
-    }
-
-    #[inline]
-    fn bare_text(bare: &HeldShare<Static, N>) -> &str {
-        bare.text()
     }
 
     #[inline]

@@ -12,7 +12,7 @@ use std::thread::{self, Threads};
 use std::time::Clock;
 use string_cache::dynamic_set::Set;
 use string_cache::word::ticket_word;
-use string_cache::{Fault, ListOf, SetAtom, SetList, SharedSet};
+use string_cache::{AtomList, Fault, ListOf, SetAtom, SetList, SharedSet};
 use test_calls::{are_one, cloned_at, has_text, is_of, links, pop, push};
 use test_samples::One;
 
@@ -162,6 +162,17 @@ fn lend_each_form<S: SharedSet, R: Wait + Abort>(rt: &R, set: S, list: &SetList<
 #[test]
 fn list_of_each_form(rt: HostRuntime) {
     play_both(&rt, rt.alloc(), USUAL, Scene::EachForm);
+}
+
+/// The list, where one that borrows its set for a shorter time is asked for.
+fn shortened<'l, 's>(list: &'l AtomList<'s, One>) -> &'l AtomList<'l, One> {
+    list
+}
+
+#[test]
+fn list_stands_for_a_shorter_time(rt: HostRuntime) {
+    let set = new_set(&rt, rt.alloc());
+    assert_that(&rt, shortened(&AtomList::new(&set)).is_empty());
 }
 
 /// Whether the last place is of this word and text, and the set then has so many entries with what the list has left.

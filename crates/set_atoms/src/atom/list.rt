@@ -10,23 +10,22 @@ ghost use Rattle.set_atoms.specs.AtomValue.{AtomValue};
 
 use super::{AtomOf, SetAtom};
 use crate::form::Repr;
-use crate::held::{HeldText, ListedSet, TextSet};
+use crate::held::{BareText, HeldText, ListedSet, TakesBack, TextSet};
 use counted_set::dynamic_set::{HeldShare as CountedShare, Set};
 use named_set::{HeldShare as NamedShare, NamedSet, SetName};
 use std::iter::FusedIterator;
-use std::marker::{Model, PhantomData};
+use std::marker::Model;
 use std::slice;
 use std::sync::Wait;
 use text_forms::Fault;
 use text_forms::static_sets::StaticTables;
 
 /// A place of a list: what an atom of the list's set is, without the set.
-struct Place<S: ListedSet<Bare>, Bare> {
+struct Place<Bare: BareText> {
     form: Repr<(), Bare>,
-    of: PhantomData<S>,
 }
 
-impl<S: ListedSet<Bare>, Bare> Model for Place<S, Bare> {
+impl<Bare: BareText> Model for Place<Bare> {
     ghost use Rattle.std.specs.Prelude.{⊤};
     ghost use Rattle.set_atoms.specs.AtomValue.{AtomValue};
 
@@ -34,14 +33,16 @@ impl<S: ListedSet<Bare>, Bare> Model for Place<S, Bare> {
 
     ghost use Rattle.set_atoms.specs.AtomForm.{value_of_form, IsOwnForm};
 
-    ghost view = { λ p. value_of_form S.Held.Static.tables (λ bare. S.Held.atom_of (S.with_set bare)) p.form };
+    ghost view = { λ p. value_of_form Bare.Static.tables Bare.atom_of p.form };
 
-    ghost invariant = { λ p. IsOwnForm S.Held.Static.tables (λ bare. S.Held.atom_of (S.with_set bare)) (λ beside hash. ⊤) (λ bare. S.Held.is_kept (S.with_set bare)) S.Held.is_ticket p.form };
+    ghost invariant = { λ p. IsOwnForm Bare.Static.tables Bare.atom_of (λ beside hash. ⊤) Bare.is_kept Bare.is_ticket p.form };
 }
 
-impl<S: ListedSet<Bare>, Bare> Place<S, Bare> {
+impl<Bare: BareText> Place<Bare> {
     /// The place of an atom. A share stays the same, and isn't counted anew.
-    fn of_atom(atom: SetAtom<S::Held>) -> Self
+    fn of_atom<S: ListedSet<Bare>>(atom: SetAtom<S::Held>) -> Self
+    where
+        Bare: BareText<Static = <S::Held as HeldText>::Static>,
         ensures { result ≡ atom }
     {
         let AtomOf { ahead: _, form } = atom;
@@ -50,17 +51,16 @@ impl<S: ListedSet<Bare>, Bare> Place<S, Bare> {
             Repr::Static(index) => Repr::Static(index),
             Repr::Dynamic(_, held) => Repr::Dynamic((), S::bare_of(held)),
         };
-        Place {
-            form,
-            of: PhantomData,
-        }
+        Place { form }
     }
 
     /// The atom of a place whose list is of this set. A share stays the same, and isn't counted anew.
-    fn into_atom(self, set: S) -> SetAtom<S::Held>
+    fn into_atom<S: ListedSet<Bare>>(self, set: S) -> SetAtom<S::Held>
+    where
+        Bare: BareText<Static = <S::Held as HeldText>::Static>,
         ensures { result ≡ self }
     {
-        let Place { form, of: _ } = self;
+        let Place { form } = self;
         match form {
             Repr::Inline(text) => AtomOf::of_inline(text),
             Repr::Static(index) => AtomOf::of_static(index),
@@ -68,8 +68,22 @@ impl<S: ListedSet<Bare>, Bare> Place<S, Bare> {
         }
     }
 
+    /// Ends the place of a list of this set: a share is given back.
+    fn end<S: TakesBack<Bare>>(self, set: S) {
+        let Place { form } = self;
+        if let Repr::Dynamic(_, bare) = form {
+            set.take_back(bare);
+        }
+    }
+
     /// Another atom of the text, of the list's set.
-    fn clone_atom<R: Wait>(&self, rt: &R, set: S) -> Result<SetAtom<S::Held>, Fault>
+    fn clone_atom<S: ListedSet<Bare>, R: Wait>(
+        &self,
+        rt: &R,
+        set: S,
+    ) -> Result<SetAtom<S::Held>, Fault>
+    where
+        Bare: BareText<Static = <S::Held as HeldText>::Static>,
         ensures same { IfOk result (λ atom. atom ≡ self.now) }
         ensures refused { IfErr result (λ fault. fault ≡ Fault.FullCount) }
         ensures dynamic { OnErr result (IsTrue (is_dynamic S.Held.Static.tables self.now.text)) }
@@ -90,8 +104,8 @@ impl<S: ListedSet<Bare>, Bare> Place<S, Bare> {
     {
         match &self.form {
             Repr::Inline(text) => text.as_str(),
-            Repr::Static(index) => <S::Held as HeldText>::Static::text_at(*index),
-            Repr::Dynamic(_, bare) => S::bare_text(bare),
+            Repr::Static(index) => Bare::Static::text_at(*index),
+            Repr::Dynamic(_, bare) => bare.text(),
         }
     }
 }
@@ -100,9 +114,9 @@ impl<S: ListedSet<Bare>, Bare> Place<S, Bare> {
 ///
 /// Where a place goes, by `pop`, `truncate`, `clear` or the end of the list, a dynamic one gives its share back as an atom does: that
 /// never waits. In a clause a list is its atoms, from the first to the last.
-pub struct ListOf<S: ListedSet<Bare>, Bare> {
+pub struct ListOf<S: TakesBack<Bare>, Bare: BareText> {
     set: S,
-    places: Vec<Place<S, Bare>>,
+    places: Vec<Place<Bare>>,
 }
 
 /// The list of atoms of a set.
@@ -114,7 +128,7 @@ pub type AtomList<'s, Static> = ListOf<&'s Set<Static>, CountedShare<Static>>;
 /// A list of atoms of the set with this name.
 pub type NamedAtomList<'s, Static, N> = ListOf<&'s NamedSet<Static, N>, NamedShare<Static, N>>;
 
-impl<S: ListedSet<Bare>, Bare> Model for ListOf<S, Bare> {
+impl<S: TakesBack<Bare>, Bare: BareText> Model for ListOf<S, Bare> {
     ghost use Rattle.std.specs.Prelude.{List};
     ghost use Rattle.set_atoms.specs.AtomValue.{AtomValue};
 
@@ -124,7 +138,7 @@ impl<S: ListedSet<Bare>, Bare> Model for ListOf<S, Bare> {
 }
 
 /// It gives back the share of each dynamic place, and never waits.
-impl<S: ListedSet<Bare>, Bare> Drop for ListOf<S, Bare> {
+impl<S: TakesBack<Bare>, Bare: BareText> Drop for ListOf<S, Bare> {
     fn drop(mut self) {
         self.clear();
         let Self { set: _, places } = self;
@@ -132,7 +146,7 @@ impl<S: ListedSet<Bare>, Bare> Drop for ListOf<S, Bare> {
     }
 }
 
-impl<S: ListedSet<Bare>, Bare> ListOf<S, Bare> {
+impl<S: ListedSet<Bare>, Bare: BareText<Static = <S::Held as HeldText>::Static>> ListOf<S, Bare> {
     /// A list of this set without atoms. It takes no memory.
     pub fn new(set: S) -> Self
         ensures { result ≡ [] }
@@ -141,20 +155,6 @@ impl<S: ListedSet<Bare>, Bare> ListOf<S, Bare> {
             set,
             places: Vec::new(set.allocator()),
         }
-    }
-
-    /// How many atoms there are.
-    pub fn len(&self) -> usize
-        ensures { result ≡ length self.now }
-    {
-        self.places.len()
-    }
-
-    /// Whether there are none.
-    pub fn is_empty(&self) -> bool
-        ensures { IsTrue result ↔ (self.now ≡ []) }
-    {
-        self.places.is_empty()
     }
 
     /// Puts the atom of a text behind the others, as `Atom::from_str_in` gives it.
@@ -169,16 +169,8 @@ impl<S: ListedSet<Bare>, Bare> ListOf<S, Bare> {
     {
         self.places.reserve(1)?;
         let atom = AtomOf::from_str_in(rt, self.set, text)?;
-        self.places.push_reserved(Place::of_atom(atom));
+        self.places.push_reserved(Place::of_atom::<S>(atom));
         Ok(())
-    }
-
-    /// The text at a place, from 0 on. `None` past the last.
-    pub fn get(&self, at: usize) -> Option<&str>
-        ensures { MatchOption result (slice_get (texts_of self.now) at ≡ None) (λ text. slice_get (texts_of self.now) at ≡ Some text.now) }
-    {
-        let place = self.places.get(at)?;
-        Some(place.as_str())
     }
 
     /// Another atom of the text at a place, from 0 on. `None` past the last.
@@ -203,13 +195,37 @@ impl<S: ListedSet<Bare>, Bare> ListOf<S, Bare> {
         let place = self.places.pop()?;
         Some(place.into_atom(self.set))
     }
+}
+
+impl<S: TakesBack<Bare>, Bare: BareText> ListOf<S, Bare> {
+    /// How many atoms there are.
+    pub fn len(&self) -> usize
+        ensures { result ≡ length self.now }
+    {
+        self.places.len()
+    }
+
+    /// Whether there are none.
+    pub fn is_empty(&self) -> bool
+        ensures { IsTrue result ↔ (self.now ≡ []) }
+    {
+        self.places.is_empty()
+    }
+
+    /// The text at a place, from 0 on. `None` past the last.
+    pub fn get(&self, at: usize) -> Option<&str>
+        ensures { MatchOption result (slice_get (texts_of self.now) at ≡ None) (λ text. slice_get (texts_of self.now) at ≡ Some text.now) }
+    {
+        let place = self.places.get(at)?;
+        Some(place.as_str())
+    }
 
     /// Takes out all but the first `len` atoms, from the last on.
     pub fn truncate(&mut self, len: usize)
         ensures { self.new ≡ take len self.old }
     {
         for _turn in len..self.len() {
-            self.pop();
+            self.end_last();
         }
     }
 
@@ -221,22 +237,31 @@ impl<S: ListedSet<Bare>, Bare> ListOf<S, Bare> {
     }
 
     /// The texts, from the first to the last.
-    pub fn iter(&self) -> Texts<'_, S, Bare>
+    pub fn iter(&self) -> Texts<'_, Bare>
         ensures { result ≡ texts_of self.now }
     {
         Texts {
             left: self.places.iter(),
         }
     }
+
+    /// Ends the last place. `None` where there is none.
+    fn end_last(&mut self) -> Option<()>
+        ensures { MatchOption result ((self.old ≡ []) × (self.new ≡ [])) (λ ended. (atom : AtomValue) × (self.old ≡ self.new ++ atom ∷ [])) }
+    {
+        let place = self.places.pop()?;
+        place.end(self.set);
+        Some(())
+    }
 }
 
 /// The texts of a list, from the first to the last.
 #[derive(Drop)]
-pub struct Texts<'l, S: ListedSet<Bare>, Bare> {
-    left: slice::Iter<'l, Place<S, Bare>>,
+pub struct Texts<'l, Bare: BareText> {
+    left: slice::Iter<'l, Place<Bare>>,
 }
 
-impl<'l, S: ListedSet<Bare>, Bare> Model for Texts<'l, S, Bare> {
+impl<'l, Bare: BareText> Model for Texts<'l, Bare> {
     ghost use Rattle.std.specs.Prelude.{List, ℕ};
     ghost use Rattle.std.specs.Slice.Iter.{iter_rest};
     ghost use Rattle.set_atoms.specs.AtomList.{texts_of};
@@ -246,7 +271,7 @@ impl<'l, S: ListedSet<Bare>, Bare> Model for Texts<'l, S, Bare> {
     ghost view = { λ t. texts_of (iter_rest t.left) };
 }
 
-impl<'l, S: ListedSet<Bare>, Bare> Iterator for Texts<'l, S, Bare> {
+impl<'l, Bare: BareText> Iterator for Texts<'l, Bare> {
     type Item = &'l str;
 
     ghost next_gives = { TakesFirst deref };
@@ -264,22 +289,22 @@ impl<'l, S: ListedSet<Bare>, Bare> Iterator for Texts<'l, S, Bare> {
     }
 }
 
-impl<'l, S: ListedSet<Bare>, Bare> ExactSizeIterator for Texts<'l, S, Bare> {
+impl<'l, Bare: BareText> ExactSizeIterator for Texts<'l, Bare> {
     fn len(&self) -> usize {
         self.left.len()
     }
 }
 
-impl<'l, S: ListedSet<Bare>, Bare> FusedIterator for Texts<'l, S, Bare> {}
+impl<'l, Bare: BareText> FusedIterator for Texts<'l, Bare> {}
 
 impl<'l, 's, Static: StaticTables> IntoIterator for &'l AtomList<'s, Static> {
     type Item = &'l str;
 
-    type IntoIter = Texts<'l, &'s Set<Static>, CountedShare<Static>>;
+    type IntoIter = Texts<'l, CountedShare<Static>>;
 
     ghost into_iter_gives = { λ list texts. texts ≡ texts_of list.now };
 
-    fn into_iter(self) -> Texts<'l, &'s Set<Static>, CountedShare<Static>> {
+    fn into_iter(self) -> Texts<'l, CountedShare<Static>> {
         self.iter()
     }
 }
@@ -287,11 +312,11 @@ impl<'l, 's, Static: StaticTables> IntoIterator for &'l AtomList<'s, Static> {
 impl<'l, 's, Static: StaticTables, N: SetName> IntoIterator for &'l NamedAtomList<'s, Static, N> {
     type Item = &'l str;
 
-    type IntoIter = Texts<'l, &'s NamedSet<Static, N>, NamedShare<Static, N>>;
+    type IntoIter = Texts<'l, NamedShare<Static, N>>;
 
     ghost into_iter_gives = { λ list texts. texts ≡ texts_of list.now };
 
-    fn into_iter(self) -> Texts<'l, &'s NamedSet<Static, N>, NamedShare<Static, N>> {
+    fn into_iter(self) -> Texts<'l, NamedShare<Static, N>> {
         ListOf::iter(self)
     }
 }
