@@ -2,22 +2,20 @@
 
 ghost use Rattle.std.specs.Prelude.{◌≡◌, ◌↔◌, IfOk, IsTrue};
 
-use named_set::{NamedSet, SetName};
-use set_atoms::NamedAtom;
+use set_atoms::{SetAtom, TextSet};
 use std::sync::Wait;
 use text_forms::Fault;
-use text_forms::static_sets::StaticTables;
 
-/// Whether two names are one. Once they are interned, neither text is read.
-pub fn are_one_name<Static: StaticTables, N: SetName, R: Wait>(
+/// Whether two names are one, by atoms of a borrowed set of either kind. Once they are interned in one with a name, neither text is read.
+pub fn are_one_name<S: TextSet, R: Wait>(
     rt: &R,
-    set: &NamedSet<Static, N>,
+    set: S,
     left: &str,
     right: &str,
 ) -> Result<bool, Fault>
     ensures { IfOk result (λ same. IsTrue same ↔ (left.now ≡ right.now)) }
 {
-    let left = NamedAtom::from_str_in(rt, set, left)?;
-    let right = NamedAtom::from_str_in(rt, set, right)?;
+    let left = SetAtom::<S::Held>::from_str_in(rt, set, left)?;
+    let right = SetAtom::<S::Held>::from_str_in(rt, set, right)?;
     Ok(left == right)
 }
