@@ -1,9 +1,12 @@
 """Whether the answers of some calls on a set are those of one map from text to ticket and holders, in some order of the calls.
 
 Beside the map stands what may be linked though nobody holds it. A last drop takes its entry out, but where another call had the lock of its
-bucket; then the next pass over the bucket does, unless it had begun before the drop ended.
+bucket; then the next pass over the bucket does, unless it had begun before the drop ended. Which call had it is guessed, drop by drop, and the
+answers have to be right under one guess: a drop that had a lock was a last one, and left nothing itself; and a call that goes over all
+buckets took their locks from the first to the last.
 """
 
+from itertools import product
 from typing import NamedTuple
 
 MEMORY, FULL_COUNT, TICKETS_SPENT = 1, 2, 3  # the numbers of the faults
@@ -21,6 +24,7 @@ HASHES = {
 }
 
 WALKS = ("linked", "visit")  # they go over the buckets one after another, and leave each as it is
+PASSES = (*WALKS, "sweep", "memory")  # they take the lock of each bucket, from the first to the last
 
 # What a call may answer; all others give an atom or are refused.
 ANSWERS = {"linked": ("linked",), "visit": ("visited",), "sweep": ("nothing",), "memory": ("nothing",), "drop": ("ticket",)}
@@ -53,6 +57,7 @@ class Call(NamedTuple):
     bucket: int = 0  # of a part of a walk
     is_end: bool = True  # it is no part, or the last one
     may_leave: bool = False  # of a drop: where it is the last, it may leave its entry linked
+    is_last: bool = False  # of a drop: it has to be the last, since it had the lock of its bucket
 
     def overlaps(self, other):
         return self.begun <= other.ended and other.begun <= self.ended
@@ -66,7 +71,7 @@ class Call(NamedTuple):
 
     def takes_lock(self, bucket, limits):
         """Whether it may take the lock of the bucket."""
-        if self.name in (*WALKS, "sweep", "memory"):
+        if self.name in PASSES:
             return True
         return not self.is_clone() and limits.bucket_of(self.atoms_text()) == bucket
 
@@ -113,7 +118,7 @@ def after_walk(state, call, limits):
 
 def after_drop(state, call):
     ticket, holders = state.of(call.text)
-    if not holders or call.number != ticket:
+    if not holders or call.number != ticket or call.is_last and holders > 1:
         return None
     new = state.with_held(call.text, ticket, holders - 1)
     return new._replace(dying=new.dying | {call}) if holders == 1 and call.may_leave else new
@@ -170,27 +175,66 @@ def after(state, call, limits):
     return after_pass(state, call, call.atoms_text(), limits)
 
 
-def may_leave(drop, calls, limits):
-    """Whether another call may have had the lock of the drop's bucket while it tried."""
-    bucket = limits.bucket_of(drop.text)
-    return any(it.thread != drop.thread and it.overlaps(drop) and it.takes_lock(bucket, limits) for it in calls)
+def keepers_of(at, calls, limits):
+    """Which calls may have had the lock of its bucket while the drop at this place tried, each by its place, and None for no call. Where one
+    may of which nothing else follows then, it stands for all calls."""
+    drop, bucket = calls[at], limits.bucket_of(calls[at].text)
+    found = [n for n, it in enumerate(calls) if it.thread != drop.thread and it.overlaps(drop) and it.takes_lock(bucket, limits)]
+    plain = [n for n in found if calls[n].name != "drop" and not (limits.bits and calls[n].name in PASSES)]
+    return [plain[0], None] if plain else [None, *found]
 
 
-def steps_of(calls, limits):
-    """The calls, but that a walk is a part for each bucket that may have entries, and that a drop tells whether it may leave its entry."""
+def is_possible(guess, calls, limits):
+    """Whether the calls that a guess names can have had these locks: each drop among them got its own, and no call over the buckets had the
+    lock of one only after that of a later one."""
+    if any(guess.get(keeper) is not None for keeper in guess.values()):
+        return False
+    tried = [(keeper, limits.bucket_of(calls[at].text), calls[at]) for at, keeper in guess.items() if keeper is not None]
+    return not any(
+        keeper == other and bucket < later and before.begun > behind.ended
+        for keeper, bucket, before in tried
+        for other, later, behind in tried
+    )
+
+
+def guesses_of(calls, limits):
+    """Each guess of which call had the lock while a drop tried, as places among the calls, the keeper's by the drop's."""
+    drops = [at for at, call in enumerate(calls) if call.name == "drop"]
+    for keepers in product(*(keepers_of(at, calls, limits) for at in drops)):
+        guess = dict(zip(drops, keepers))
+        if is_possible(guess, calls, limits):
+            yield guess
+
+
+def part_of(walk, bucket, tried, limits):
+    """The part of a walk in a bucket, where these drops tried for locks that the walk had: it is made before a drop of a later bucket
+    ended, and after one of an earlier bucket began."""
+    ended = [drop.ended for drop in tried if limits.bucket_of(drop.text) > bucket]
+    begun = [drop.begun for drop in tried if limits.bucket_of(drop.text) < bucket]
+    return walk._replace(bucket=bucket, begun=max([walk.begun, *begun]), ended=min([walk.ended, *ended]))
+
+
+def steps_of(calls, guess, limits):
+    """The calls under a guess, but that a walk is a part for each bucket that may have entries."""
     buckets = sorted({limits.bucket_of(call.atoms_text()) for call in calls if call.text in HASHES}) or [0]
-    for call in calls:
+    for at, call in enumerate(calls):
         if call.name in WALKS:
-            yield from (call._replace(bucket=bucket, is_end=bucket == buckets[-1]) for bucket in buckets)
-        elif call.name == "drop" and may_leave(call, calls, limits):
-            yield call._replace(may_leave=True)
+            tried = [calls[drop] for drop, keeper in guess.items() if keeper == at]
+            yield from (part_of(call, bucket, tried, limits)._replace(is_end=bucket == buckets[-1]) for bucket in buckets)
+        elif call.name == "drop":
+            yield call._replace(may_leave=guess[at] is not None, is_last=at in guess.values())
         else:
             yield call
 
 
 def is_explained(calls, limits):
-    """Whether some order of the calls, in which one that ended before another began comes before it, is one map's from the empty map."""
-    steps = list(steps_of(calls, limits))
+    """Whether some order of the calls, in which one that ended before another began comes before it, is one map's from the empty map, under
+    some guess."""
+    return any(is_ordered(list(steps_of(calls, guess, limits)), limits) for guess in guesses_of(calls, limits))
+
+
+def is_ordered(steps, limits):
+    """Whether some order of the steps is one map's."""
     seen, left = set(), [(frozenset(range(len(steps))), Map())]
     while left:
         at = left.pop()

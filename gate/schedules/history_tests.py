@@ -151,6 +151,38 @@ class Histories(unittest.TestCase):
         self.wrong(*left, intern(2, 5, 6, SECOND, text="magnitude"), linked(2, 7, 7, 2))
         self.wrong(*left, intern(2, 4, 6, SECOND), linked(2, 7, 7, 2))  # the text is looked for, and its entry is dying
 
+    def test_only_a_last_drop_takes_the_lock(self):
+        held = intern(1, 0, 0, FIRST), intern(2, 1, 1, SECOND, text="magnitude")
+        shared = *held, call(2, 2, 2, "clone", "magnitude", SECOND)
+        beside = drop(1, 3, 8, FIRST), drop(2, 4, 5, SECOND, text="magnitude")
+        for most, calls in ((1, (*shared, *beside)), (2, (*shared, *beside, drop(3, 6, 7, SECOND, text="magnitude"))), (2, (*held, *beside))):
+            left = 2 - most  # of `magnitude`, which is held or not
+            self.well(*calls, linked(2, 9, 9, 1))
+            self.wrong(*calls, linked(2, 9, 9, 2))
+            (self.well if left == 0 else self.wrong)(*calls, linked(2, 9, 9, 0))
+
+    def test_a_drop_has_the_lock_behind_a_call_beside_it(self):
+        interned = intern(1, 0, 0, FIRST), intern(2, 1, 1, SECOND)
+        self.well(*interned, drop(1, 1, 2, FIRST), drop(2, 2, 2, SECOND), linked(1, 3, 3, 1))
+        self.wrong(*interned, drop(1, 1, 1, FIRST), drop(2, 2, 2, SECOND), linked(1, 3, 3, 1))
+
+    def test_a_walk_takes_the_locks_from_the_first_bucket_to_the_last(self):
+        first, last = {"text": "afterwards", "number": FIRST}, {"text": "geometric", "number": FIRST | 15 << 2}
+        moved = intern(1, 0, 0, **last), drop(1, 2, 3, **last), intern(1, 4, 5, **first)
+        self.wrong(*moved, linked(2, 1, 30, 2), bits=4)
+        self.well(*moved, linked(2, 1, 30, 1), bits=4)
+        self.well(intern(1, 0, 0, **first), drop(1, 2, 3, **first), intern(1, 4, 5, **last), linked(2, 1, 30, 2), bits=4)
+        both = intern(1, 0, 0, **last), intern(1, 0, 0, **first)
+        for one, other, is_in_order in ((last, first, False), (first, last, True)):
+            dropped = *both, drop(1, 2, 3, **one), drop(1, 4, 5, **other)
+            for name in ("memory", "sweep"):
+                beside = call(2, 1, 30, name, "-", 0, "nothing")
+                (self.well if is_in_order else self.wrong)(*dropped, beside, linked(2, 31, 31, 2), bits=4)
+                self.well(*dropped, beside, linked(2, 31, 31, 1), bits=4)
+            passed = call(2, 31, 31, "find", "forgotten", 0, "absent")  # so what is linked is of the first bucket
+            (self.well if is_in_order else self.wrong)(*dropped, linked(2, 1, 30, 2), passed, linked(2, 32, 32, 1), bits=4)
+            self.well(*dropped, linked(2, 1, 30, 1), passed, linked(2, 32, 32, 1), bits=4)
+
     def test_a_call_answers_in_its_own_way(self):
         self.wrong(intern(1, 0, 0, FIRST, "absent"))
         self.wrong(intern(1, 0, 0, FIRST), call(1, 1, 1, "clone", "forgotten", FIRST, "absent"))
