@@ -17,7 +17,8 @@ isn't built for that: `rt ci` and gate/refused.py, which run all these tests, sa
 
 With --beside PID no build is begun, while that process runs, unless a processor is idle.
 
-usage: gate/caught.py [--jobs N] [--tested] [--beside PID] [WORD..]     with words: only the edits whose paths contain one of them
+usage: gate/caught.py [--jobs N] [--tested] [--beside PID] [WORD..]     with words: only the edits whose paths contain one of them; a word
+that is in none is told, and nothing is tried
 """
 
 import argparse
@@ -34,7 +35,7 @@ from pathlib import Path
 
 import find_tools  # has Python find the modules of gate/
 from built import CANT_BUILD, CANT_RUN, named, passes, tests_of
-from edits import BadEdit, applied, edited, read_edit
+from edits import BadEdit, NoSuchEdit, applied, chosen, edited, read_edit
 from machine import processors
 from programs import NotBuilt, build, outcomes
 from refuser import refuser
@@ -286,9 +287,7 @@ def works_in(trials, turns, top):
 def read_edits(top, words):
     """The edits whose paths contain one of the words, all where there are none, and how many can't be read or applied."""
     edits, bad = [], 0
-    for path in sorted(top.glob("crates/*/caught/*.edit")):
-        if words and not any(word in str(path) for word in words):
-            continue
+    for path in chosen(top.glob("crates/*/caught/*.edit"), words):
         try:
             edit = read_edit(path)
             if edit.want == "scene":
@@ -324,7 +323,10 @@ def main():
     parser.add_argument("words", nargs="*")
     given = parser.parse_args()
     top = Path(__file__).resolve().parent.parent
-    edits, bad = read_edits(top, given.words)
+    try:
+        edits, bad = read_edits(top, given.words)
+    except NoSuchEdit as why:
+        sys.exit(f"caught: {why}")
     trials, turns = Trials(), Turns(given.beside)
     expected = bad + add_tasks(edits, trials, given.tested)
     workers = [threading.Thread(target=works_in, args=(trials, turns, top)) for _ in range(max(1, given.jobs))]

@@ -6,6 +6,7 @@ usage: gate/caught_test.py
 """
 
 import itertools
+import subprocess
 import sys
 import tempfile
 import textwrap
@@ -162,6 +163,23 @@ class Verdicts(WithPrograms):
         self.assertTrue(caught.judge_tests({"one", "other"}, self.program())[0])
         self.assertFalse(caught.judge_tests({"one", "other"}, self.program(other="1"))[0])
         self.assertFalse(caught.judge_tests({"one", "two"}, self.program())[0])
+
+
+class Words(unittest.TestCase):
+    """What is said of words that choose no wrong body, and no scene."""
+
+    def test_a_word_that_is_in_no_path_is_told(self):
+        bodies, scenes = "no wrong body has this in its path: nowhere", "no scene has this in its name: nowhere"
+        for script, options, text in (
+            ("caught.py", ["--tested", "--jobs", "1"], bodies),
+            ("clients_caught.py", ["--archive", "nothing"], bodies),
+            ("schedules/schedules.py", ["--bodies"], bodies),
+            ("schedules/schedules.py", [], scenes),
+        ):
+            command = [Path(__file__).resolve().parent / script, *options, "e", "nowhere"]
+            ran = subprocess.run(command, stdout=subprocess.PIPE, stderr=subprocess.STDOUT, check=False)
+            said = ran.stdout.decode()
+            self.assertEqual((ran.returncode, text in said), (1, True), said)
 
 
 class Sharing(InRoom):

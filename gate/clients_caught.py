@@ -6,7 +6,7 @@ stands once, is replaced in a copy, the library is built over that, and the row 
 The exports are those of one archive, which is proved and built at the beginning.
 
 usage: gate/clients_caught.py [--archive FILE] [--jobs N] [WORD..]     with an archive that `rt lib` made: nothing is proved; with words: only
-the bodies whose names have one of them. Bodies whose row needs a tool that isn't there are skipped.
+the bodies whose names have one of them; a word that is in none is told, and nothing is tried. Bodies whose row needs a tool that isn't there are skipped.
 """
 
 import argparse
@@ -19,7 +19,7 @@ import tempfile
 from concurrent.futures import ThreadPoolExecutor
 from pathlib import Path
 
-from edits import BadEdit, changed, changes_in
+from edits import BadEdit, NoSuchEdit, changed, changes_in, chosen
 from machine import processors
 
 TOP = Path(__file__).resolve().parent.parent
@@ -95,7 +95,10 @@ def main():
     parser.add_argument("--jobs", type=int, default=processors())
     parser.add_argument("words", nargs="*")
     given = parser.parse_args()
-    bodies = [path for path in sorted(BODIES.glob("*.edit")) if not given.words or any(word in path.stem for word in given.words)]
+    try:
+        bodies = chosen(BODIES.glob("*.edit"), given.words, lambda path: path.stem)
+    except NoSuchEdit as why:
+        sys.exit(f"clients_caught: {why}")
     with tempfile.TemporaryDirectory(prefix="clients-caught-") as folder:
         room = Path(folder)
         if not given.archive:

@@ -26,6 +26,10 @@ class BadEdit(Exception):
     """The edit can't be read, or can't be applied."""
 
 
+class NoSuchEdit(Exception):
+    """A word that was to choose edits is in the path of none."""
+
+
 @dataclass
 class Edit:
     """A wrong body: what has to come of it (one of WANTS), the test or the error that this names, the crate whose test it is, and what is
@@ -61,6 +65,15 @@ def changes_in(lines):
             changes.append((file, old, text))
             old = None
     return changes
+
+
+def chosen(paths, words, name=str):
+    """Those of these files, in their order, of which a word is in the path, or in what else is to be the name; all where there are no words."""
+    paths = sorted(paths)
+    strange = [word for word in words if not any(word in name(path) for path in paths)]
+    if strange:
+        raise NoSuchEdit(f"no wrong body has this in its path: {', '.join(strange)}")
+    return [path for path in paths if not words or any(word in name(path) for word in words)]
 
 
 def read_edit(path):

@@ -204,7 +204,7 @@ def main():
         tried = lanes.map(lambda _: try_all(queue, Path(room), given.proved, given.anew), range(jobs))
         results = [it for found in tried for it in found]
     print(f"{results.count(True)} passed, {results.count(False)} failed")
-    return 0 if all(results) else 1
+    return 0 if results and all(results) else 1
 
 
 if __name__ == "__main__":

@@ -12,7 +12,7 @@ from concurrent.futures import ThreadPoolExecutor
 from pathlib import Path
 
 from build import CantBuild, compiled, link
-from edits import BadEdit, edited, read_edit
+from edits import BadEdit, chosen, edited, read_edit
 from explore import Search, explore, searches_of
 from printed import print_schedule
 from shared_builds import ALLOWED, CantShare, answer, beside_their_own, shared_texts
@@ -103,5 +103,5 @@ def try_bodies(paths, scenes, top, jobs, searched=None):
 
 
 def bodies_in(top, words):
-    """The files of the wrong bodies whose paths contain one of the words."""
-    return [path for path in sorted(top.glob("crates/*/scheduled/*.edit")) if any(word in str(path) for word in words)]
+    """The files of the wrong bodies whose paths contain one of the words, or all where there are none."""
+    return chosen(top.glob("crates/*/scheduled/*.edit"), words)

@@ -7,6 +7,7 @@ usage: gate/schedules/schedules.py [--built] [WORD..]       with words: only the
        gate/schedules/schedules.py --gate [--jobs N]         tries all scenes, builds all wrong bodies, and searches the scenes of
                                                              those that guard the tester
 
+A word that is in no scene's name, or in no body's path, is told, and nothing is tried.
 With --built the program is the one that the last call built. SEARCH is a number of preemptions or `by-order`, with `+1` behind it
 where a request for memory is refused: a wrong outcome is printed with the command that runs its first schedule again.
 """
@@ -26,6 +27,7 @@ import bodies_test
 import history_tests
 from bodies import GUARDS, bodies_in, try_bodies
 from build import CantBuild, build
+from edits import NoSuchEdit
 from explore import MOST, Search, explore, search, searches_of
 from printed import print_schedule, print_wrong
 from scenes import BadScene, all_scenes
@@ -108,6 +110,9 @@ def test_tools():
 
 def try_all(words, scenes, is_built):
     """Whether each thing that was tried is well."""
+    strange = [word for word in words if not any(word in scene.name for scene in scenes)]
+    if strange:
+        raise BadScene(f"no scene has this in its name: {', '.join(strange)}")
     if not is_built:
         build(TOP / "crates" / "schedules", PROGRAM)
     totals = Counter()
@@ -135,10 +140,10 @@ def tried(given, scenes):
             build(TOP / "crates" / "schedules", PROGRAM)
         return [print_schedule(PROGRAM, scene, Search.again(word, choices))]
     if given.bodies:
-        return try_bodies(bodies_in(TOP, given.words or [""]), scenes, TOP, given.jobs)
+        return try_bodies(bodies_in(TOP, given.words), scenes, TOP, given.jobs)
     results = try_all(given.words, scenes, given.built)
     if given.gate:
-        results += try_bodies(bodies_in(TOP, [""]), scenes, TOP, given.jobs, GUARDS)
+        results += try_bodies(bodies_in(TOP, []), scenes, TOP, given.jobs, GUARDS)
     return results
 
 
@@ -153,7 +158,7 @@ def main():
     begun = time.monotonic()
     try:
         results = tried(given, all_scenes())
-    except (CantBuild, BadScene, OSError) as why:
+    except (CantBuild, BadScene, NoSuchEdit, OSError) as why:
         print(f"schedules: WRONG: {why}")
         results = [False]
     if not given.again:
