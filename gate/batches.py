@@ -28,7 +28,7 @@ from repository import TOP, said_by
 from spared import emptied, spared
 
 TOLD = re.compile(r"^fn (\S+): (.*)$", re.MULTILINE)
-PROVED = ("proved", "assumed")
+PROVED = re.compile(r"(?:proved(?: where its callers give what it asks)?|assumed)(?:, may wait)?(?:, may abort)?")
 CALLS = re.compile(r"no proof: it calls [^;]*, which (?:is|are) not proved")  # nothing else is missing
 PARTS = ("src", "specs", "proofs")  # what a check reads of a crate
 NOTHING = ("nothing", "//! Nothing.\n")  # a crate that has nothing, and the text of its root
@@ -172,7 +172,7 @@ def check(bodies, folder, only=True, proved=()):
 
 def goals_of(name, text, said):
     """The goals of its own at which a check refused the function of this name, of which it tells the text."""
-    if text in PROVED:
+    if PROVED.fullmatch(text):
         return []
     left = LEFT.search(text)
     own = f"proofs/{'/'.join(name.split('::')[1:])}/"
@@ -196,7 +196,7 @@ def told_of(function, said):
 def is_proved(function, said):
     """Whether a check proved all goals of the function, and of the closures in it: what it calls may have a wrong body."""
     told = told_of(function, said)
-    return bool(told) and all(text in PROVED or CALLS.fullmatch(text) and not goals_of(name, text, said) for name, text in told.items())
+    return bool(told) and all((PROVED.fullmatch(text) or CALLS.fullmatch(text)) and not goals_of(name, text, said) for name, text in told.items())
 
 
 def judge(function, said):

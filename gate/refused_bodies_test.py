@@ -125,6 +125,7 @@ SAID = """\
   has no field `take_out`
 ./proofs/low/eleventh/Answers.antt:8:1: error: `returns`: the two types differ
   expected type `A`
+./proofs/low/twelfth/Answers.antt:8:1: error: `kept`: nothing uses this
 fn few::low::first: no proof: expected answers in ./proofs/low/first/Answers.antt; `search` did not prove `returns`, `invariant_of-result`
 fn few::low::Few::second: no proof: it calls `few::low::first`, which is not proved
 fn few::low::third: not proved
@@ -138,6 +139,8 @@ fn few::low::ninth: no proof: it calls `few::low::fn::ninth::scope+FnOnce::call_
 fn few::low::ninth_of: proved
 fn few::low::tenth: not proved
 fn few::low::eleventh: not proved
+fn few::low::fn::twelfth::all: proved where its callers give what it asks, may wait
+fn few::low::twelfth: proved, may wait
 crate few: modules loaded=28 checked=21
 """
 
@@ -196,7 +199,8 @@ class Lines(unittest.TestCase):
         self.assertEqual(batches.strangers(bodies[1:], SAID), ["few::low::first"])
 
     def test_a_function_is_named_by_one_line(self):
-        self.assertEqual(self.goals("fourth"), [])
+        self.assertEqual((self.goals("fourth"), self.goals("twelfth")), ([], []))
+        self.assertEqual([batches.is_proved(name, SAID) for name in ("fourth", "twelfth", "tenth", "ninth")], [True, True, False, False])
         for function in ("eighth", "ourth", "low"):
             goals, text = batches.judge(function, SAID)
             self.assertEqual((goals, text[:22]), ([], "the check has 0 lines "))
@@ -268,7 +272,7 @@ class Crate(InSmallRepository):
         first, second = (self.placed(str(step), "zeros", ("found += 1;", f"found += {step};")) for step in (2, 3))
         said = "fn few::zeros: not proved; `search` did not prove `returns`\n" * 2
         calls = "it calls `few::same`, which is not proved"
-        rows = {"proved": ["2", "3"], "not proved": ["2"], f"no proof: {calls}": ["2", "3"], f"not proved; {calls}": ["2"]}
+        rows = {"proved": ["2", "3"], "proved, may wait": ["2", "3"], "not proved": ["2"], "proved, but for": ["2"], f"no proof: {calls}": ["2", "3"], f"not proved; {calls}": ["2"]}
         for own, wanted in rows.items():
             lines = said.replace("zeros", "zeros_2", 1) + f"fn few::zeros_1: {own}\n"
             with mock.patch.object(batches, "check", return_value=lines):
