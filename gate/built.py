@@ -22,10 +22,15 @@ def tests_of(program):
     return [name for name, _, kind in (line.rpartition(": ") for line in listed) if kind == "test"]
 
 
-def passes(program, test, seconds):
-    """Whether the test passes, and within this time."""
+def outcome(program, test, seconds):
+    """Whether the test passes, or None where it hasn't ended within this time."""
     how = {name: subprocess.DEVNULL for name in ("stdin", "stdout", "stderr")}
     try:
         return subprocess.run([program, test], cwd=program.parent, env={}, timeout=seconds, **how).returncode == 0
     except subprocess.TimeoutExpired:
-        return False
+        return None
+
+
+def passes(program, test, seconds):
+    """Whether the test passes, and within this time."""
+    return outcome(program, test, seconds) is True

@@ -5,11 +5,14 @@ They are applied to copies of the repository, and the tests are built there with
 side in one build, from which each body gets a program of its own (gate/shared_builds.py). One that changes more than bodies of functions,
 or doesn't compile beside its own, has a build to itself.
 
-- 'test: FUNCTION' has to fail, or not to end in thirty times as long as it takes without the body (in ten seconds at least, in a minute at
-  most). What threads do wrong may not show at once, so a test that passes is run again until a minute has gone. It has to pass as often in
-  the same build without the body.
+- 'test: FUNCTION' has to fail, or not to end in thirty times as long as it takes without the body (in ten seconds at least; in a minute at
+  most, or in five times as long where that is more). What threads do wrong may not show at once, so a test that passes is run again until
+  a minute has gone. It has to pass as often in the same build without the body.
 - 'refused: FUNCTION', a test of a module `refusals`, has to be found WRONG as gate/refused.py judges it, has to pass where nothing is
   refused, and has to be found right in the same build without the body.
+
+What hasn't ended in its time may only have met with other work. So the test is run without the body right behind it, and if the body may take
+longer by what that took, the body is tried once more.
 - 'error: TEXT': the compiler has to say this, where a type alone forbids the body.
 
 Each named test has to pass, or to be found right, over the crate as it is: built once more, with no body beside its own. With --tested it
@@ -34,7 +37,7 @@ import time
 from pathlib import Path
 
 import find_tools  # has Python find the modules of gate/
-from built import CANT_BUILD, CANT_RUN, named, passes, tests_of
+from built import CANT_BUILD, CANT_RUN, named, outcome, passes, tests_of
 from edits import BadEdit, NoSuchEdit, applied, chosen, edited, read_edit
 from machine import processors
 from programs import NotBuilt, build, outcomes
@@ -43,29 +46,31 @@ from shared_builds import SharedBuild, can_share
 
 SECONDS = 60  # at most for one run with a wrong body, which may hang, and for all runs of a test that passes
 LEAST_SECONDS = 10  # for one run with a wrong body
-TIMES = 30  # as long as the same test took without the body, it may take with it
+TIMES = 30  # as long as the same test took without the body, it may take with it, up to SECONDS
+LEAST_TIMES = 5  # and as long in any case
 OWN_SECONDS = 300  # for one run without it, which only other work makes slow
 SAID = 600  # how much is told of what was said
 
 
-def runs_to_fail(program, test, seconds):
-    """In which run the test fails, where each may take these seconds, or None where it passes until the time has gone."""
-    end = time.monotonic() + SECONDS
-    for run in itertools.count(1):
-        if not passes(program, test, seconds):
-            return run
-        if time.monotonic() >= end:
-            return None
+class FailsWithout(Exception):
+    """The test fails without the wrong body as well."""
+
+
+def seconds_for(took):
+    """How long a run with a wrong body may take, which took so long without it."""
+    return max(min(SECONDS, max(LEAST_SECONDS, TIMES * took)), LEAST_TIMES * took)
 
 
 class Own:
     """The program of a crate's tests without a wrong body, and what was seen of them: how long each took in each run that passed, and which
-    were right as requests were refused. Bodies that one test catches need no more of its runs than the one that took most."""
+    were right as requests were refused, each with how long its slowest run took. Bodies that one test catches need no more of its runs than
+    the one that took most, but for one behind each run that doesn't end."""
 
     def __init__(self, program):
         self.program = program
         self.passed = {}
         self.judged = {}
+        self.slowest = {}
 
     def passes(self, test, runs):
         """Whether the test passes as often as this."""
@@ -77,15 +82,60 @@ class Own:
             took.append(time.monotonic() - begun)
         return True
 
+    def passes_again(self, test):
+        """Whether the test passes in one run more."""
+        return self.passes(test, len(self.passed.get(test, ())) + 1)
+
     def seconds(self, test):
         """How long a run of the test, which has passed, may take with a wrong body."""
-        return min(SECONDS, max(LEAST_SECONDS, TIMES * max(self.passed[test])))
+        return seconds_for(max(self.passed[test]))
 
-    def is_right(self, test):
-        """Whether the test is right as requests are refused."""
-        if test not in self.judged:
-            self.judged[test] = refuser(self.program, self.program.parent).judge(test)[0]
+    def is_right(self, test, again=False):
+        """Whether the test is right as requests are refused, in what was seen of it before, or once more."""
+        if again or test not in self.judged:
+            tried = refuser(self.program, self.program.parent)
+            tried.seconds = OWN_SECONDS
+            self.judged[test] = tried.judge(test)[0]
+            self.slowest[test] = max(tried.slowest, self.slowest.get(test, 0))
         return self.judged[test]
+
+
+def fails(program, test, own, seconds):
+    """Whether the test fails in a run of the program with a wrong body, which may take these seconds, or longer where it takes so long without
+    the body. FailsWithout where it hasn't ended, and fails without the body."""
+    while (well := outcome(program, test, seconds)) is None:
+        if not own.passes_again(test):
+            raise FailsWithout
+        if own.seconds(test) <= seconds:
+            return True
+        seconds = own.seconds(test)
+    return not well
+
+
+def runs_to_fail(program, test, own):
+    """In which run the test fails with a wrong body, or None where it passes until the time has gone."""
+    end = time.monotonic() + SECONDS
+    for run in itertools.count(1):
+        if fails(program, test, own, own.seconds(test)):
+            return run
+        if time.monotonic() >= end:
+            return None
+
+
+def right_refused(tried, test, own):
+    """Whether the test is right, as requests are refused, in the program with a wrong body, and what to say. FailsWithout where it is wrong
+    without the body as well."""
+    while True:
+        tried.is_late = False
+        well, text = tried.judge(test)
+        if well:
+            return True, text
+        if not own.is_right(test, again=tried.is_late):
+            raise FailsWithout
+        seconds = seconds_for(own.slowest[test])
+        if not tried.is_late or seconds <= tried.seconds:
+            return False, text
+        tried.seconds = seconds
 
 
 def judge_test(name, wrong, own):
@@ -93,13 +143,17 @@ def judge_test(name, wrong, own):
     test = named(tests_of(wrong), name)
     if not test:
         return False, "BAD EDIT: there is no such test"
+    without = f"NOT CAUGHT: {name} fails without the body as well"
     if not own.passes(test, 1):
-        return False, f"NOT CAUGHT: {name} fails without the body as well"
-    runs = runs_to_fail(wrong, test, own.seconds(test))
+        return False, without
+    try:
+        runs = runs_to_fail(wrong, test, own)
+    except FailsWithout:
+        return False, without
     if not runs:
         return False, f"NOT CAUGHT: {name} passes"
     if not own.passes(test, runs):
-        return False, f"NOT CAUGHT: {name} fails without the body as well"
+        return False, without
     return True, f"{name} fails, as it must"
 
 
@@ -112,11 +166,12 @@ def judge_refused(name, wrong, own):
         return False, "BAD EDIT: there is no such test"
     if not tried.passes(test):
         return False, f"BAD EDIT: {name} fails where nothing is refused: let 'test:' name it"
-    well, text = tried.judge(test)
+    try:
+        well, text = right_refused(tried, test, own)
+    except FailsWithout:
+        return False, f"NOT CAUGHT: {name} is wrong without the body as well"
     if well:
         return False, f"NOT CAUGHT: {name}: {text}"
-    if not own.is_right(test):
-        return False, f"NOT CAUGHT: {name} is wrong without the body as well"
     return True, f"{name} is wrong, as it must be: {text}"
 
 

@@ -13,9 +13,11 @@ import textwrap
 import unittest
 from pathlib import Path
 from types import SimpleNamespace
+from unittest import mock
 
 import caught
 import find_tools  # has Python find the modules of gate/
+import refuser
 import shared_builds
 from edits import read_edit
 from programs import NotBuilt
@@ -146,14 +148,26 @@ class Verdicts(WithPrograms):
     def test_a_run_may_take_thirty_times_as_long_as_without_the_body(self):
         caught.SECONDS = 60
         own = caught.Own(self.program())
-        for took, seconds in ((0.1, 10), (1, 30), (5, 60)):
+        for took, seconds in ((0.1, 10), (1, 30), (5, 60), (20, 100)):
             own.passed["tests::one"] = [took / 2, took]
             self.assertEqual(own.seconds("tests::one"), seconds)
 
     def test_a_body_whose_test_hangs_is_caught(self):
-        hangs = self.program()
-        hangs.write_text(hangs.read_text(encoding="ascii").replace("read -r", "exec sleep 30\nread -r"), encoding="ascii")
-        self.assertEqual(self.said(hangs, self.program()), "one fails, as it must")
+        self.assertEqual(self.said(self.slowed(self.program(), "exec sleep 30"), self.program()), "one fails, as it must")
+
+    def slowed(self, program, *lines):
+        """The program, which does this before each test."""
+        program.write_text(program.read_text(encoding="ascii").replace("read -r", "\n".join([*lines, "read -r"])), encoding="ascii")
+        return program
+
+    def test_a_test_that_only_other_work_slows_is_not(self):
+        own = self.program()
+        self.slowed(own, f"[ -e {own}.ran ] && sleep 0.6", f"touch {own}.ran")  # the other work begins behind its first run
+        self.assertEqual(self.said(self.slowed(self.program(), "sleep 1.4"), own), "NOT CAUGHT: one passes")
+
+    def test_a_test_that_hangs_with_the_body_and_then_fails_without_it_is_not(self):
+        hangs = self.slowed(self.program(), "exec sleep 30")
+        self.assertEqual(self.said(hangs, self.program("01")), "NOT CAUGHT: one fails without the body as well")
 
     def test_a_name_is_of_one_test(self):
         for name in ("two", "tests", "ne", "twice"):
@@ -163,6 +177,57 @@ class Verdicts(WithPrograms):
         self.assertTrue(caught.judge_tests({"one", "other"}, self.program())[0])
         self.assertFalse(caught.judge_tests({"one", "other"}, self.program(other="1"))[0])
         self.assertFalse(caught.judge_tests({"one", "two"}, self.program())[0])
+
+
+class Refused(WithPrograms):
+    """What is said of a test as requests are refused, where runs don't end in their time."""
+
+    def said(self, rows, own_rows):
+        """What is said of a body, where each time that the test is judged, with it and without, comes to the next of these rows: whether
+        all is well, whether a run hasn't ended, and how long the slowest took."""
+        made = {name: Stand(list(it)) for name, it in (("wrong", rows), ("own", own_rows))}
+        with mock.patch.object(caught, "refuser", lambda program, _room: made[program.name]):
+            passed, text = caught.judge_refused("one", self.room / "wrong", caught.Own(self.room / "own"))
+        self.assertEqual(passed, text.startswith("one is wrong, as it must be"))
+        return text, made["wrong"].seconds
+
+    def test_a_run_that_does_not_end_counts_by_what_it_takes_without_the_body(self):
+        caught.SECONDS = 60
+        wrong, late, well = (False, False, 1), (False, True, 60), (True, False, 1)
+        for rows, own_rows, text, seconds in (
+            ([wrong], [well], "one is wrong, as it must be: told", 60),
+            ([well], [], "NOT CAUGHT: one: told", 60),
+            ([late], [well], "one is wrong, as it must be: told", 60),
+            ([late, well], [(True, False, 20)], "NOT CAUGHT: one: told", 100),
+            ([late, late], [(True, False, 20), (True, False, 15)], "one is wrong, as it must be: told", 100),
+            ([late, late, well], [(True, False, 20), (True, False, 30)], "NOT CAUGHT: one: told", 150),
+            ([late], [(False, False, 1)], "NOT CAUGHT: one is wrong without the body as well", 60),
+        ):
+            self.assertEqual(self.said(rows, own_rows), (text, seconds))
+
+    def test_a_run_that_has_not_ended_is_told(self):
+        program = self.program()
+        program.write_text("#!/bin/sh\nexec sleep 30\n", encoding="ascii")
+        tried = refuser.Refuser("", program, 0.2)
+        self.assertFalse(tried.run("one", "memory", 0, 0).passed())
+        self.assertEqual((tried.is_late, tried.slowest >= 0.2), (True, True))
+
+
+class Stand:
+    """Stands for what refuses requests to a program."""
+
+    def __init__(self, rows):
+        self.rows, self.seconds, self.slowest, self.is_late = rows, 60, 0, False
+
+    def tests(self):
+        return ["refusals::one"]
+
+    def passes(self, _test):
+        return True
+
+    def judge(self, _test):
+        well, self.is_late, self.slowest = self.rows.pop(0)
+        return well, "told"
 
 
 class Words(unittest.TestCase):

@@ -3,13 +3,14 @@
 import os
 import subprocess
 import sys
+import time
 from dataclasses import dataclass
 from pathlib import Path
 
 import find_tools  # has Python find the next one
 from programs import compiler, kit
 
-SECONDS = 60  # for one run
+SECONDS = 60  # for one run, where nothing else is said
 MOST = 100_000  # requests of one call
 EVERY = sys.maxsize
 NAMES = {"memory": "requests for memory", "starts": "starts of threads"}  # what can be refused
@@ -84,6 +85,9 @@ class Refuser:
 
     library: str
     program: Path
+    seconds: float = SECONDS  # for one run
+    slowest: float = 0.0  # what the run took that took most
+    is_late: bool = False  # a run hasn't ended in its time
 
     def tests(self):
         """The names of the tests of refusals."""
@@ -95,11 +99,13 @@ class Refuser:
         report, told = os.pipe()
         limits = {"REFUSE_WHAT": what, "REFUSE_FIRST": str(first), "REFUSE_LAST": str(last), "REFUSE_REPORT": str(told)}
         how = {"stdin": subprocess.DEVNULL, "stdout": subprocess.PIPE, "stderr": subprocess.STDOUT, "pass_fds": [told]}
+        begun = time.monotonic()
         try:
-            ran = subprocess.run([self.program, test], env={"LD_PRELOAD": self.library, **limits}, timeout=SECONDS, **how)
+            ran = subprocess.run([self.program, test], env={"LD_PRELOAD": self.library, **limits}, timeout=self.seconds, **how)
             status, said = ran.returncode, ran.stdout.decode(errors="replace")
         except subprocess.TimeoutExpired:
-            status, said = -1, f"it hasn't ended after {SECONDS} seconds"
+            status, said, self.is_late = -1, f"it hasn't ended after {self.seconds:.0f} seconds", True
+        self.slowest = max(self.slowest, time.monotonic() - begun)
         os.close(told)
         with os.fdopen(report) as it:
             numbers = [int(word) for word in it.read().split()]

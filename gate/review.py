@@ -14,7 +14,8 @@ The function is named by the end of its name as `rt check` prints it. TEXT is on
 pairs, and lines 'file:', may follow, all in the body of that function. Bodies of different functions of a crate share a check
 (gate/batches.py), and one that its own function doesn't refuse is checked once more alone, with all that calls it. Those that nothing
 refused are built beside the bodies that they replace (gate/shared_builds.py), and the tests that see their crate are run with each, plainly
-and with requests refused; a test that fails has to pass without the body. What is proved and passes them all is printed last: nothing
+and with requests refused; a test that fails has to pass without the body, and one that doesn't end is run without the body too, and again
+with it where that takes long. What is proved and passes them all is printed last: nothing
 holds it. The exports of string_cache_c have their tests in gate/clients.py, which is run over a library with the body.
 
 A body that can't be read, proved or built is NOT CHECKED: it ends nothing, and counts in the status.
@@ -22,6 +23,7 @@ A body that can't be read, proved or built is NOT CHECKED: it ends nothing, and 
 usage: gate/review.py FILE
 """
 
+import contextlib
 import sys
 import tempfile
 from dataclasses import dataclass, field
@@ -29,7 +31,8 @@ from pathlib import Path
 
 import batches
 import find_tools  # has Python find the modules of tools/
-from built import CANT_BUILD, passes, tests_of
+from built import CANT_BUILD, tests_of
+from caught import FailsWithout, Own, fails, right_refused
 from copies import copy_with_work, has_tests
 from edits import BadEdit, applied, changes_in
 from programs import build
@@ -38,7 +41,7 @@ from repository import crates_listed, said_by, stands_on
 from shared_builds import SharedBuild, can_share
 
 TOP = Path(__file__).resolve().parent.parent
-SECONDS = 60  # for one test
+SECONDS = 60  # for one test, or longer where it takes so long without the body
 SAID = 400  # how much is told of what was said
 LIBRARY = "string_cache_c"  # its tests are programs in other languages
 # Whose tests see a crate, beside those that name it in crates.txt: they call it by the names that a crate above gives again.
@@ -143,13 +146,16 @@ def proved(crate, pairs, review):
 
 def failure(wrong, own):
     """The first test that fails in the program with a body, plainly or as requests are refused, and not in the one without; or None."""
+    without = Own(own)
     for test in tests_of(wrong):
-        if not passes(wrong, test, SECONDS) and passes(own, test, SECONDS):
-            return test
-    tried, without = refuser(wrong, wrong.parent), refuser(own, own.parent)
+        with contextlib.suppress(FailsWithout):
+            if fails(wrong, test, without, SECONDS) and without.passes(test, 1):
+                return test
+    tried = refuser(wrong, wrong.parent)
     for test in tried.tests():
-        if not tried.judge(test)[0] and without.judge(test)[0]:
-            return f"{test}, as requests are refused,"
+        with contextlib.suppress(FailsWithout):
+            if not right_refused(tried, test, without)[0]:
+                return f"{test}, as requests are refused,"
     return None
 
 

@@ -8,9 +8,12 @@ usage: gate/review_test.py
 import contextlib
 import io
 import sys
+import tempfile
 import unittest
+from pathlib import Path
 from unittest import mock
 
+import caught
 import review
 from small_repository import InSmallRepository
 
@@ -92,6 +95,24 @@ WANTED = {
     "  factors_in_another_order (": "few",
     "review: 4 bodies, 1 that nothing holds, 1 not checked:": "",
 }
+
+
+class Tests(unittest.TestCase):
+    """Which tests are told to fail with a body."""
+
+    def failure(self, slowed, slowed_own):
+        """What is told of two programs of one test, which takes so long with the body, and so long without, where a run may take a second."""
+        with tempfile.TemporaryDirectory(prefix="review-test-") as room, mock.patch.object(review, "SECONDS", 1), mock.patch.object(review, "refuser"):
+            programs = [Path(room) / name for name in ("wrong", "own")]
+            for program, seconds in zip(programs, (slowed, slowed_own)):
+                program.write_text(f"#!/bin/sh\n[ $1 = --list ] && echo one: test || exec sleep {seconds}\n", encoding="ascii")
+                program.chmod(0o755)
+            return review.failure(*programs)
+
+    def test_a_test_that_only_other_work_slows_does_not(self):
+        with mock.patch.object(caught, "SECONDS", 1):
+            self.assertIsNone(self.failure(1.5, 0.6))
+            self.assertEqual(self.failure(30, 0.1), "one")
 
 
 class Review(InSmallRepository):
