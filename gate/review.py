@@ -18,14 +18,17 @@ and with requests refused; a test that fails has to pass without the body, and o
 with it where that takes long. What is proved and passes them all is printed last: nothing
 holds it. The exports of string_cache_c have their tests in gate/clients.py, which is run over a library with the body.
 
-A body that can't be read, proved or built is NOT CHECKED: it ends nothing, and counts in the status.
+A body that can't be read, proved or built is NOT CHECKED: it ends nothing, and counts in the status. So is one whose first line isn't
+'body: NAME', and each of those that have one name.
 
 usage: gate/review.py FILE
 """
 
+import argparse
 import contextlib
 import sys
 import tempfile
+from collections import Counter
 from dataclasses import dataclass, field
 from pathlib import Path
 
@@ -52,15 +55,16 @@ SEEN_BY = {
 
 @dataclass(eq=False)
 class Body:
-    """A wrong body: its name, its crate, the function that it changes, and what is replaced by what, file by file."""
+    """A wrong body: its name, its crate, the function that it changes, what is replaced by what, file by file, and why it can't be read."""
 
     name: str
     crate: str = ""
     function: str = ""
     changes: list = field(default_factory=list)
+    wrong: str = ""
 
     def __str__(self):
-        return f"{self.name} ({self.crate}, {self.function})"
+        return f"{self.name or 'one without a name'} ({self.crate}, {self.function})"
 
 
 class Review:
@@ -77,20 +81,33 @@ class Review:
         self.unchecked.append(body)
 
 
+def begins(word, body):
+    """Whether a body begins with a line of this word, behind this one, or behind none: with its name, or without, where the line belongs to none
+    or has another of what each has one of."""
+    return word == "body" or word in ("crate", "function", "file", "old", "new") and (not body or getattr(body, word, False))
+
+
 def read_bodies(path):
-    """The bodies in a file."""
-    bodies, lines = [], []
+    """The bodies in a file, each with what is wrong with it."""
+    bodies = []
     for line in path.read_text(encoding="utf-8").splitlines():
         word, _, text = line.partition(": ")
-        if word == "body":
-            lines = []
-            bodies.append((Body(text.strip()), lines))
-        elif word in ("crate", "function") and bodies:
+        if begins(word, bodies[-1][0] if bodies else None):
+            bodies.append((Body(text.strip() if word == "body" else ""), []))
+        if word in ("crate", "function"):
             setattr(bodies[-1][0], word, text.strip())
-        else:
-            lines.append(line)
+        elif word != "body" and bodies:
+            bodies[-1][1].append(line)
+    names = Counter(body.name for body, _ in bodies)
     for body, lines in bodies:
-        body.changes = changes_in(lines)
+        try:
+            body.changes = changes_in(lines)
+        except BadEdit as why:
+            body.wrong = str(why)
+        if not body.name:
+            body.wrong = "its first line isn't 'body: NAME'"
+        elif names[body.name] > 1:
+            body.wrong = f"{names[body.name]} bodies have this name"
     return [body for body, _ in bodies]
 
 
@@ -99,6 +116,8 @@ def in_crates(bodies, review):
     listed, found = crates_listed(), {}
     for body in bodies:
         try:
+            if body.wrong:
+                raise BadEdit(body.wrong)
             if body.crate not in listed or not (body.function and body.changes):
                 raise BadEdit("it lacks a crate of crates.txt, a function, or a pair 'old:' and 'new:'")
             placed = batches.placed(str(body), TOP / "crates" / body.crate, body.function, body.changes)
@@ -222,10 +241,15 @@ def held_by_nothing(bodies, root, review):
 
 
 def main():
-    if len(sys.argv) != 2:
-        sys.exit(__doc__)
-    review = Review()
-    bodies = read_bodies(Path(sys.argv[1]))
+    parser = argparse.ArgumentParser(description=__doc__, formatter_class=argparse.RawDescriptionHelpFormatter)
+    parser.add_argument("file", type=Path, metavar="FILE")
+    given, review = parser.parse_args(), Review()
+    try:
+        bodies = read_bodies(given.file)
+    except (OSError, ValueError) as why:
+        sys.exit(f"review: {given.file} can't be read: {why}")
+    if not bodies:
+        sys.exit(f"review: {given.file} has no body")
     found = [body for crate, pairs in in_crates(bodies, review).items() for body in proved(crate, pairs, review)]
     with tempfile.TemporaryDirectory(prefix="review-") as room:
         root = copy_with_work(Path(room) / "copy", {body.crate for body in found})

@@ -7,6 +7,7 @@ usage: gate/review_test.py
 
 import contextlib
 import io
+import subprocess
 import sys
 import tempfile
 import unittest
@@ -95,6 +96,46 @@ WANTED = {
     "  factors_in_another_order (": "few",
     "review: 4 bodies, 1 that nothing holds, 1 not checked:": "",
 }
+
+
+NAMELESS = BODIES.replace("body: digit_is_six\n", "")  # the second one is
+BAD = {  # a file's text, and what is said of each of its bodies: nothing where all is well
+    BODIES: ["", "", "", ""],
+    NAMELESS: ["", "its first line isn't 'body: NAME'", "", ""],
+    NAMELESS.replace("body: next_is_two_more\n", "Body: next_is_two_more\n"): [*["its first line isn't 'body: NAME'"] * 2, "", ""],
+    BODIES.replace("other_is_unknown", "digit_is_six"): ["", "2 bodies have this name", "", "2 bodies have this name"],
+    BODIES.replace("old:     7\n", ""): ["", "a 'new:' line stands before any 'file:' or 'old:' line", "", ""],
+    f"Some bodies\n\n{BODIES}": ["", "", "", ""],
+}
+
+
+class Bodies(unittest.TestCase):
+    """What is said of a file of bodies."""
+
+    def run_over(self, *words):
+        ran = subprocess.run([Path(review.__file__), *words], stdout=subprocess.PIPE, stderr=subprocess.STDOUT, check=False)
+        return ran.returncode, ran.stdout.decode()
+
+    def test_bodies_that_cannot_be_told_apart_are_bad(self):
+        with tempfile.TemporaryDirectory(prefix="review-test-") as room:
+            file = Path(room) / "bodies"
+            for text, wanted in BAD.items():
+                file.write_text(text, encoding="utf-8")
+                self.assertEqual([body.wrong for body in review.read_bodies(file)], wanted, text)
+            few = review.Review()
+            file.write_text(NAMELESS.split("\n\n")[1], encoding="utf-8")
+            with contextlib.redirect_stdout(io.StringIO()) as said:
+                self.assertEqual(review.in_crates(review.read_bodies(file), few), {})
+            self.assertIn("one without a name (few, digit): NOT CHECKED: BAD EDIT: its first line isn't", said.getvalue())
+            self.assertEqual(len(few.unchecked), 1)
+            file.write_text("Some bodies\n", encoding="utf-8")
+            for path, text in ((file, "has no body"), (Path(room) / "nothing", "can't be read")):
+                status, said = self.run_over(path)
+                self.assertEqual((status, text in said, "Traceback" in said), (1, True, False), said)
+
+    def test_help_is_given(self):
+        status, said = self.run_over("--help")
+        self.assertEqual((status, "usage: review.py" in said, "body: pack_overlooks_its_last" in said), (0, True, True), said)
 
 
 class Tests(unittest.TestCase):
