@@ -4,12 +4,12 @@
 every wrong body is tried.
 
 For each crate: its layout is that of `rt fmt`, each old text of its wrong bodies stands once, and `rt check` proves it. Then come the
-tests of these crates and of all that stand on them, each run once. The old texts of the wrong bodies of clients are looked for each time.
+tests of these crates and of all that stand on them, each run once; one that is out of time is told apart from those that fail. The old
+texts of the wrong bodies of clients are looked for each time.
 
 usage: gate/quick.py [CRATE ..]     without names: the crates that differ from the last commit
 """
 
-import subprocess
 import sys
 import tempfile
 from concurrent.futures import ThreadPoolExecutor
@@ -17,9 +17,10 @@ from pathlib import Path
 
 import find_tools  # has Python find the modules of tools/
 import refused_bodies
+from built import CANT_BUILD, outcome, tests_of
 from copies import has_tests
 from edits import BadEdit, changed, changes_in
-from programs import NotBuilt, build, kit
+from programs import build, kit
 from repository import TOP, crates_listed, said_by, stands_on
 
 SECONDS = 120  # for one test
@@ -75,12 +76,14 @@ def tests_pass(name):
     try:
         with tempfile.TemporaryDirectory(prefix="quick-") as room:
             program = build(TOP / "crates" / name, Path(room))
-            _, lines = said_by(program, "--list")
-            tests = [line.partition(": ")[0] for line in lines.splitlines() if line.endswith(": test")]
-            failed = [test for test in tests if said_by("timeout", str(SECONDS), program, test)[0]]
-    except (NotBuilt, OSError, subprocess.CalledProcessError) as why:
+            ended = {test: outcome(program, test, SECONDS) for test in tests_of(program)}
+    except CANT_BUILD as why:
         return False, f"its tests can't be built: {why}"
-    return bool(tests) and not failed, f"{len(tests)} tests run, these failed: {', '.join(failed) or 'none'}"
+    failed, late = ([test for test, well in ended.items() if well is how] for how in (False, None))
+    text = f"{len(ended)} tests run, these failed: {', '.join(failed) or 'none'}"
+    if late:
+        text += f"; these hadn't ended after {SECONDS} seconds, which other work may do too: {', '.join(late)}"
+    return bool(ended) and not failed and not late, text
 
 
 def main():

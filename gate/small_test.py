@@ -96,6 +96,19 @@ class Quick(unittest.TestCase):
             well, text = step("few")
             self.assertTrue(well, text)
 
+    def test_a_test_that_is_out_of_time_is_told_apart(self):
+        program = self.folder / "tests"
+        rows = {  # what the second of two tests does, whether all is well, and what is said
+            "exit 0": (True, "2 tests run, these failed: none"),
+            "exit 3": (False, "2 tests run, these failed: other"),
+            "exec sleep 30": (False, "2 tests run, these failed: none; these hadn't ended after 1 seconds, which other work may do too: other"),
+        }
+        for does, wanted in rows.items():
+            program.write_text(f"#!/bin/sh\n[ $1 = --list ] && printf '%s: test\\n' one other\n[ $1 = other ] || exit 0\n{does}\n", encoding="ascii")
+            program.chmod(0o755)
+            with mock.patch.object(quick, "build", return_value=program), mock.patch.object(quick, "SECONDS", 1):
+                self.assertEqual(quick.tests_pass("few"), wanted)
+
     def test_another_layout_fails(self):
         self.changed("u32::from(number) + 1", "u32::from( number ) + 1")
         self.assertFalse(quick.is_laid_out("few")[0])
