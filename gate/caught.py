@@ -10,10 +10,10 @@ or doesn't compile beside its own, has a build to itself.
   a minute has gone. It has to pass as often in the same build without the body.
 - 'refused: FUNCTION', a test of a module `refusals`, has to be found WRONG as gate/refused.py judges it, has to pass where nothing is
   refused, and has to be found right in the same build without the body.
+- 'error: TEXT': the compiler has to say this, where a type alone forbids the body.
 
 What hasn't ended in its time may only have met with other work. So the test is run without the body right behind it, and if the body may take
 longer by what that took, the body is tried once more.
-- 'error: TEXT': the compiler has to say this, where a type alone forbids the body.
 
 Each named test has to pass, or to be found right, over the crate as it is: built once more, with no body beside its own. With --tested it
 isn't built for that: `rt ci` and gate/refused.py, which run all these tests, say so.
