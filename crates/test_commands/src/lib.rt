@@ -18,6 +18,8 @@ mod memory;
 #[cfg(test)]
 mod packed;
 #[cfg(test)]
+mod pieces;
+#[cfg(test)]
 mod program;
 #[cfg(test)]
 mod refusals;

@@ -1,6 +1,7 @@
 //! What no contract says: which lists are placed, and what comes of those that aren't.
 
 mod checked;
+mod large;
 
 use self::checked::checked;
 use crate::texts::is_printed_as;

@@ -57,7 +57,7 @@ fn are_interned(table: &mut Plain, texts: &str) -> bool {
 const TEXT: &str = "the text 0";
 
 /// Whether as many texts are interned.
-fn interns_numbered(rt: &impl Abort, alloc: Global, table: &mut Plain, number: usize) -> bool {
+pub fn interns_numbered(rt: &impl Abort, alloc: Global, table: &mut Plain, number: usize) -> bool {
     for n in 0..number {
         if !interns(table, &numbered_text(rt, alloc, TEXT, n)) {
             return false;
@@ -192,16 +192,68 @@ fn takes_with_room(table: &mut Plain, number: usize, filled: u128, empty: u128) 
         && takes(table, empty)
 }
 
-fn one_bucket_takes_with_room(rt: &impl Abort, alloc: Global, empty: u128) -> bool {
+fn one_bucket_takes_with_room(rt: &impl Abort, alloc: Global, number: usize, groups: u32) -> bool {
     let mut table = one_bucket(rt, alloc);
-    takes_with_room(&mut table, 1000, empty.saturating_add(8), empty)
+    let empty = empty_bytes(1, groups);
+    takes_with_room(&mut table, number, empty.saturating_add(8), empty)
 }
 
-/// Room for 1000 texts in a table with one: 128 groups.
+/// Room for 1000 texts in a table with one, which is 128 groups, and for 150,000.
 #[test]
 fn memory_of_room_beside_texts(rt: HostRuntime) {
-    let empty = empty_bytes(1, 128);
-    assert_that(&rt, one_bucket_takes_with_room(&rt, rt.alloc(), empty));
+    let alloc = rt.alloc();
+    assert_that(&rt, one_bucket_takes_with_room(&rt, alloc, 1_000, 128));
+    assert_that(&rt, one_bucket_takes_with_room(&rt, alloc, 150_000, 32_768));
+}
+
+/// Whether room for no text is made in a table, which takes so many bytes then.
+fn takes_no_more(table: &mut Plain, bytes: u128) -> bool {
+    reserves(table, 0, Ok(())) && takes(table, bytes)
+}
+
+/// Whether a table that is made with room for no text takes what its buckets do, and one text more its own group.
+fn takes_no_room(rt: &impl Abort, alloc: Global) -> bool {
+    let mut table = Plain::with_capacity(alloc, keys_of(rt, 1), 0).expect(rt, "a table");
+    takes_no_more(&mut table, 4096 * BUCKET)
+        && interns(&mut table, "interned")
+        && takes_no_more(&mut table, empty_bytes(4096, 1).saturating_add(8))
+}
+
+#[test]
+fn room_for_no_text_takes_none(rt: HostRuntime) {
+    assert_that(&rt, takes_no_room(&rt, rt.alloc()));
+}
+
+/// Whether a table that had this number of texts, and lost so many, has so many groups once it is cleared.
+fn keeps_cleared_groups(
+    rt: &impl Abort,
+    alloc: Global,
+    number: usize,
+    lost: usize,
+    groups: u32,
+) -> bool {
+    let mut table = one_bucket(rt, alloc);
+    let is_right = interns_numbered(rt, alloc, &mut table, number)
+        && loses_numbered(rt, alloc, &mut table, lost);
+    table.clear();
+    is_right && takes(&table, empty_bytes(1, groups))
+}
+
+/// Of a table that is full, that lost some texts, and that lost all.
+const CLEARED: [(usize, usize, u32); 5] = [
+    (9, 0, 1),
+    (9, 9, 1),
+    (576, 0, 64),
+    (576, 300, 64),
+    (576, 576, 64),
+];
+
+#[test]
+fn memory_stays_when_a_full_table_is_cleared(rt: HostRuntime) {
+    for (number, lost, groups) in &CLEARED {
+        let is_kept = keeps_cleared_groups(&rt, rt.alloc(), *number, *lost, *groups);
+        assert_for(&rt, is_kept, &(number, lost));
+    }
 }
 
 /// What the names below are of.

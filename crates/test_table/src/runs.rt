@@ -1,6 +1,8 @@
 //! Calls of a table that are made in a run, with values from outside.
 
-use crate::rows::{FIRST, Made, Row, SECOND, Told, check_plain};
+use crate::assert_that;
+use crate::memory::interns_numbered;
+use crate::rows::{FIRST, Made, Row, SECOND, Told, check_plain, follow, plain};
 use string_cache_core::table::TableReply;
 
 /// Calls one after another, each in a run of its own, and the reply to each, where "interned" has one holder.
@@ -82,4 +84,33 @@ static NONE_OR_MANY: [Row; 3] = [
 #[test]
 fn a_run_has_no_calls_or_many(rt: HostRuntime) {
     check_plain(&rt, rt.alloc(), &NONE_OR_MANY);
+}
+
+/// By OpenSSL's SipHash the buckets of the other two are 0x2ec and 0x20a.
+static BESIDE_TWO: [Row; 4] = [
+    Row::Intern("interned", Ok(FIRST)),
+    Row::Intern("the first", Ok(0x1_0bb0)),
+    Row::Intern("the second", Ok(0x1_0828)),
+    Row::Run(
+        &[Made::Clone(FIRST), Made::Clone(0x1_0bb0)],
+        &[TableReply::Word(FIRST), TableReply::Word(0x1_0bb0)],
+    ),
+];
+
+#[test]
+fn a_run_is_made_over_three_texts(rt: HostRuntime) {
+    check_plain(&rt, rt.alloc(), &BESIDE_TWO);
+}
+
+static ALONE: [Row; 1] = [Row::Intern("interned", Ok(FIRST))];
+
+static OVER_MANY: [Row; 2] = [Row::RunClones(FIRST, 50_000), Row::RunClones(FIRST, 1)];
+
+#[test]
+fn a_run_of_many_calls_is_made_over_many_texts(rt: HostRuntime) {
+    let alloc = rt.alloc();
+    let mut table = plain(&rt, alloc);
+    follow(&rt, alloc, &mut table, &ALONE);
+    assert_that(&rt, interns_numbered(&rt, alloc, &mut table, 10_000));
+    follow(&rt, alloc, &mut table, &OVER_MANY);
 }

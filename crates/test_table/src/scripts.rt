@@ -3,7 +3,7 @@
 use crate::texts::is_printed_as;
 use crate::{assert_for, assert_that};
 use replay_script::{ScriptFault, next_line, replay_text};
-use std::alloc::Global;
+use std::alloc::{AllocError, Global};
 
 /// As `replay_text`. Where memory was refused, the call is made once more.
 fn replayed(alloc: Global, script: &str) -> Result<String, ScriptFault> {
@@ -192,6 +192,35 @@ fn many_steps(rt: HostRuntime) {
     let script = "1 leave\n".repeat(rt.alloc(), 5000).expect(&rt, "room");
     let lines = "no\n".repeat(rt.alloc(), 5000).expect(&rt, "room");
     assert_that(&rt, gives(rt.alloc(), &script, &lines));
+}
+
+/// As many lines of output as there are steps, and a script of 960,000 bytes.
+#[test]
+fn many_lines_of_output(rt: HostRuntime) {
+    let script = "1 leave\n".repeat(rt.alloc(), 120_000).expect(&rt, "room");
+    let lines = "no\n".repeat(rt.alloc(), 120_000).expect(&rt, "room");
+    assert_that(&rt, gives(rt.alloc(), &script, &lines));
+}
+
+/// A script of so many good lines and a bad one.
+fn script_with_bad_line(alloc: Global, good: usize) -> Result<String, AllocError> {
+    let mut script = "1 leave\n".repeat(alloc, good)?;
+    script.push_str("1 jump\n")?;
+    Ok(script)
+}
+
+/// Whether the bad line is told as the one after so many.
+fn is_bad_behind(alloc: Global, good: u16) -> Result<bool, AllocError> {
+    let script = script_with_bad_line(alloc, usize::from(good))?;
+    Ok(is_bad_at(alloc, &script, u64::from(good).saturating_add(1)))
+}
+
+#[test]
+fn bad_line_is_named_behind_many(rt: HostRuntime) {
+    for good in 0..200u16 {
+        assert_for(&rt, is_bad_behind(rt.alloc(), good) == Ok(true), &good);
+    }
+    assert_that(&rt, is_bad_behind(rt.alloc(), 9_999) == Ok(true));
 }
 
 #[test]

@@ -1,5 +1,6 @@
 //! The steps on small scripts. Expected replies are those of the table of steps, worked out by hand.
 
+mod crowds;
 mod merges;
 mod parties;
 

@@ -127,10 +127,30 @@ fn a_text_has_no_more_holders_than_its_limit(rt: HostRuntime) {
     check_with(&rt, rt.alloc(), limits, Buckets::usual(), &FULL);
 }
 
-/// Characters of one to four bytes, ten together, doubled eighteen times.
+/// "interned" has so many holders, and no more.
+fn check_holders(rt: &impl Abort, alloc: Global, holders: u64) {
+    let rows = [
+        Row::Intern("interned", Ok(FIRST)),
+        Row::RunClones(FIRST, holders.saturating_sub(1) as usize),
+        Row::Clone(FIRST, Err(Fault::FullCount)),
+        Row::Intern("interned", Err(Fault::FullCount)),
+        Row::Tell(Told::Holders(FIRST, Some(holders))),
+    ];
+    let limits = limits_of(rt, holders, 1);
+    check_with(rt, alloc, limits, Buckets::usual(), &rows);
+}
+
+#[test]
+fn a_text_has_as_many_holders_as_its_limit(rt: HostRuntime) {
+    for holders in [1, 2, 3, 1_000, 70_000] {
+        check_holders(&rt, rt.alloc(), holders);
+    }
+}
+
+/// Characters of one to four bytes, ten together, doubled nineteen times.
 fn large_text(rt: &impl Abort, alloc: Global) -> String {
     let mut text = String::from_str(alloc, "né€𝄞").expect(rt, "room");
-    for _ in 0..18 {
+    for _ in 0..19 {
         let half = text.clone().expect(rt, "room");
         text.push_str(&half).expect(rt, "room");
     }
@@ -158,7 +178,7 @@ fn a_large_text_is_interned(rt: HostRuntime) {
     let text = large_text(&rt, rt.alloc());
     assert_that(
         &rt,
-        is_kept_in_a_new_table(&rt, rt.alloc(), &text, 2_621_440),
+        is_kept_in_a_new_table(&rt, rt.alloc(), &text, 5_242_880),
     );
 }
 

@@ -83,6 +83,20 @@ fn keeps_its_text<R: Print + Abort>(rt: &R, table: &mut Table<EmptyStaticAtomSet
     stays_alone(rt, table, word) == Ok(true)
 }
 
+/// The bytes of a table without texts that has room for a thousand: 128 groups of both maps.
+const WITH_ROOM: u128 = 4096 * 8 + 128 * (496 + 208) + 1;
+
+/// Whether the table tells the bytes of that room where it was made, and fewer where it was refused.
+fn tells_its_room<R: Print>(rt: &R, table: &mut Table<EmptyStaticAtomSet>) -> bool {
+    begin(rt);
+    let made = make_room(table);
+    finish(rt, midway(made.is_err()));
+    match made {
+        Ok(()) => table.memory() == WITH_ROOM,
+        Err(_) => table.memory() < WITH_ROOM,
+    }
+}
+
 /// Interns a text that this number makes.
 fn intern_number<R: Abort>(rt: &R, alloc: Global, table: &mut Table<EmptyStaticAtomSet>, n: u32) {
     let text = format!(in alloc; "the text {n}").expect(rt, "a text");
@@ -135,6 +149,7 @@ enum Question {
     IsEmpty,
     Interns,
     KeepsItsText,
+    TellsItsRoom,
     HasRoomBehind(u32),
     HasRoomOnceCleared,
 }
@@ -151,6 +166,7 @@ fn passes<R: Print + Abort>(
         Question::IsEmpty => is_empty(table),
         Question::Interns => word_at_last(rt, table) == Ok(FIRST) && has_alone(table, FIRST),
         Question::KeepsItsText => keeps_its_text(rt, table),
+        Question::TellsItsRoom => tells_its_room(rt, table),
         Question::HasRoomBehind(number) => has_room_behind(rt, alloc, table, number),
         Question::HasRoomOnceCleared => has_room_once_cleared(rt, alloc, table),
     }
@@ -194,6 +210,13 @@ fn text_is_interned_in_a_table(rt: HostRuntime) {
 fn room_is_made_in_a_table(rt: HostRuntime) {
     let made = Table::new(rt.alloc(), table_keys(&rt));
     check(&rt, rt.alloc(), made, Question::KeepsItsText);
+}
+
+/// Neither map is told to have the other's room.
+#[test]
+fn room_that_is_refused_is_not_told(rt: HostRuntime) {
+    let made = Table::new(rt.alloc(), table_keys(&rt));
+    check(&rt, rt.alloc(), made, Question::TellsItsRoom);
 }
 
 /// The last one of as many texts as room was made for. 576 texts fill what a table grows to by itself, so that one more would ask for room.

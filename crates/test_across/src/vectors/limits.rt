@@ -1,13 +1,13 @@
 //! Sets with small limits, and no other thread.
 
-use crate::assert_that;
 use crate::begun::intern;
+use crate::{assert_for, assert_that};
 use std::alloc::Global;
 use std::borrow::CowStr;
 use std::process::Abort;
 use std::sync::Wait;
 use string_cache::dynamic_set::Set;
-use string_cache::word::Limits;
+use string_cache::word::{Buckets, Limits};
 use string_cache::{DefaultAtom, EmptyStaticAtomSet, Fault};
 use test_calls::{
     are_one, cloned, copied, has_word, interned_cow, interned_owned, is_of, json_of, links,
@@ -153,4 +153,60 @@ fn holders_come_and_go(rt: HostRuntime) {
     assert_that(&rt, is_copied(&rt, first));
     assert_that(&rt, links(&rt, &set, 0));
     assert_that(&rt, is_interned(&rt, &set, FIRST + TICKET_UNIT));
+}
+
+/// A set of one bucket.
+fn one_bucket<R: Abort>(rt: &R, alloc: Global) -> Set<EmptyStaticAtomSet> {
+    let buckets = Buckets::new(0).expect(rt, "bits");
+    Set::with_buckets(alloc, Limits::greatest(), buckets).expect(rt, "a set")
+}
+
+/// Adds the atom of a text that this number makes.
+fn add_numbered<'s, R: Wait + Abort>(
+    rt: &R,
+    set: &'s Set<EmptyStaticAtomSet>,
+    atoms: &mut Vec<DefaultAtom<'s>>,
+    number: u32,
+) {
+    let text = format!(in set.allocator(); "the text {number}").expect(rt, "a text");
+    atoms.push(intern(rt, set, &text)).expect(rt, "room");
+}
+
+/// The atoms of so many texts.
+fn numbered<'s, R: Wait + Abort>(
+    rt: &R,
+    set: &'s Set<EmptyStaticAtomSet>,
+    number: u32,
+) -> Vec<DefaultAtom<'s>> {
+    let mut atoms = Vec::new(set.allocator());
+    for n in 0..number {
+        add_numbered(rt, set, &mut atoms, n);
+    }
+    atoms
+}
+
+/// Whether, of so many texts of the bucket, the last goes with its atom, and so do the others.
+fn go_with_their_atoms<R: Wait + Abort>(
+    rt: &R,
+    set: &Set<EmptyStaticAtomSet>,
+    number: u32,
+) -> bool {
+    let mut atoms = numbered(rt, set, number);
+    let are_held = links(rt, set, u128::from(number));
+    drop(atoms.pop());
+    let is_gone = links(rt, set, u128::from(number.saturating_sub(1)));
+    drop(atoms);
+    are_held && is_gone && links(rt, set, 0)
+}
+
+fn go_from_a_new_set<R: Wait + Abort>(rt: &R, alloc: Global, number: u32) -> bool {
+    go_with_their_atoms(rt, &one_bucket(rt, alloc), number)
+}
+
+/// The last of many texts of one bucket goes with its only atom, while the others are held.
+#[test]
+fn one_text_of_many_goes_with_its_atom(rt: HostRuntime) {
+    for number in [2, 17, 300] {
+        assert_for(&rt, go_from_a_new_set(&rt, rt.alloc(), number), &number);
+    }
 }

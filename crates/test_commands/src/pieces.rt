@@ -1,0 +1,59 @@
+//! Pieces of what is pending: when they are written, and what stays where they can't be.
+
+use crate::assert_for;
+use crate::memory::Page;
+use std::alloc::Global;
+use std::process::Abort;
+use text_streams::faults::AppFault;
+use text_streams::streams::{Io, write_full};
+
+/// As many bytes of pending text.
+fn pending(rt: &impl Abort, alloc: Global, number: usize) -> String {
+    "a".repeat(alloc, number).expect(rt, "room")
+}
+
+/// Whether of as many pending bytes so many are written, and the others stay pending.
+fn moves(rt: &impl Abort, alloc: Global, number: usize, written: usize) -> bool {
+    let mut pending = pending(rt, alloc, number);
+    let mut writer = Io::new(Vec::new(alloc));
+    let answer = write_full(&mut writer, &mut pending);
+    answer == Ok(())
+        && pending.len() == number.saturating_sub(written)
+        && writer.into_inner().len() == written
+}
+
+/// How many bytes are pending, and how many of them are written: all, once they are a piece of 65,536 bytes.
+const PIECES: [(usize, usize); 7] = [
+    (0, 0),
+    (1, 0),
+    (65_535, 0),
+    (65_536, 65_536),
+    (65_537, 65_537),
+    (200_000, 200_000),
+    (1_200_000, 1_200_000),
+];
+
+#[test]
+fn a_piece_is_written_once_it_is_full(rt: HostRuntime) {
+    for (number, written) in &PIECES {
+        assert_for(&rt, moves(&rt, rt.alloc(), *number, *written), number);
+    }
+}
+
+/// Whether as many bytes stay pending where the page fails, or has no room for all.
+fn stay_pending(rt: &impl Abort, alloc: Global, number: usize, fails_at: u64) -> bool {
+    let mut pending = pending(rt, alloc, number);
+    let answer = write_full(&mut Page::new(usize::MAX, fails_at), &mut pending);
+    answer == Err(AppFault::Write) && pending.len() == number
+}
+
+#[test]
+fn a_piece_that_is_refused_stays_pending(rt: HostRuntime) {
+    for fails_at in 0..3u64 {
+        assert_for(
+            &rt,
+            stay_pending(&rt, rt.alloc(), 65_536, fails_at),
+            &fails_at,
+        );
+    }
+}
