@@ -194,11 +194,11 @@ fn many_steps(rt: HostRuntime) {
     assert_that(&rt, gives(rt.alloc(), &script, &lines));
 }
 
-/// As many lines of output as there are steps, and a script of 960,000 bytes.
+/// As many lines of output as there are steps, and a script of 808,000 bytes.
 #[test]
 fn many_lines_of_output(rt: HostRuntime) {
-    let script = "1 leave\n".repeat(rt.alloc(), 120_000).expect(&rt, "room");
-    let lines = "no\n".repeat(rt.alloc(), 120_000).expect(&rt, "room");
+    let script = "1 leave\n".repeat(rt.alloc(), 101_000).expect(&rt, "room");
+    let lines = "no\n".repeat(rt.alloc(), 101_000).expect(&rt, "room");
     assert_that(&rt, gives(rt.alloc(), &script, &lines));
 }
 
