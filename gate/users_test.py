@@ -61,6 +61,8 @@ class Begin(unittest.TestCase):
         crate = folder / "crates" / example
         status, said, why = tried(crate, stored(crate, "stdin"))
         self.assertEqual((status, said), (0, stored(TOP / "crates" / example, "stdout")), why)
+        page, needs = (folder / "README.md").read_text(encoding="utf-8"), " < stdin" if stored(crate, "stdin") else ""
+        self.assertIn(f"| `rt try{needs}` | `crates/{example}` |", page)
 
     def test_a_repository_over_sets_runs(self):
         self.runs("set", "example_hello")
