@@ -85,7 +85,9 @@ fn intern_both<'s, R: Wait + Abort>(rt: &R, set: &'s DefaultSet, own: &str) -> B
 
 /// Whether two threads have one atom of the text that both interned.
 fn is_shared(left: &DefaultAtom<'_>, right: &DefaultAtom<'_>) -> bool {
-    left == right && are_one(left, right)
+    let is_equal = left == right;
+    let is_one = are_one(left, right);
+    is_equal && is_one
 }
 
 /// Whether they have, and atoms of texts of their own.

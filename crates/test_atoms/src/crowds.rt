@@ -2,6 +2,7 @@
 
 use crate::samples::{BITS, buckets_of, check_linked, clone_of, intern};
 use crate::sets::{self, Size, USUAL, ask};
+use crate::together::Together;
 use crate::{assert_for, assert_that};
 use std::alloc::Global;
 use std::process::Abort;
@@ -27,7 +28,7 @@ pub enum Question<'q> {
 }
 
 /// Asks it of a set, which has no text afterwards.
-pub fn check<S: SharedSet + Send + Sync, R: Threads + Wait + Abort + Sync>(
+pub fn check<S: SharedSet + Together + Send + Sync, R: Threads + Wait + Abort + Sync>(
     rt: &R,
     set: S,
     question: Question<'_>,
@@ -266,7 +267,7 @@ fn is_cloned<S: SharedSet, R: Wait + Abort>(rt: &R, set: S, text: &str) -> bool 
 }
 
 /// Interns, clones and drops each of the texts, so often. Whether each atom had its text.
-fn turn_over<S: SharedSet, R: Wait + Abort>(
+pub fn turn_over<S: SharedSet, R: Wait + Abort>(
     rt: &R,
     set: S,
     rounds: usize,
@@ -287,7 +288,7 @@ fn are_all(turns: &[bool], number: usize) -> bool {
 }
 
 /// So many workers, each with so many rounds, at these texts. Whether each atom had its text, and whether none is left linked.
-fn work_together<S: SharedSet + Send + Sync, R: Threads + Wait + Abort + Sync>(
+fn work_together<S: SharedSet + Together + Send + Sync, R: Threads + Wait + Abort + Sync>(
     rt: &R,
     set: S,
     (number, rounds): (usize, usize),
@@ -297,14 +298,14 @@ fn work_together<S: SharedSet + Send + Sync, R: Threads + Wait + Abort + Sync>(
         rt,
         set.allocator(),
         number,
-        &|_| { turn_over(rt, set, rounds, texts) },
+        &|_| { set.turn_over_all(rt, rounds, texts) },
     );
     let turns = turns.expect(rt, "room");
     set.sweep(rt);
     links(rt, set, 0) && are_all(&turns, number)
 }
 
-fn check_workers<S: SharedSet + Send + Sync, R: Threads + Wait + Abort + Sync>(
+fn check_workers<S: SharedSet + Together + Send + Sync, R: Threads + Wait + Abort + Sync>(
     rt: &R,
     set: S,
     crew: (usize, usize),

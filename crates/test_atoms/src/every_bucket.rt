@@ -120,13 +120,13 @@ fn has_texts<S: SharedSet, R: Wait>(
     let [_, kept, text] = bytes_of(kind);
     set.linked(rt) == number as u128
         && visits(rt, set, number, holders)
-        && set.memory(rt) == number as u128 * (kept + text)
+        && set.memory(rt) == (number as u128).saturating_mul(kept.saturating_add(text))
 }
 
 /// Whether the set has no text, and each bucket what it keeps once it had one.
 fn is_empty<S: SharedSet, R: Wait>(rt: &R, set: S, kind: Kind, number: usize) -> bool {
     let [_, kept, _] = bytes_of(kind);
-    set.linked(rt) == 0 && set.memory(rt) == number as u128 * kept
+    set.linked(rt) == 0 && set.memory(rt) == (number as u128).saturating_mul(kept)
 }
 
 /// Whether the texts are linked and found, each with one holder.
@@ -169,7 +169,8 @@ fn go_alone<S: SharedSet, R: Wait + Abort>(rt: &R, set: S, kind: Kind, texts: &[
 /// Checks a set of as many buckets, of which each has one of the texts.
 pub fn check<S: SharedSet, R: Wait + Abort>(rt: &R, set: S, kind: Kind, texts: &[String]) {
     let [bucket, _, _] = bytes_of(kind);
-    assert_that(rt, set.memory(rt) == texts.len() as u128 * bucket);
+    let of_none = (texts.len() as u128).saturating_mul(bucket);
+    assert_that(rt, set.memory(rt) == of_none);
     assert_that(rt, are_swept(rt, set, kind, texts));
     assert_that(rt, go_alone(rt, set, kind, texts));
 }

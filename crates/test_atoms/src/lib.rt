@@ -51,6 +51,8 @@ mod texts;
 #[cfg(test)]
 mod threads;
 #[cfg(test)]
+mod together;
+#[cfg(test)]
 mod told;
 #[cfg(test)]
 mod visits;

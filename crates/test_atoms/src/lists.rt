@@ -4,6 +4,7 @@ mod many;
 
 use crate::samples::{check_linked, intern, new_set};
 use crate::sets::{self, ONE_BUCKET, Size, USUAL, ask, within};
+use crate::together::Together;
 use crate::{assert_for, assert_that};
 use std::alloc::Global;
 use std::process::Abort;
@@ -34,7 +35,11 @@ pub enum Scene {
 }
 
 /// Plays the scene in a set.
-fn act<S: SharedSet + Send + Sync, R: Threads + Wait + Abort + Sync>(rt: &R, set: S, scene: Scene) {
+fn act<S: SharedSet + Together + Send + Sync, R: Threads + Wait + Abort + Sync>(
+    rt: &R,
+    set: S,
+    scene: Scene,
+) {
     match scene {
         Scene::EachForm => lend_each_form(rt, set, &list_of(rt, set, &FORMS)),
         Scene::NarrowSet => fill_narrow_set(rt, set, &mut list_of(rt, set, &TWICE)),
@@ -52,7 +57,7 @@ fn act<S: SharedSet + Send + Sync, R: Threads + Wait + Abort + Sync>(rt: &R, set
 }
 
 /// Plays the scene in a set, which has no text afterwards.
-pub fn play<S: SharedSet + Send + Sync, R: Threads + Wait + Abort + Sync>(
+pub fn play<S: SharedSet + Together + Send + Sync, R: Threads + Wait + Abort + Sync>(
     rt: &R,
     set: S,
     scene: Scene,
@@ -311,11 +316,16 @@ fn texts_in_a_list(rt: HostRuntime) {
     play_both(&rt, rt.alloc(), USUAL, Scene::Texts);
 }
 
+/// The word of the ticket of this serial in the bucket of "interned", 0x210.
+fn word_of_serial(serial: u64) -> u64 {
+    serial.saturating_mul(0x1_0000).saturating_add(0x840)
+}
+
 /// Whether the text's place in a new list is the atom of the ticket of this serial.
 fn comes_with<S: SharedSet, R: Wait + Abort>(rt: &R, set: S, serial: u64) -> bool {
     let mut list = list_of(rt, set, &["interned"]);
     match pop(&mut list) {
-        Some(atom) => is_of(&atom, ticket_word(serial, 0x210), "interned"),
+        Some(atom) => is_of(&atom, word_of_serial(serial), "interned"),
         None => false,
     }
 }
@@ -392,21 +402,27 @@ fn is_filled<S: SharedSet, R: Wait>(rt: &R, list: &mut SetList<S>, texts: [&str;
 }
 
 /// Does so with a list, which goes with the rest.
-fn fills_and_goes<S: SharedSet, R: Wait>(rt: &R, set: S, texts: [&str; 4]) -> bool {
+pub fn fills_and_goes<S: SharedSet, R: Wait>(rt: &R, set: S, texts: [&str; 4]) -> bool {
     is_filled(rt, &mut ListOf::new(set), texts)
 }
 
 /// Whether two threads fill lists of one set.
-fn two_fill<S: SharedSet + Send + Sync, R: Threads + Wait + Sync>(rt: &R, set: S) -> bool {
+fn two_fill<S: SharedSet + Together + Send + Sync, R: Threads + Wait + Sync>(
+    rt: &R,
+    set: S,
+) -> bool {
     let (left, right) = thread::join(
         rt,
-        || fills_and_goes(rt, set, ["interned", "tokenised", "ab", "repeated"]),
-        || fills_and_goes(rt, set, ["repeated", "geometric", "interned", "Überfluß"]),
+        || set.fill(rt, ["interned", "tokenised", "ab", "repeated"]),
+        || set.fill(rt, ["repeated", "geometric", "interned", "Überfluß"]),
     );
     left && right
 }
 
-fn fill_in_two<S: SharedSet + Send + Sync, R: Threads + Wait + Abort + Sync>(rt: &R, set: S) {
+fn fill_in_two<S: SharedSet + Together + Send + Sync, R: Threads + Wait + Abort + Sync>(
+    rt: &R,
+    set: S,
+) {
     assert_that(rt, two_fill(rt, set));
     set.sweep(rt);
 }

@@ -150,7 +150,7 @@ fn end<T: Drop>(last: &mut Option<T>) {
 fn let_die<S: SharedSet, R: Wait + Abort>(rt: &R, set: S, held: u64) {
     let mut last = Some(numbered_atoms(rt, set, 0..300));
     set.for_each(rt, |_, _| end(&mut last));
-    assert_that(rt, visited(rt, set) == (300 + held, held));
+    assert_that(rt, visited(rt, set) == (held.saturating_add(300), held));
 }
 
 /// They go with the next sweep, with a text that is interned then or looked for, and with the end of a text's last atom. The others stay.
@@ -161,8 +161,8 @@ fn let_go_beside<S: SharedSet, R: Wait + Abort>(rt: &R, set: S, held: u64) {
     check_linked(rt, set, left);
     let_die(rt, set, held);
     let atom = intern(rt, set, "interned");
-    check_linked(rt, set, left + 1);
-    let_die(rt, set, held + 1);
+    check_linked(rt, set, left.saturating_add(1));
+    let_die(rt, set, held.saturating_add(1));
     drop(atom);
     check_linked(rt, set, left);
     let_die(rt, set, held);

@@ -70,7 +70,10 @@ fn ask<R: Threads + Wait + Abort + Sync>(rt: &R, alloc: Global, question: Questi
 
 /// Whether two atoms are one, and of this text.
 fn are_one_of<N: SetName>(atom: &Word<'_, N>, other: &Word<'_, N>, text: &str) -> bool {
-    atom == other && are_one(atom, other) && has_text(other, text)
+    let is_equal = atom == other;
+    let is_one = are_one(atom, other);
+    let has_text = has_text(other, text);
+    is_equal && is_one && has_text
 }
 
 /// Whether two atoms are two.

@@ -7,6 +7,7 @@ ghost use Rattle.std.specs.Prelude.{◌≡◌};
 
 use crate::samples::buckets_of;
 use crate::scenes::{self, Step};
+use crate::together::Together;
 use crate::{
     assert_that, bits, crowds, every_bucket, forms, lists, many, texts, threads, told, waits,
 };
@@ -79,7 +80,7 @@ pub enum Question<'q> {
 }
 
 /// Asks it of a set that has to have these limits.
-fn asked<S: SharedSet + Send + Sync, R: Threads + Clock + Wait + Abort + Sync>(
+fn asked<S: SharedSet + Together + Send + Sync, R: Threads + Clock + Wait + Abort + Sync>(
     rt: &R,
     set: S,
     kind: Kind,

@@ -3,6 +3,7 @@
 use crate::assert_that;
 use crate::samples::{check_linked, clone_of, intern};
 use crate::sets::{self, Size, USUAL, ask, within};
+use crate::together::Together;
 use std::alloc::Global;
 use std::process::Abort;
 use std::sync::Wait;
@@ -21,7 +22,7 @@ pub enum Scene {
 }
 
 /// Plays the scene in a set, which has no text afterwards.
-pub fn play<S: SharedSet + Send + Sync, R: Threads + Wait + Abort + Sync>(
+pub fn play<S: SharedSet + Together + Send + Sync, R: Threads + Wait + Abort + Sync>(
     rt: &R,
     set: S,
     scene: Scene,
@@ -56,7 +57,7 @@ fn comes_and_goes<S: SharedSet, R: Wait + Abort>(rt: &R, set: S, text: &str) -> 
 }
 
 /// Does so with each of the texts, again and again.
-fn turn_over<S: SharedSet, R: Wait + Abort>(rt: &R, set: S) -> bool {
+pub fn turn_over<S: SharedSet, R: Wait + Abort>(rt: &R, set: S) -> bool {
     let mut is_same = true;
     for _ in 0..100 {
         for text in "interned tokenised document repeated".split_whitespace() {
@@ -66,8 +67,11 @@ fn turn_over<S: SharedSet, R: Wait + Abort>(rt: &R, set: S) -> bool {
     is_same
 }
 
-fn work_in_two<S: SharedSet + Send + Sync, R: Threads + Wait + Abort + Sync>(rt: &R, set: S) {
-    let (left, right) = thread::join(rt, || turn_over(rt, set), || turn_over(rt, set));
+fn work_in_two<S: SharedSet + Together + Send + Sync, R: Threads + Wait + Abort + Sync>(
+    rt: &R,
+    set: S,
+) {
+    let (left, right) = thread::join(rt, || set.turn_over(rt), || set.turn_over(rt));
     assert_that(rt, left && right);
     set.sweep(rt);
 }
@@ -78,7 +82,7 @@ fn threads_at_work(rt: HostRuntime) {
 }
 
 /// Clones and drops an atom of its own, again and again.
-fn clone_and_drop<S: SharedSet, R: Wait + Abort>(rt: &R, set: S) {
+pub fn clone_and_drop<S: SharedSet, R: Wait + Abort>(rt: &R, set: S) {
     let atom = intern(rt, set, "interned");
     for _ in 0..30_000 {
         drop(clone_of(rt, &atom));
@@ -102,12 +106,18 @@ fn takes_three_more<H: AtomKind, R: Wait + Abort>(rt: &R, atom: &SetAtom<H>) -> 
     takes_two_more(rt, &second)
 }
 
-fn clone_in_two<S: SharedSet + Send + Sync, R: Threads + Wait + Abort + Sync>(rt: &R, set: S) {
-    thread::join(rt, || clone_and_drop(rt, set), || clone_and_drop(rt, set));
+fn clone_in_two<S: SharedSet + Together + Send + Sync, R: Threads + Wait + Abort + Sync>(
+    rt: &R,
+    set: S,
+) {
+    thread::join(rt, || set.clone_and_drop(rt), || set.clone_and_drop(rt));
 }
 
 /// Two threads clone atoms of one text, of which each has one, so that there are at most four holders.
-fn clone_one_text<S: SharedSet + Send + Sync, R: Threads + Wait + Abort + Sync>(rt: &R, set: S) {
+fn clone_one_text<S: SharedSet + Together + Send + Sync, R: Threads + Wait + Abort + Sync>(
+    rt: &R,
+    set: S,
+) {
     clone_in_two(rt, set);
     set.sweep(rt);
     let atom = intern(rt, set, "interned");
@@ -136,7 +146,7 @@ fn meet<R: Wait>(rt: &R, gate: &AtomicU64, times: u64) {
 
 /// Interns a text at the same time as another thread does, which nobody holds before, in each of 2,000 rounds. In how many both had
 /// one word.
-fn intern_beside<S: SharedSet, R: Wait + Abort>(
+pub fn intern_beside<S: SharedSet, R: Wait + Abort>(
     rt: &R,
     set: S,
     gate: &AtomicU64,
@@ -174,21 +184,24 @@ impl Meeting {
     }
 }
 
-fn intern_in_two<S: SharedSet + Send + Sync, R: Threads + Wait + Abort + Sync>(
+fn intern_in_two<S: SharedSet + Together + Send + Sync, R: Threads + Wait + Abort + Sync>(
     rt: &R,
     set: S,
     at: &Meeting,
 ) {
     let (left, right) = thread::join(
         rt,
-        || intern_beside(rt, set, &at.gate, &at.one, &at.two),
-        || intern_beside(rt, set, &at.gate, &at.two, &at.one),
+        || set.intern_beside(rt, &at.gate, &at.one, &at.two),
+        || set.intern_beside(rt, &at.gate, &at.two, &at.one),
     );
     assert_that(rt, left == 2_000 && right == 2_000);
     set.sweep(rt);
 }
 
-fn meet_at_one_text<S: SharedSet + Send + Sync, R: Threads + Wait + Abort + Sync>(rt: &R, set: S) {
+fn meet_at_one_text<S: SharedSet + Together + Send + Sync, R: Threads + Wait + Abort + Sync>(
+    rt: &R,
+    set: S,
+) {
     intern_in_two(rt, set, &Meeting::new());
 }
 

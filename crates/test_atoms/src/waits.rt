@@ -5,6 +5,7 @@ use crate::assert_for;
 use crate::samples::{check_linked, clone_of, intern, shown};
 use crate::scenes::{self, Step};
 use crate::sets::{self, Kind, ONE_BUCKET, USUAL, ask};
+use crate::together::Together;
 use serde_json::Value;
 use std::process::Abort;
 use std::sync::Wait;
@@ -38,7 +39,7 @@ impl Call {
 
 /// Where the visit and the call wait for each other.
 #[derive(Drop)]
-struct Meeting {
+pub struct Meeting {
     is_ready: AtomicBool,
     is_locked: AtomicBool,
     has_ended: AtomicBool,
@@ -82,7 +83,7 @@ impl Meeting {
 }
 
 /// Visits the set, and stays at the text. Whether the call ended meanwhile.
-fn visits_long<S: SharedSet, R: Clock + Wait>(
+pub fn visits_long<S: SharedSet, R: Clock + Wait>(
     rt: &R,
     set: S,
     at: &Meeting,
@@ -189,8 +190,22 @@ fn works<S: SharedSet, R: Clock + Wait + Abort>(
     is_right
 }
 
+/// What the call tells, in which a thread meets the visit.
+pub fn works_beside<S: SharedSet, R: Clock + Wait + Abort>(
+    rt: &R,
+    set: S,
+    kind: Kind,
+    at: &Meeting,
+    call: Call,
+) -> bool {
+    match call {
+        Call::Unlocked => works_unlocked(rt, set, at),
+        _ => works(rt, set, kind, at, call),
+    }
+}
+
 /// Whether the call tells what it must, and whether it ended while a visit had the last bucket's lock.
-fn beside<S: SharedSet + Send + Sync, R: Threads + Clock + Wait + Abort + Sync>(
+fn beside<S: SharedSet + Together + Send + Sync, R: Threads + Clock + Wait + Abort + Sync>(
     rt: &R,
     set: S,
     kind: Kind,
@@ -200,11 +215,8 @@ fn beside<S: SharedSet + Send + Sync, R: Threads + Clock + Wait + Abort + Sync>(
     let most = if call.needs_none() { 10_000 } else { 500 };
     thread::join(
         rt,
-        || match call {
-            Call::Unlocked => works_unlocked(rt, set, &at),
-            _ => works(rt, set, kind, &at, call),
-        },
-        || visits_long(rt, set, &at, "geometric", most),
+        || set.call(rt, kind, &at, call),
+        || set.visit_long(rt, &at, "geometric", most),
     )
 }
 
@@ -218,7 +230,7 @@ const BOTH_DIE: [Step; 5] = [
 ];
 
 /// Makes the call beside a visit of two texts.
-fn call_beside<S: SharedSet + Send + Sync, R: Threads + Clock + Wait + Abort + Sync>(
+fn call_beside<S: SharedSet + Together + Send + Sync, R: Threads + Clock + Wait + Abort + Sync>(
     rt: &R,
     set: S,
     kind: Kind,
@@ -230,7 +242,7 @@ fn call_beside<S: SharedSet + Send + Sync, R: Threads + Clock + Wait + Abort + S
 }
 
 /// Plays it in a set, which has no text afterwards.
-pub fn play<S: SharedSet + Send + Sync, R: Threads + Clock + Wait + Abort + Sync>(
+pub fn play<S: SharedSet + Together + Send + Sync, R: Threads + Clock + Wait + Abort + Sync>(
     rt: &R,
     set: S,
     kind: Kind,
