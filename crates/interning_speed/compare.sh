@@ -48,8 +48,9 @@ done
 for threads in 1 2 4; do
     compare crowd 20000 12 "$threads"
 done
-for bits in 12 14; do
-    for texts in 10000 100000; do
+for bits in 8 10; do
+    for texts in 100 10000 100000; do
         compare named "$texts" "$bits" 1
     done
+    turns=1 compare named 1000000 "$bits" 1
 done

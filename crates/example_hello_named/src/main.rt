@@ -1,4 +1,4 @@
-//! Two threads intern one word in a set with a name. Their atoms are equal, as one comparison of two numbers tells.
+//! Two threads intern one word in a set with a name. Their atoms are equal, as a single comparison of two numbers shows.
 #![tactic(auto)]
 
 ghost use Rattle.std.specs.Prelude.{◌≡◌, IfOk, IsTrue};
@@ -11,7 +11,7 @@ use std::sync::Wait;
 use std::thread::{self, Threads};
 use text_forms::Fault;
 use text_forms::static_sets::EmptyStaticAtomSet;
-use text_forms::word::{Buckets, Limits};
+use text_forms::word::Limits;
 
 fn main(rt: HostRuntime) -> Result<(), anyhow::Error> {
     let same = meet(&rt, rt.alloc())?;
@@ -19,11 +19,11 @@ fn main(rt: HostRuntime) -> Result<(), anyhow::Error> {
     Ok(())
 }
 
-/// Whether two threads are given one word for one text, in a set that is made for it.
+/// Whether two threads get the same word for the same text, in a set that is made for it.
 fn meet<R: Threads + Wait + Sync>(rt: &R, alloc: Global) -> Result<bool, Fault>
     ensures { IfOk result (λ same. IsTrue same) }
 {
-    let name = FreshName::new(alloc, Buckets::usual())?;
+    let name = FreshName::usual(alloc)?;
     meet_named::<Brand, R>(rt, alloc, name)
 }
 

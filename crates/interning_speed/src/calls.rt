@@ -7,7 +7,7 @@ use std::rt::Clock;
 use std::sync::Wait;
 use std::time::Instant;
 
-/// Drops the atoms, the last one first. How many that were, and how long it took.
+/// Drops the atoms, the last one first. Returns how many there were, and how long it took.
 pub fn drop_all<T: Drop, R: Clock>(
     rt: &R,
     name: &'static str,
@@ -26,7 +26,7 @@ pub fn drop_all<T: Drop, R: Clock>(
     })
 }
 
-/// Compares each atom of one list with the one at its place in the other, so many times. How often `==` said what it has to say.
+/// Compares each atom of one list with the one at its place in the other, this many times. Returns how often `==` gave the right answer.
 pub fn compare_all<T: PartialEq>(
     rounds: usize,
     lefts: &[T],
@@ -50,7 +50,7 @@ pub struct Pairs<T: Drop> {
 }
 
 impl<T: Drop> Pairs<T> {
-    /// No atoms, with room for so many on each side.
+    /// No atoms, with room for this many on each side.
     pub fn with_capacity(alloc: Global, count: usize) -> Result<Pairs<T>, AllocError> {
         Ok(Pairs {
             lefts: Vec::with_capacity(alloc, count)?,
@@ -69,7 +69,7 @@ pub struct Timed<'s, S: Shared, R: Wait> {
 }
 
 impl<'s, S: Shared, R: Wait + Clock> Timed<'s, S, R> {
-    /// Interns the texts, and adds their atoms to those, of which there are none.
+    /// Interns the texts, and adds their atoms to `atoms`, which is empty.
     fn intern_into(
         &mut self,
         name: &'static str,
@@ -82,7 +82,7 @@ impl<'s, S: Shared, R: Wait + Clock> Timed<'s, S, R> {
             .note(self.rt, name, texts.len(), atoms.len(), start)
     }
 
-    /// Interns the texts, and answers their atoms.
+    /// Interns the texts, and returns their atoms.
     pub fn intern(
         &mut self,
         name: &'static str,
@@ -93,7 +93,7 @@ impl<'s, S: Shared, R: Wait + Clock> Timed<'s, S, R> {
         Ok(atoms)
     }
 
-    /// Clones the atoms, and adds the clones to those, of which there are none.
+    /// Clones the atoms, and adds the clones to `clones`, which is empty.
     fn clone_into(
         &mut self,
         atoms: &[S::Atom],

@@ -31,7 +31,7 @@ fn intern_own<S: Shared, R: Wait>(
     Ok(atoms)
 }
 
-/// How many atoms all threads hold.
+/// The number of atoms that all threads hold.
 fn count_of<T: Drop>(held: &[Result<Vec<T>, Fault>]) -> Result<usize, Fault> {
     let mut count = 0usize;
     for atoms in held {
@@ -43,7 +43,7 @@ fn count_of<T: Drop>(held: &[Result<Vec<T>, Fault>]) -> Result<usize, Fault> {
     Ok(count)
 }
 
-/// Notes this number of calls since then, by the atoms that all threads hold.
+/// Notes this many calls since then, by the atoms that all threads hold.
 fn note_held<T: Drop, R: Clock>(
     rt: &R,
     phases: &mut Phases,
@@ -103,8 +103,8 @@ where
     )
 }
 
-/// Times this number of threads, each of which interns all texts and holds their atoms until all have ended. Every other one goes
-/// through them in the other order.
+/// Times this many threads, each of which interns all texts and holds their atoms until all have ended. Every other one goes through them in the
+/// other order.
 pub fn measure<R: Threads + Wait + Clock + Sync>(
     rt: &R,
     alloc: Global,

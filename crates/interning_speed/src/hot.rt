@@ -27,7 +27,7 @@ const DYNAMIC: [&str; 8] = [
     "vertical-align",
 ];
 
-/// The same texts in the other order: no text stands at its place.
+/// The same texts in the other order: no text is at its place.
 const TURNED: [&str; 8] = [
     "vertical-align",
     "transition-duration",
@@ -39,9 +39,9 @@ const TURNED: [&str; 8] = [
     "background-color",
 ];
 
-/// A set whose atoms tell of themselves, and are dropped at once.
+/// A set whose atoms are asked about themselves, and dropped at once.
 trait Telling: Shared {
-    /// Interns the texts in turn, so many times, and drops each atom at once. How often that had the text's length.
+    /// Interns the texts in turn, this many times, and drops each atom at once. Returns how often that had the text's length.
     fn intern_rounds<R: Wait>(self, rt: &R, rounds: usize, texts: &[&str]) -> Result<usize, Fault>;
 
     /// Whether a clone's text is kept in the set.
@@ -67,7 +67,7 @@ impl<'s, Static: StaticAtomSet> Telling for &'s Set<Static> {
     }
 }
 
-/// Clones the atoms in turn, so many times, and drops each clone at once. How often that was one whose text the set keeps.
+/// Clones the atoms in turn, this many times, and drops each clone at once. Returns how often that was one whose text the set keeps.
 fn clone_all<S: Telling, R: Wait>(
     rt: &R,
     rounds: usize,
@@ -91,7 +91,7 @@ fn owned(alloc: Global, texts: &[&str]) -> Result<Vec<String>, AllocError> {
     Ok(strings)
 }
 
-/// Adds the atoms of the texts to those.
+/// Adds the atoms of the texts to `atoms`.
 fn push_atoms<S: Shared, R: Wait>(
     rt: &R,
     alloc: Global,
@@ -109,13 +109,13 @@ struct Hot<'s, S: Shared, R: Wait> {
     rt: &'s R,
     alloc: Global,
     set: S,
-    /// How often each call is made of each text.
+    /// How often each call is made for each text.
     rounds: usize,
     phases: &'s mut Phases,
 }
 
 impl<'s, S: Telling, R: Wait + Clock> Hot<'s, S, R> {
-    /// Notes the calls on this number of texts since then: how long they took, and how many did what they were made for.
+    /// Notes the calls on this many texts since then: how long they took, and how many did what they were made for.
     fn note(
         &mut self,
         name: &'static str,
@@ -190,8 +190,8 @@ fn texts_of<Static: StaticAtomSet>() -> &'static [&'static str] {
     Static::get().atoms
 }
 
-/// Times interning inline, static and held dynamic texts, each with its drop, cloning and dropping, and comparing atoms of one
-/// text and of two: this number of rounds of each.
+/// Times interning inline, static and held dynamic texts, each with its drop, cloning and dropping, and comparing atoms of one text and of two: this
+/// many rounds of each.
 pub fn measure<R: Wait + Clock>(
     rt: &R,
     alloc: Global,

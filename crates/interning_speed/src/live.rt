@@ -1,4 +1,4 @@
-//! The calls of a set, beside many live texts.
+//! The calls of a set with many live texts.
 
 use crate::calls::{Timed, drop_all};
 use crate::phases::Phases;
@@ -13,7 +13,7 @@ use string_cache::word::{Buckets, Limits};
 
 /// A set that tells how many texts it has.
 trait Counted: Shared {
-    /// How many of its texts are linked.
+    /// The number of its texts that are linked.
     fn linked<R: Wait>(self, rt: &R) -> u128;
 }
 
@@ -24,7 +24,7 @@ impl<'s> Counted for &'s Set<EmptyStaticAtomSet> {
 }
 
 impl<'s, S: Counted, R: Wait + Clock> Timed<'s, S, R> {
-    /// Drops the atoms, the last one first. Each of them is the last of its text, or none is.
+    /// Drops the atoms, the last one first. Either each of them is the last of its text, or none is.
     fn drop_counted(
         &mut self,
         name: &'static str,
@@ -44,7 +44,7 @@ impl<'s, S: Counted, R: Wait + Clock> Timed<'s, S, R> {
         self.drop_counted("drop of a clone", clones, false)
     }
 
-    /// Interns texts that are new, and drops their atoms.
+    /// Interns new texts, and drops their atoms.
     fn intern_and_drop(&mut self, texts: &[String]) -> Result<(), anyhow::Error> {
         let newest = self.intern("intern of one more new text", texts)?;
         self.drop_counted("last drop, of the newest", newest, true)
@@ -61,7 +61,7 @@ impl<'s, S: Counted, R: Wait + Clock> Timed<'s, S, R> {
     }
 }
 
-/// How many of these drops took their text out of the set, or left it there, where so many texts are gone.
+/// How many of these drops took their text out of the set, or left it there, if this many texts are gone.
 fn done_of(calls: usize, gone: u128, is_last: bool) -> usize {
     let gone = usize::try_from(gone).unwrap_or(0);
     if is_last {
@@ -71,8 +71,8 @@ fn done_of(calls: usize, gone: u128, is_last: bool) -> usize {
     }
 }
 
-/// Times each kind of call: interning texts that are new, and in another order where they are there, cloning the atoms in
-/// that order, the ends of the clones, those of the last atoms of the newest texts, and those of the last atoms of all.
+/// Times each kind of call: interning texts when they are new, and in another order when they are there, cloning the atoms in that order, the ends of
+/// the clones, those of the last atoms of the newest texts, and those of the last atoms of all.
 pub fn measure<R: Wait + Clock>(
     rt: &R,
     alloc: Global,

@@ -25,7 +25,7 @@ use string_cache::table::TrustedTexts;
 use string_cache::word::Buckets;
 use texts::{Kind, Texts};
 
-/// What is printed of each kind of call.
+/// What is printed for each kind of call.
 #[derive(Clone, Copy)]
 enum Report {
     /// How many calls did what they were made for: always the same.
@@ -37,19 +37,19 @@ enum Report {
 /// What is timed.
 #[derive(Clone, Copy, PartialEq, Eq)]
 enum Subject {
-    /// The table for one thread with the quick hasher, with this number of texts.
+    /// The table for one thread with the fast hasher, with this many texts.
     Table,
-    /// That with random keys, with this number of texts.
+    /// The same with random keys, with this many texts.
     Keyed,
-    /// The same, with this number of texts that all have one hash under the quick hasher.
+    /// The same, with this many texts that all have the same hash under the fast hasher.
     Chosen,
-    /// The set, on a few texts over and over, so often.
+    /// The set, on a few texts over and over, this many times.
     Hot,
-    /// The set, with this number of live texts.
+    /// The set, with this many live texts.
     Live,
-    /// The set, with this number of texts, interned by threads at once.
+    /// The set, with this many texts, interned by threads at once.
     Crowd,
-    /// The set with a name, with this number of live texts.
+    /// The set with a name, with this many live texts.
     Named,
 }
 
@@ -92,7 +92,7 @@ impl fmt::Display for Subject {
 }
 
 impl Subject {
-    /// How many texts are made for it, where the arguments have this number: none if it has a few of its own.
+    /// How many texts are made for it if the arguments have this number: none if it has a few of its own.
     fn texts(self, number: usize) -> usize {
         match self {
             Subject::Hot => 0,
@@ -119,7 +119,7 @@ const ALL: [Subject; 7] = [
     Subject::Named,
 ];
 
-/// The subject that the word names, or `None` where it names all. `Err` where it is no word for either.
+/// The subject that the word names, or `None` if it names all. `Err` if it names neither.
 fn subject_of(word: &str) -> Result<Option<Subject>, ()> {
     match word {
         "table" => Ok(Some(Subject::Table)),
@@ -134,7 +134,7 @@ fn subject_of(word: &str) -> Result<Option<Subject>, ()> {
     }
 }
 
-/// What the words ask for, or `None` where they aren't those of a command.
+/// What the words ask for, or `None` if they aren't those of a command.
 fn command_of(words: &[String]) -> Option<Command> {
     let [report, subject, number, bits, workers] = words else {
         return None;
@@ -153,7 +153,7 @@ fn command_of(words: &[String]) -> Option<Command> {
     })
 }
 
-/// `None` where the arguments aren't those of a command.
+/// `None` if the arguments aren't those of a command.
 fn asked_for(rt: &(impl Env + AllocGlobal)) -> Result<Option<Command>, anyhow::Error> {
     let words: Vec<String> = env::args(rt)?.skip(1).collect(rt.alloc())?;
     Ok(command_of(words.as_slice()))
@@ -211,7 +211,7 @@ fn print_all(rt: &impl Print, report: Report, phases: &[Phase]) -> Result<(), an
     Ok(())
 }
 
-/// Times a subject, and prints what came of it.
+/// Times a subject, and prints the results.
 fn run_subject<R: Threads + Wait + Clock + RandomSource + Print + Sync>(
     rt: &R,
     alloc: Global,

@@ -1,4 +1,4 @@
-//! The calls of a set with a name, beside many live texts, and of a map by its words.
+//! The calls of a set with a name and many live texts, and of a map by its words.
 
 ghost use Rattle.std.specs.Prelude.{◌≡◌};
 
@@ -37,7 +37,7 @@ impl<'s, N: SetName> Keyed for &'s NamedSet<EmptyStaticAtomSet, N> {
     }
 }
 
-/// A map by words, and the words once more.
+/// A map by words, and the words again.
 #[derive(Drop)]
 struct Places<K: Drop + Eq + Hash> {
     keys: Vec<K>,
@@ -59,7 +59,7 @@ impl<K: Drop + Eq + Hash> Places<K> {
         Ok(())
     }
 
-    /// How many of the words the map has.
+    /// The number of the words that the map has.
     fn found(&self) -> usize {
         let mut done = 0usize;
         for key in &self.keys {
@@ -94,7 +94,7 @@ fn place_all<S: Keyed, R: Wait>(
     Ok(())
 }
 
-/// Adds the atom of a long text to those.
+/// Adds the atom of a long text to `atoms`.
 fn push_long<S: Shared, R: Wait>(
     rt: &R,
     alloc: Global,
@@ -106,7 +106,7 @@ fn push_long<S: Shared, R: Wait>(
     set.intern_all(rt, &texts, atoms)
 }
 
-/// Adds so many pairs of clones of each of these atoms.
+/// Adds this many pairs of clones of each of these atoms.
 fn pair_clones<S: Shared, R: Wait>(
     rt: &R,
     atoms: &[S::Atom],
@@ -120,7 +120,7 @@ fn pair_clones<S: Shared, R: Wait>(
     Ok(())
 }
 
-/// So many pairs of atoms of a long text.
+/// This many pairs of atoms of a long text.
 fn long_pairs<S: Shared, R: Wait>(
     rt: &R,
     alloc: Global,
@@ -160,7 +160,7 @@ impl<'s, S: Keyed, R: Wait + Clock> Timed<'s, S, R> {
         self.compare("== of two texts", atoms, others, false)
     }
 
-    /// Compares so many atoms of one long text with as many others of it.
+    /// Compares this many atoms of one long text with as many others of it.
     fn compare_long(&mut self, count: usize) -> Result<(), anyhow::Error> {
         let pairs = long_pairs(self.rt, self.alloc, self.set, count)?;
         self.compare(
@@ -179,7 +179,7 @@ impl<'s, S: Keyed, R: Wait + Clock> Timed<'s, S, R> {
         self.drop_all("drop of a clone", clones)
     }
 
-    /// Looks the words of the atoms up in this map, which has none yet.
+    /// Looks up the words of the atoms in this map, which has none yet.
     fn look_up_in(
         &mut self,
         atoms: &[S::Atom],
@@ -198,7 +198,7 @@ impl<'s, S: Keyed, R: Wait + Clock> Timed<'s, S, R> {
         )
     }
 
-    /// Looks the words of the atoms up in a map that has them all.
+    /// Looks up the words of the atoms in a map that has them all.
     fn look_up(&mut self, atoms: &[S::Atom]) -> Result<(), anyhow::Error> {
         self.look_up_in(atoms, &mut Places::new(self.alloc))
     }
@@ -214,9 +214,9 @@ impl<'s, S: Keyed, R: Wait + Clock> Timed<'s, S, R> {
     }
 }
 
-/// Times each kind of call in a set that is new: interning texts that are new, and in another order where they are there, cloning the
-/// atoms in that order, the comparison of clones with their atoms and with others, and of atoms of one long text, the ends of the clones,
-/// look-ups by words, and the ends of the last atoms.
+/// Times each kind of call in a new set: interning texts when they are new, and in another order when they are there, cloning the atoms in that
+/// order, comparing clones with their atoms and with others, and atoms of one long text, the ends of the clones, look-ups by words, and the ends of
+/// the last atoms.
 pub fn measure<R: Wait + Clock>(
     rt: &R,
     alloc: Global,

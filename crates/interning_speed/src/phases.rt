@@ -13,12 +13,12 @@ pub struct Phase {
     pub calls: usize,
     /// How many of them did what they were made for.
     pub done: usize,
-    /// From before the first call to behind the last.
+    /// From before the first call to after the last.
     pub time: Duration,
 }
 
 impl Phase {
-    /// How many tenths of a nanosecond a call took. 0 where none was made.
+    /// The tenths of a nanosecond that a call took. 0 if none was made.
     pub fn tenths_each(&self) -> u128 {
         self.time
             .as_nanos()
@@ -42,7 +42,7 @@ impl Phases {
         }
     }
 
-    /// What was timed, the first first.
+    /// What was timed, in order.
     pub fn list(&self) -> &[Phase] {
         &self.list
     }

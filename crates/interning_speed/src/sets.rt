@@ -10,7 +10,7 @@ pub trait Shared: Copy {
     /// An atom of the set.
     type Atom: Drop + PartialEq;
 
-    /// Interns the texts, and adds their atoms to those.
+    /// Interns the texts, and adds their atoms to `atoms`.
     fn intern_all<R: Wait>(
         self,
         rt: &R,
@@ -18,7 +18,7 @@ pub trait Shared: Copy {
         atoms: &mut Vec<Self::Atom>,
     ) -> Result<(), Fault>;
 
-    /// Clones the atoms, and adds the clones to those.
+    /// Clones the atoms, and adds the clones to `clones`.
     fn clone_all<R: Wait>(
         rt: &R,
         atoms: &[Self::Atom],

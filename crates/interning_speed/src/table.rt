@@ -16,10 +16,10 @@ enum Kind {
     Give,
 }
 
-/// What is printed of the calls that clone each word.
+/// What is printed for the calls that clone each word.
 const CLONES: [&str; 1] = ["clone"];
 
-/// What is printed of those that give it, once for each of its holders, of which it has three.
+/// What is printed for those that give it, once for each of its three holders.
 const GIVES: [&str; 3] = ["give", "give again", "give by the last holder"];
 
 /// A table, and the words of the texts that were interned last.
@@ -38,7 +38,7 @@ impl<H: BuildHasher> Measured<H> {
         Ok(())
     }
 
-    /// Interns the texts, and keeps their words instead of others.
+    /// Interns the texts, and keeps their words instead of the earlier ones.
     fn intern<R: Clock>(
         &mut self,
         rt: &R,
@@ -53,7 +53,7 @@ impl<H: BuildHasher> Measured<H> {
         phases.note(rt, name, texts.len(), self.words.len(), start)
     }
 
-    /// Makes the calls, none of which may find its word not held.
+    /// Makes the calls. Each must find its word held.
     fn run<R: Clock>(
         &mut self,
         rt: &R,
@@ -88,7 +88,7 @@ impl<H: BuildHasher> Measured<H> {
         Ok(())
     }
 
-    /// Times each kind of call in a table that is new.
+    /// Times each kind of call in a new table.
     fn measure<R: Clock>(
         &mut self,
         rt: &R,
@@ -115,7 +115,7 @@ fn calls_of(alloc: Global, kind: Kind, words: &[u64]) -> Result<Vec<Call>, Alloc
     Ok(calls)
 }
 
-/// How many of the calls found their word held.
+/// The number of calls that found their word held.
 fn count_done(replies: &[TableReply]) -> usize {
     let mut done = 0usize;
     for reply in replies {
@@ -134,8 +134,8 @@ fn new_table<H: BuildHasher + Drop>(alloc: Global, hasher: H) -> Result<Measured
     })
 }
 
-/// Times each kind of call, in a table with this hasher: interning texts that are new, interning them in another order where they are there, cloning
-/// their words in that order, and giving them three times, the last time by their last holder.
+/// Times each kind of call, in a table with this hasher: interning texts when they are new, interning them in another order when they are there,
+/// cloning their words in that order, and giving them three times, the last time by their last holder.
 pub fn measure<R: Clock, H: BuildHasher + Drop>(
     rt: &R,
     alloc: Global,

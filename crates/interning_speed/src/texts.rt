@@ -9,8 +9,8 @@ use std::alloc::{AllocError, Global};
 pub enum Kind {
     /// Any: 8 to 32 letters.
     Random,
-    /// Those that someone chose who knows the fixed seed of `TrustedTexts`, under which all of them have one hash: the first half of their
-    /// last block is the state that the block before it leaves, and a product with 0 is 0.
+    /// Chosen by someone who knows the fixed seed of `TrustedTexts`, under which all of them have the same hash: the first half of their last block
+    /// is the state that the block before it leaves, and a product with 0 is 0.
     Chosen,
 }
 
@@ -53,7 +53,7 @@ impl Random {
         Ok(text)
     }
 
-    /// Adds so many texts of a kind, which begin with this one.
+    /// Adds this many texts of a kind, beginning with this one.
     fn push_texts(
         &mut self,
         alloc: Global,
@@ -72,8 +72,8 @@ impl Random {
     }
 }
 
-/// Texts of 8 to 32 bytes, and the same texts in another order. Each order lies in memory as it is read, so that reading
-/// them costs little beside the calls.
+/// Texts of 8 to 32 bytes, and the same texts in another order. Each order is in memory as it is read, so that reading them costs little compared to
+/// the calls.
 #[derive(Drop)]
 pub struct Texts {
     first: Vec<String>,
@@ -82,7 +82,7 @@ pub struct Texts {
 }
 
 impl Texts {
-    /// So many texts of a kind, and a tenth as many more.
+    /// This many texts of a kind, and a tenth as many more.
     pub fn new(alloc: Global, kind: Kind, count: usize) -> Result<Texts, AllocError> {
         let mut random = Random {
             state: 0x9e37_79b9_7f4a_7c15,
@@ -96,7 +96,7 @@ impl Texts {
         Ok(texts)
     }
 
-    /// Adds so many texts, and a tenth as many more.
+    /// Adds this many texts, and a tenth as many more.
     fn fill(
         &mut self,
         alloc: Global,
@@ -134,7 +134,7 @@ impl Texts {
         &self.more
     }
 
-    /// How many texts there are, without the other ones.
+    /// The number of texts, without the other ones.
     pub fn len(&self) -> usize {
         self.first.len()
     }

@@ -1,15 +1,20 @@
 -- What is under the lock keeps what it states.
-use Rattle.std.proofs.Common.{◌≡◌, ◌≢◌, ◌⊎◌, inl, inr, ℕ, zero, suc, ◌+◌, ◌<◌, List, [], ◌∷◌, ◌++◌, length, slice_index_or, remove, Some, slice_get, refl, ap, sym, ◌∙◌, subst, arith}
-use Rattle.std.specs.List.{AllByRecursion}
-use Rattle.text_forms.specs.Tables.{Tables, bucket_of}
+use Rattle.std.proofs.Common.{◌≡◌, ◌⊎◌, inl, inr, ℕ, zero, suc, ◌+◌, ◌<◌, List, [], ◌∷◌, ◌++◌, length, slice_index_or, Some, slice_get, refl, ap, sym, ◌∙◌, arith}
+use Rattle.std.specs.List.{AllByRecursion, Contains}
+use Rattle.std.specs.List.Sorted.{IsPermutation}
+use Rattle.std.proofs.lemmas.List.Elements.{All-from_recursion, recursion_from_All, Contains-append_right}
+use Rattle.std.proofs.lemmas.List.Sorted.{All-permutation, Contains-permutation, IsPermutation-sym}
+use Rattle.std.proofs.lemmas.Option.{slice_get_read, slice_get_within, get_or_from_slice_get}
+use Rattle.text_forms.specs.Tables.{Tables, bucket_of, entry_hash}
 use Rattle.text_forms.specs.Word.{IsTicket, ticket_of}
 use Rattle.counted_cell.specs.Counting.{CellName}
 use Rattle.counted_cell.specs.Cell.{Cell}
 use Rattle.counted_cell.specs.CellLog.{Entry}
 use Rattle.counted_cell.specs.CellEntry.{entry_of}
 use Rattle.counted_cell.specs.declared.cell_log.LogSeen.{LogSeen}
+use Rattle.named_set.specs.Linked.{HaveHash}
 use Rattle.named_set.specs.Logged.{IsGone, IsLogged, IsLinked, IsKept, IsSeen, IsNew, IsOf, LinksNoMore}
-use Rattle.named_set.proofs.Rows.{prefix_get, prefix_back, get_snoc, snoc_get, each_more, each_at, each_snoc}
+use Rattle.named_set.proofs.Rows.{prefix_get, prefix_back, get_snoc, snoc_get, each_more, each_at}
 
 -- a cell that stands in a row stands in a longer one
 logged_longer : (number : ℕ) (es : List Entry) (gone : List CellName) (e : Entry) (c : Cell) → IsLogged number es gone c → IsLogged number (es ++ e ∷ []) gone c
@@ -24,56 +29,56 @@ logged_longer number es gone e c l = record {
 logged_buried : (number : ℕ) (es : List Entry) (gone : List CellName) (t : CellName) (c : Cell) → IsLogged number es gone c → IsLogged number es (t ∷ gone) c
 logged_buried number es gone t c l = record { place = l.place; given = l.given; ticket = l.ticket; stands = l.stands; alone = λ i f lt at same all. l.alone i f lt at same all.1 }
 
--- of a list without one: each has what each of the list has
-pub each_without : {A : Type 0} (P : A → Type 0) (xs : List A) (k : ℕ) → AllByRecursion P xs → AllByRecursion P (remove xs k)
-each_without P [] zero all = tt
-each_without P [] (suc k) all = tt
-each_without P (x ∷ xs) zero all = all.1
-each_without P (x ∷ xs) (suc k) all = (all.0, each_without P xs k all.1)
+-- in another order
+pub each_permuted : {A : Type 0} (P : A → Type 0) (xs ys : List A) → IsPermutation xs ys → AllByRecursion P xs → AllByRecursion P ys
+each_permuted P xs ys p all = recursion_from_All P ys (All-permutation P xs ys p (All-from_recursion P xs all))
 
-linked_without : (e : Entry) (cs : List Cell) (k : ℕ) (c : Cell) → slice_get cs k ≡ Some c → IsLinked e cs → (entry_of c ≡ e) ⊎ IsLinked e (remove cs k)
-linked_without e [] k c at is = absurd is
-linked_without e (d ∷ cs) zero c at is = first is
+pub stands : {A : Type 0} (xs : List A) (x : A) → Contains xs x → (k : ℕ) × (slice_get xs k ≡ Some x)
+stands xs x h = (h.0, slice_get_read xs (length xs) h.0 x refl h.1 (sym h.2))
+
+linked_contains : (e : Entry) (cs : List Cell) → IsLinked e cs → (c : Cell) × Contains cs c × (entry_of c ≡ e)
+linked_contains e [] is = absurd is
+linked_contains e (d ∷ cs) is = or (λ b. linked_contains e cs b) is
   where
-    first : (entry_of d ≡ e) ⊎ IsLinked e cs → (entry_of c ≡ e) ⊎ IsLinked e cs
-    first (inl a) = inl (let same : d ≡ c = cc at in ap entry_of (sym same) ∙ a)
-    first (inr b) = inr b
-linked_without e (d ∷ cs) (suc k) c at is = later (λ b. linked_without e cs k c at b) is
-  where
-    further : (entry_of c ≡ e) ⊎ IsLinked e (remove cs k) → (entry_of c ≡ e) ⊎ IsLinked e (remove (d ∷ cs) (suc k))
-    further (inl a) = inl a
-    further (inr b) = inr (inr b)
+    or : (IsLinked e cs → (c : Cell) × Contains cs c × (entry_of c ≡ e)) → (entry_of d ≡ e) ⊎ IsLinked e cs → (c : Cell) × Contains (d ∷ cs) c × (entry_of c ≡ e)
+    or go (inl a) = (d, (zero, omega arith, refl), a)
+    or go (inr b) = let r = go b in (r.0, Contains-append_right (d ∷ []) cs r.0 r.1, r.2)
 
-    later : (IsLinked e cs → (entry_of c ≡ e) ⊎ IsLinked e (remove cs k)) → (entry_of d ≡ e) ⊎ IsLinked e cs → (entry_of c ≡ e) ⊎ IsLinked e (remove (d ∷ cs) (suc k))
-    later go (inl a) = inr (inl a)
-    later go (inr b) = further (go b)
+linked_at : (e : Entry) (cs : List Cell) (k : ℕ) (c : Cell) → slice_get cs k ≡ Some c → entry_of c ≡ e → IsLinked e cs
+linked_at e [] k c at is = absurd (cc at)
+linked_at e (d ∷ cs) zero c at is = inl (let same : d ≡ c = cc at in ap entry_of same ∙ is)
+linked_at e (d ∷ cs) (suc k) c at is = inr (linked_at e cs k c at is)
 
--- without a cell that has no share left
-pub kept_without : (number : ℕ) (linked : List Cell) (es : List Entry) (gone : List CellName) (k : ℕ) (c : Cell) → IsKept number linked es gone → slice_get linked k ≡ Some c → IsKept number (remove linked k) es (c.name ∷ gone)
-kept_without number linked es gone k c kept at = record {
-  logged = each_more (IsLogged number es gone) (IsLogged number es (c.name ∷ gone)) (remove linked k) (λ d. logged_buried number es gone c.name d) (each_without (IsLogged number es gone) linked k kept.logged);
-  settled = λ i e at'. one e (kept.settled i e at');
+linked_permuted : (e : Entry) (xs ys : List Cell) → IsPermutation xs ys → IsLinked e xs → IsLinked e ys
+linked_permuted e xs ys p is =
+    let r = linked_contains e xs is in
+    let at = stands ys r.0 (Contains-permutation xs ys r.0 p r.1) in
+    linked_at e ys at.0 r.0 at.1 r.2
+
+pub kept_permuted : (number : ℕ) (xs ys : List Cell) (es : List Entry) (gone : List CellName) → IsPermutation xs ys → IsKept number xs es gone → IsKept number ys es gone
+kept_permuted number xs ys es gone p kept = record {
+  logged = each_permuted (IsLogged number es gone) xs ys p kept.logged;
+  settled = λ i e at. one e (kept.settled i e at);
 }
   where
-    two : (e : Entry) → (entry_of c ≡ e) ⊎ IsLinked e (remove linked k) → IsGone (c.name ∷ gone) e.name ⊎ IsLinked e (remove linked k)
+    one : (e : Entry) → IsGone gone e.name ⊎ IsLinked e xs → IsGone gone e.name ⊎ IsLinked e ys
+    one e (inl a) = inl a
+    one e (inr b) = inr (linked_permuted e xs ys p b)
+
+-- without a cell that has no share left
+pub kept_without : (number : ℕ) (linked : List Cell) (es : List Entry) (gone : List CellName) (c : Cell) → IsKept number (c ∷ linked) es gone → IsKept number linked es (c.name ∷ gone)
+kept_without number linked es gone c kept = record {
+  logged = each_more (IsLogged number es gone) (IsLogged number es (c.name ∷ gone)) linked (λ d. logged_buried number es gone c.name d) kept.logged.1;
+  settled = λ i e at. one e (kept.settled i e at);
+}
+  where
+    two : (e : Entry) → (entry_of c ≡ e) ⊎ IsLinked e linked → IsGone (c.name ∷ gone) e.name ⊎ IsLinked e linked
     two e (inl a) = inl (λ all. all.0 (ap (λ (f : Entry). f.name) a))
     two e (inr b) = inr b
 
-    one : (e : Entry) → IsGone gone e.name ⊎ IsLinked e linked → IsGone (c.name ∷ gone) e.name ⊎ IsLinked e (remove linked k)
+    one : (e : Entry) → IsGone gone e.name ⊎ IsLinked e (c ∷ linked) → IsGone (c.name ∷ gone) e.name ⊎ IsLinked e linked
     one e (inl a) = inl (λ all. a all.1)
-    one e (inr b) = two e (linked_without e linked k c at b)
-
-linked_with : (e : Entry) (cs : List Cell) (c : Cell) → IsLinked e cs → IsLinked e (cs ++ c ∷ [])
-linked_with e [] c is = absurd is
-linked_with e (d ∷ cs) c is = or (λ b. linked_with e cs c b) is
-  where
-    or : (IsLinked e cs → IsLinked e (cs ++ c ∷ [])) → (entry_of d ≡ e) ⊎ IsLinked e cs → IsLinked e ((d ∷ cs) ++ c ∷ [])
-    or go (inl a) = inl a
-    or go (inr b) = inr (go b)
-
-linked_last : (cs : List Cell) (c : Cell) → IsLinked (entry_of c) (cs ++ c ∷ [])
-linked_last [] c = inl refl
-linked_last (d ∷ cs) c = inr (linked_last cs c)
+    one e (inr b) = two e b
 
 -- an entry of a text of which no cell is linked isn't linked
 not_linked : (e : Entry) (cs : List Cell) (text : List ℕ) → IsNew text cs → e.text ≡ text → IsLinked e cs → ⊥
@@ -105,22 +110,22 @@ logged_last number linked es gone c text kept none is given ticket = record {
 
 -- with a cell more, of a text of which none is linked
 pub kept_with : (number : ℕ) (linked : List Cell) (es : List Entry) (gone : List CellName) (c : Cell) (text : List ℕ) → IsKept number linked es gone → IsNew text linked → c.text ≡ text
-    → IsTicket (length es + 1) number → c.label.ticket ≡ ticket_of (length es + 1) number → IsKept number (linked ++ c ∷ []) (es ++ entry_of c ∷ []) gone
+    → IsTicket (length es + 1) number → c.label.ticket ≡ ticket_of (length es + 1) number → IsKept number (c ∷ linked) (es ++ entry_of c ∷ []) gone
 kept_with number linked es gone c text kept none is given ticket = record {
-  logged = each_snoc Longer linked c (each_more (IsLogged number es gone) Longer linked (λ d. logged_longer number es gone (entry_of c) d) kept.logged) (logged_last number linked es gone c text kept none is given ticket);
+  logged = (logged_last number linked es gone c text kept none is given ticket, each_more (IsLogged number es gone) Longer linked (λ d. logged_longer number es gone (entry_of c) d) kept.logged);
   settled = λ i e at. one i e (get_snoc es (entry_of c) i e at);
 }
   where
     Longer : Cell → Type 0
     Longer = IsLogged number (es ++ entry_of c ∷ []) gone
 
-    two : (e : Entry) → IsGone gone e.name ⊎ IsLinked e linked → IsGone gone e.name ⊎ IsLinked e (linked ++ c ∷ [])
+    two : (e : Entry) → IsGone gone e.name ⊎ IsLinked e linked → IsGone gone e.name ⊎ IsLinked e (c ∷ linked)
     two e (inl a) = inl a
-    two e (inr b) = inr (linked_with e linked c b)
+    two e (inr b) = inr (inr b)
 
-    one : (i : ℕ) (e : Entry) → (slice_get es i ≡ Some e) ⊎ ((i ≡ length es) × (entry_of c ≡ e)) → IsGone gone e.name ⊎ IsLinked e (linked ++ c ∷ [])
+    one : (i : ℕ) (e : Entry) → (slice_get es i ≡ Some e) ⊎ ((i ≡ length es) × (entry_of c ≡ e)) → IsGone gone e.name ⊎ IsLinked e (c ∷ linked)
     one i e (inl a) = two e (kept.settled i e a)
-    one i e (inr b) = inr (subst (λ (f : Entry). IsLinked f (linked ++ c ∷ [])) b.1 (linked_last linked c))
+    one i e (inr b) = inr (inl b.1)
 
 -- what was seen of a linked cell's log
 pub seen_at : (t : Tables) (may : CellName → Type 0) (logs : List ℕ) (number : ℕ) (linked : List Cell) (es : List Entry) (gone : List CellName) (s : LogSeen) (k : ℕ) (c : Cell) → IsKept number linked es gone → AllByRecursion (IsOf t may (length logs) number) linked
@@ -134,10 +139,13 @@ seen_at t may logs number linked es gone s k c kept of at named e g =
       logged = rw (one, e, g) (each_at (IsLogged number es gone) linked k c kept.logged at);
     }
 
--- without a cell no text is linked that wasn't
-each_new : (text : List ℕ) (cs : List Cell) → IsNew text cs → AllByRecursion (λ c. c.text ≢ text) cs
-each_new text [] new = tt
-each_new text (c ∷ cs) new = (new zero c refl, each_new text cs (λ i d at. new (suc i) d at))
+-- each linked cell of a text has the hash of the text
+pub have_hash : (t : Tables) (may : CellName → Type 0) (buckets number : ℕ) (linked : List Cell) (text : List ℕ) (hash : ℕ) → AllByRecursion (IsOf t may buckets number) linked → hash ≡ entry_hash t text → HaveHash text hash linked
+have_hash t may buckets number linked text hash of is i c at same = (each_at (IsOf t may buckets number) linked i c of at).hash ∙ (ap (entry_hash t) same ∙ sym is)
 
-pub links_without : (cs : List Cell) (k : ℕ) → LinksNoMore cs (remove cs k)
-links_without cs k text new i c at = each_at (λ d. d.text ≢ text) (remove cs k) i c (each_without (λ d. d.text ≢ text) cs k (each_new text cs new)) at
+-- of what stands there no text is linked that wasn't
+pub links_less : (before after : List Cell) (c : Cell) → IsPermutation before (c ∷ after) → LinksNoMore before after
+links_less before after c moved text none i d at same =
+    let first : Contains (c ∷ after) d = (suc i, omega (arith, slice_get_within after i d at), get_or_from_slice_get after i d d at) in
+    let there = stands before d (Contains-permutation (c ∷ after) before d (IsPermutation-sym before (c ∷ after) moved) first) in
+    none there.0 d there.1 same

@@ -1,4 +1,5 @@
 pub mod Rows
+pub mod Finding
 pub mod Keeping
 pub mod Agreeing
 pub mod Opening

@@ -1,5 +1,5 @@
 -- Beginnings of one row, and each of a list.
-use Rattle.std.proofs.Common.{◌≡◌, ◌≢◌, ◌⊎◌, inl, inr, ℕ, zero, suc, ◌<◌, ◌≤◌, List, [], ◌∷◌, ◌++◌, length, remove, Some, None, slice_get, refl, ap, sym, ◌∙◌, arith}
+use Rattle.std.proofs.Common.{◌≡◌, ◌⊎◌, inl, inr, ℕ, zero, suc, ◌<◌, List, [], ◌∷◌, ◌++◌, length, Some, None, slice_get, refl, ap, sym, ◌∙◌, arith}
 use Rattle.std.specs.List.{AllByRecursion}
 use mathlib.Core.List.{IsPrefix}
 
@@ -45,11 +45,3 @@ each_at P (y ∷ xs) (suc k) x all h = each_at P xs k x all.1 h
 pub each_snoc : {A : Type 0} (P : A → Type 0) (xs : List A) (x : A) → AllByRecursion P xs → P x → AllByRecursion P (xs ++ x ∷ [])
 each_snoc P [] x all p = (p, tt)
 each_snoc P (y ∷ xs) x all p = (all.0, each_snoc P xs x all.1 p)
-
--- without one, the others below it stand where they stood
-pub remove_below : {A : Type 0} (xs : List A) (k i : ℕ) → i < k → slice_get (remove xs k) i ≡ slice_get xs i
-remove_below [] zero i lt = absurd (omega arith)
-remove_below [] (suc k) i lt = refl
-remove_below (x ∷ xs) zero i lt = absurd (omega arith)
-remove_below (x ∷ xs) (suc k) zero lt = refl
-remove_below (x ∷ xs) (suc k) (suc i) lt = remove_below xs k i (omega arith)

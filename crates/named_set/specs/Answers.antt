@@ -18,7 +18,7 @@ IfFull (Held share seen) P = ⊤
 IfFull (Full full grant) P = P full
 IfFull (Absent grant) P = ⊤
 
--- P holds where there is none
+-- P holds if there is none
 abbrev pub IfAbsent : {G : Type 0} → Answer G → Type 0 → Type 0
 IfAbsent (Held share seen) P = ⊤
 IfAbsent (Full full grant) P = ⊤

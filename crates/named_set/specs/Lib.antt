@@ -1,4 +1,5 @@
 pub mod Names
 pub mod Logged
+pub mod Linked
 pub mod Words
 pub mod Answers

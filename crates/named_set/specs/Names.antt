@@ -4,6 +4,10 @@ use Rattle.std.specs.List.{AllByRecursion}
 use Rattle.text_forms.specs.Bounds.{Bounds}
 use Rattle.counted_cell.specs.declared.cell_log.CellLog.{CellLog}
 
+-- the bits of the usual number of buckets
+abbrev pub usual_set_bits : ℕ
+usual_set_bits = 8
+
 -- a name that no set has: the names of its logs, and the bits of their number, which is 2 ^ bits
 pub record Fresh : Type 0 where
   pub logs : List ℕ

@@ -1,6 +1,6 @@
 //! A bucket: what one lock holds.
 
-ghost use Rattle.std.specs.Prelude.{◌≡◌, ◌+◌, ◌<◌, ◌≤◌, ℕ, true, length, slice_index_or, IfErr, IfOk, None, Some, slice_get, IsTrue, ◌↔◌};
+ghost use Rattle.std.specs.Prelude.{◌≡◌, ◌+◌, ◌<◌, ◌≤◌, ℕ, true, length, slice_index_or, IfErr, IfOk, Some, slice_get};
 ghost use Rattle.text_forms.specs.Faults.{IsInternFault};
 ghost use Rattle.text_forms.specs.Layout.{most_buckets};
 ghost use Rattle.text_forms.specs.Tables.{bucket_of, entry_hash};
@@ -11,25 +11,29 @@ ghost use Rattle.named_set.specs.Answers.{IfAbsent, IfFull, IfHeld};
 ghost use Rattle.named_set.specs.Logged.{FoundAt, IsNew, IsSeen, LinksNoMore};
 ghost use Rattle.named_set.specs.Names.{IsEmpty};
 
+use crate::cells::Cells;
 use crate::name::SetName;
 use counted_cell::{
     AtLimit, CellLog, CellShare, Grant, Label, LogSeen, NoShares, Owner, ShareReply,
 };
 use std::alloc::{AllocError, Global};
 use std::marker::{Model, PhantomData};
-use std::mem::size_of;
 use std::sync::Wait;
 use text_forms::Fault;
 use text_forms::static_sets::StaticTables;
 use text_forms::word::{Limits, ticket_word};
 
-/// What one lock of a set holds: the cells that are linked, in the order in which they were, and the log of all that ever were, which
-/// takes no memory. A share may be added to each cell by a grant of the last type.
+/// So many cells are looked at by a call, if several were left.
+const SOME: usize = 16;
+
+/// What one lock of a set holds: the cells that are linked, and the log of all that ever were, which takes no memory. A share may be added
+/// to each cell by a grant of the last type.
 #[derive(Drop)]
 pub struct Bucket<Static: StaticTables, N: SetName, G: Grant> {
-    owners: Vec<Owner<Global>>,
+    owners: Cells,
     log: CellLog,
     last: u64,
+    unseen: usize, // so many of the cells that the index has are still to be looked at
     number: u16,
     alloc: Global,
     of: PhantomData<(Static, N, G)>,
@@ -44,10 +48,10 @@ impl<Static: StaticTables, N: SetName, G: Grant> Model for Bucket<Static, N, G> 
 
     ghost Value = { Kept };
 
-    ghost view = { λ b. record { number = b.number; linked = b.owners.items; entries = b.log.entries; gone = b.log.gone } };
+    ghost view = { λ b. record { number = b.number; linked = b.owners; entries = b.log.entries; gone = b.log.gone } };
 
     ghost invariant = { λ b. (b.log.name ≡ slice_index_or N.logs b.number 0) × (b.last ≡ length b.log.entries) × (b.number < most_buckets)
-        × IsKept b.number b.owners.items b.log.entries b.log.gone × AllByRecursion (IsOf Static.tables G.may (length N.logs) b.number) b.owners.items };
+        × IsKept b.number b.owners b.log.entries b.log.gone × AllByRecursion (IsOf Static.tables G.may (length N.logs) b.number) b.owners };
 }
 
 /// What a bucket answers that was asked for a share. Where it added none, the grant is there.
@@ -68,9 +72,10 @@ impl<Static: StaticTables, N: SetName, G: Grant> Bucket<Static, N, G> {
         requires empty { IsEmpty log }
     {
         Bucket {
-            owners: Vec::new(alloc),
+            owners: Cells::new(alloc),
             log,
             last: 0,
+            unseen: 0,
             number,
             alloc,
             of: PhantomData,
@@ -115,7 +120,7 @@ impl<Static: StaticTables, N: SetName, G: Grant> Bucket<Static, N, G> {
         }
     }
 
-    /// A share of the text's cell, where one is linked that has a share. Each cell of the bucket is taken out that has none.
+    /// A share of the text's cell, if one is linked that has a share. One that has none is taken out.
     pub(crate) fn find<R: Wait>(&mut self, rt: &R, text: &str, hash: u64, grant: G) -> Answer<G>
         requires hash { hash ≡ entry_hash Static.tables text.now }
         requires here { bucket_of Static.tables (length N.logs) text.now ≡ self.old.number }
@@ -126,7 +131,7 @@ impl<Static: StaticTables, N: SetName, G: Grant> Bucket<Static, N, G> {
         ensures same { self.new.number ≡ self.old.number }
     {
         let mut unspent = grant;
-        while let Some(at) = self.pruned_position(text, hash) {
+        while let Some(at) = self.position(text, hash) {
             match self.share_at(rt, at, unspent) {
                 Answer::Absent(grant) => unspent = grant,
                 answer => return answer,
@@ -135,13 +140,75 @@ impl<Static: StaticTables, N: SetName, G: Grant> Bucket<Static, N, G> {
         Answer::Absent(unspent)
     }
 
-    /// Takes out all cells that have no share left.
-    pub(crate) fn prune(&mut self)
+    /// Takes out all cells that have no share left, and gives back memory if few are linked.
+    pub(crate) fn sweep(&mut self)
+        ensures { self.new.number ≡ self.old.number }
+    {
+        let end = self.len();
+        self.prune(0, end);
+        self.unseen = 0;
+        self.owners.shrink();
+    }
+
+    /// Takes out the cell that the index has at this hash, if it has no share left, and all such cells that lie beside the index.
+    pub(crate) fn take_left(&mut self, hash: u64)
+        ensures { self.new.number ≡ self.old.number }
+    {
+        if let Some(at) = self.owners.indexed(hash) {
+            if let Ok(none) = self.owner_at(at).dying() {
+                self.take_out(at, none);
+            }
+        }
+        self.prune_beside();
+    }
+
+    /// Begins a look at all cells, since several were left: those beside the index are looked at now, and the others by `look_on`.
+    pub(crate) fn look_at_all(&mut self)
+        ensures { self.new.number ≡ self.old.number }
+    {
+        self.prune_beside();
+        self.unseen = self.owners.first_beside();
+    }
+
+    /// Looks at some of the cells that are still to be looked at, and takes out those that have no share left.
+    #[inline]
+    pub(crate) fn look_on(&mut self)
+        ensures { self.new.number ≡ self.old.number }
+    {
+        if self.unseen > 0 {
+            self.look_at_some();
+        }
+    }
+
+    // The same, apart, so that a call that has none to look at stays short.
+    #[cold]
+    #[inline(never)]
+    fn look_at_some(&mut self)
+        ensures { self.new.number ≡ self.old.number }
+    {
+        let end = self.unseen.min(self.owners.first_beside());
+        let first = end.saturating_sub(SOME);
+        self.prune(first, end);
+        self.unseen = first;
+    }
+
+    // Takes out all cells beside the index that have no share left.
+    fn prune_beside(&mut self)
+        ensures { self.new.number ≡ self.old.number }
+    {
+        let first = self.owners.first_beside();
+        let end = self.len();
+        self.prune(first, end);
+    }
+
+    // Takes out all cells that have no share left and stand from one place on, before another.
+    fn prune(&mut self, first: usize, end: usize)
+        requires { end ≤ length self.old.linked }
         ensures same { self.new.number ≡ self.old.number }
         ensures less { LinksNoMore self.old.linked self.new.linked }
     {
-        let mut at = self.len();
-        while at > 0 {
+        let mut at = end;
+        while at > first {
             at -= 1;
             if let Ok(none) = self.owner_at(at).dying() {
                 self.take_out(at, none);
@@ -149,23 +216,22 @@ impl<Static: StaticTables, N: SetName, G: Grant> Bucket<Static, N, G> {
         }
     }
 
-    /// Calls `visit` once for each cell that is linked, in the order in which they were, with its text and the number of its shares as one
-    /// look at its count reads it.
+    /// Calls `visit` once for each cell that is linked, with its text and the number of its shares as one look at its count reads it.
     pub(crate) fn for_each<F: FnMut(&str, u64)>(&self, visit: &mut F)
         requires { F.IsAlwaysCallable visit.old }
         ensures { F.IsAlwaysCallable visit.new }
     {
-        for owner in &self.owners {
+        for at in 0..self.len() {
+            let owner = self.owner_at(at);
             visit(owner.text(), owner.count().shares());
         }
     }
 
     /// How many bytes it has asked for and still holds: its places for cells, and the cells with their texts.
     pub(crate) fn memory(&self) -> u128 {
-        let place = size_of::<Owner<Global>>() as u128;
-        let mut sum = place.saturating_mul(self.owners.capacity() as u128);
-        for owner in &self.owners {
-            sum = sum.saturating_add(owner.block_size() as u128);
+        let mut sum = self.owners.memory();
+        for at in 0..self.len() {
+            sum = sum.saturating_add(self.owner_at(at).block_size() as u128);
         }
         sum
     }
@@ -179,30 +245,15 @@ impl<Static: StaticTables, N: SetName, G: Grant> Bucket<Static, N, G> {
         self.log.seen()
     }
 
-    // Where a cell of the text is linked, once each cell is taken out that has no share left: one walk, from the first to the last.
-    fn pruned_position(&mut self, text: &str, hash: u64) -> Option<usize>
+    // Where a cell of the text is linked.
+    fn position(&self, text: &str, hash: u64) -> Option<usize>
         requires { hash ≡ entry_hash Static.tables text.now }
-        ensures at { FoundAt self.new.linked text.now result }
-        ensures same { self.new.number ≡ self.old.number }
-        ensures few { length self.new.linked ≤ length self.old.linked }
+        ensures { FoundAt self.now.linked text.now result }
     {
-        let mut found = None;
-        let mut at = 0;
-        while at < self.len() {
-            match self.owner_at(at).dying() {
-                Ok(none) => self.take_out(at, none),
-                Err(_) => {
-                    if self.is_at(at, text, hash) {
-                        found = Some(at);
-                    }
-                    at += 1;
-                }
-            }
-        }
-        found
+        self.owners.position(text, hash)
     }
 
-    // A share of the cell that is linked there, and what was seen of the log. Where the cell has none left, it is taken out.
+    // A share of the cell that is linked there, and what was seen of the log. If the cell has none left, it is taken out.
     fn share_at<R: Wait>(&mut self, rt: &R, at: usize, grant: G) -> Answer<G>
         requires { at < length self.old.linked }
         ensures cell { IfHeld result (λ share _. slice_get self.old.linked at ≡ Some share.cell) }
@@ -223,7 +274,7 @@ impl<Static: StaticTables, N: SetName, G: Grant> Bucket<Static, N, G> {
         }
     }
 
-    // The same, by a reply of the cell that is linked there, which has a permit of the grant where nothing was added.
+    // The same, by a reply of the cell that is linked there, which has a permit of the grant if nothing was added.
     fn share_by(&mut self, at: usize, reply: ShareReply) -> Answer<G>
         requires { (c : Cell) × (permit : ℕ) × (slice_get self.old.linked at ≡ Some c) × G.may c.name × G.permits c.name permit × IsReply c permit reply }
         ensures cell { IfHeld result (λ share _. slice_get self.old.linked at ≡ Some share.cell) }
@@ -243,24 +294,13 @@ impl<Static: StaticTables, N: SetName, G: Grant> Bucket<Static, N, G> {
         }
     }
 
-    // Whether the cell that is linked there is one of the text.
-    fn is_at(&self, at: usize, text: &str, hash: u64) -> bool
-        requires within { at < length self.now.linked }
-        requires hash { hash ≡ entry_hash Static.tables text.now }
-        ensures { (c : Cell) × (slice_get self.now.linked at ≡ Some c) × (IsTrue result ↔ (c.text ≡ text.now)) }
-    {
-        let owner = self.owner_at(at);
-        owner.label().hash == hash && owner.text() == text
-    }
-
-    // The owner of the cell that is linked there, which has the hash of its text.
+    // The owner of the cell that is linked there.
     fn owner_at(&self, at: usize) -> &Owner<Global>
         requires { at < length self.now.linked }
         ensures cell { slice_get self.now.linked at ≡ Some result.now }
-        ensures hash { result.now.label.hash ≡ entry_hash Static.tables result.now.text }
         ensures may { G.may result.now.name }
     {
-        &self.owners[at]
+        self.owners.at(at)
     }
 
     // Takes out a cell that has no share left, and keeps that in the log.
@@ -268,11 +308,10 @@ impl<Static: StaticTables, N: SetName, G: Grant> Bucket<Static, N, G> {
         requires { (c : Cell) × (slice_get self.old.linked at ≡ Some c) × (none ≡ c.name) }
         ensures same { self.new.number ≡ self.old.number }
         ensures one { length self.new.linked + 1 ≡ length self.old.linked }
-        ensures below { (i : ℕ) → i < at → slice_get self.new.linked i ≡ slice_get self.old.linked i }
         ensures less { LinksNoMore self.old.linked self.new.linked }
     {
         none.bury(&mut self.log);
-        drop(self.owners.remove(at));
+        drop(self.owners.take_out(at));
     }
 
     // Links a cell of a text of which none is linked, and enters it in the log. A refusal hands the grant back.
@@ -315,11 +354,14 @@ impl<Static: StaticTables, N: SetName, G: Grant> Bucket<Static, N, G> {
         if self.last >= limits.serials() {
             return Err(Fault::TicketsSpent);
         }
-        self.owners.reserve(1)?;
         let serial = self.last + 1;
         let (owner, share) = new_cell::<G>(self.alloc, serial, self.number, text, hash, limits)?;
+        if let Err(owner) = self.owners.add(owner) {
+            let _ = share.give();
+            drop(owner);
+            return Err(Fault::Memory);
+        }
         share.enter(&mut self.log);
-        self.owners.push_reserved(owner);
         self.last = serial;
         let seen = self.seen();
         Ok((share, seen))

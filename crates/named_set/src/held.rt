@@ -46,7 +46,7 @@ impl<'s, Static: StaticTables, N: SetName> Drop for SetShare<'s, Static, N> {
 }
 
 impl<'s, Static: StaticTables, N: SetName> SetShare<'s, Static, N> {
-    /// Takes the share off the cell's count, and tries the bucket's lock where it was the last.
+    /// Takes the share off the cell's count, and tries the bucket's lock if it was the last.
     #[inline]
     fn give(self) -> Receipt
         ensures { (result.name ≡ self.entry.cell.name) × (result.number ≡ self.entry.number) }
@@ -77,8 +77,8 @@ impl<'s, Static: StaticTables, N: SetName> SetShare<'s, Static, N> {
 ///
 /// It is what a `Held` is without its word, for those who keep the word elsewhere, and has 16 bytes. Its drop, which is that of its
 /// `SetShare`, subtracts one from the cell's count and never waits. If it was the last, the lock of the bucket is tried once; if that was
-/// free, cells without shares are taken out of the bucket, and otherwise a later call does that. In a clause it is its word, its text and
-/// the cell's name.
+/// free, the cell is taken out of the bucket, and otherwise a later call does that. In a clause it is its word, its text and the cell's
+/// name.
 #[derive(Drop)]
 pub struct HeldCell<'s, Static: StaticTables, N: SetName> {
     own: SetShare<'s, Static, N>,
@@ -111,7 +111,7 @@ impl<'s, Static: StaticTables, N: SetName> HeldCell<'s, Static, N> {
         self.own.share.label().hash
     }
 
-    /// A permit for one more, where the cell gets more, as each does that a set interned. It does nothing when it runs.
+    /// A permit for one more, if the cell gets more, as each does that a set interned. It does nothing when it runs.
     #[inline]
     pub fn permit(&self) -> Permit
         requires { self.now.name.grows ≡ true }
@@ -165,7 +165,7 @@ impl<'s, Static: StaticTables, N: SetName> HeldCell<'s, Static, N> {
         }
     }
 
-    /// One more that holds the same cell, for the permit. It is refused only where there are as many as there may be, as the error shows:
+    /// One more that holds the same cell, for the permit. It is refused only if there are as many as there may be, as the error shows:
     /// then the permit is there again, and nothing has changed.
     pub fn clone_held<R: Wait>(
         &self,
@@ -340,7 +340,7 @@ impl<'s, Static: StaticTables, N: SetName> Held<'s, Static, N> {
         (word, cell)
     }
 
-    /// One more that holds the same word. It is refused for `FullCount` alone, where there are as many as there may be.
+    /// One more that holds the same word. It is refused for `FullCount` alone, if there are as many as there may be.
     pub fn clone_held<R: Wait>(&self, rt: &R) -> Result<Held<'s, Static, N>, Fault>
         ensures same { IfOk result (λ held. held ≡ self.now) }
         ensures full { IfErr result (λ fault. fault ≡ FullCount) }

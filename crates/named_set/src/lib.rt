@@ -6,7 +6,9 @@
 #![tactic(auto)]
 
 mod bucket;
+mod cells;
 mod held;
+mod linked;
 mod locked;
 mod name;
 mod set;

@@ -1,6 +1,7 @@
 //! The name of a set, for types to speak of.
 
 ghost use Rattle.std.specs.Prelude.{◌≡◌, IfErr, IfOk};
+ghost use Rattle.named_set.specs.Names.{usual_set_bits};
 ghost use Rattle.text_forms.specs.declared.faults.Fault.TheVariants.{Memory};
 
 use counted_cell::CellLog;
@@ -9,6 +10,9 @@ use std::marker::{Brand, Model};
 use text_forms::Fault;
 use text_forms::word::Buckets;
 
+/// The bits of the usual number of buckets.
+const USUAL_BITS: u8 = 8;
+
 /// Which set it is, by the names of its buckets' logs. Whoever calls a function that is generic over it picks them.
 pub trait SetName {
     ghost use Rattle.std.specs.Prelude.{ℕ, List};
@@ -16,7 +20,7 @@ pub trait SetName {
     ghost logs: { List ℕ };
 }
 
-/// What stands for the name where a function that is generic over it is called.
+/// What a caller of a function that is generic over it writes for the name.
 impl SetName for Brand {
     ghost use Rattle.std.specs.Prelude.{[]};
 
@@ -44,6 +48,18 @@ impl Model for FreshName {
 }
 
 impl FreshName {
+    /// A name that no set has, for one of the usual number of buckets, which is 256. Each has a lock of its own, and finds a text in a time
+    /// that doesn't grow with their number, so more are of use to more threads alone: 1,024 to many. It is refused for `Memory` alone.
+    pub fn usual(alloc: Global) -> Result<FreshName, Fault>
+        ensures bits { IfOk result (λ name. name.bits ≡ usual_set_bits) }
+        ensures refused { IfErr result (λ fault. fault ≡ Memory) }
+    {
+        match Buckets::new(USUAL_BITS) {
+            Some(buckets) => FreshName::new(alloc, buckets),
+            None => unreachable!(),
+        }
+    }
+
     /// A name that no set has, for one of this many buckets. It is refused for `Memory` alone.
     #[tactic(auto, using(crate::proofs::Rows::each_snoc))]
     pub fn new(alloc: Global, buckets: Buckets) -> Result<FreshName, Fault>

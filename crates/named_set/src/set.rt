@@ -1,4 +1,4 @@
-//! The set: buckets behind locks.
+//! The set: buckets with locks.
 
 ghost use Rattle.std.specs.Prelude.{◌≡◌, ◌+◌, ◌^◌, ◌≤◌, length, map, vec_len, IfErr, IfOk, IfSome, None};
 ghost use Rattle.std.specs.List.{AllByRecursion};
@@ -11,22 +11,22 @@ ghost use Rattle.named_set.specs.Words.{IsTicketOf};
 
 use crate::bucket::{Answer, Bucket};
 use crate::held::Held;
-use crate::locked::{find_behind, intern_behind};
+use crate::locked::LockedBucket;
 use crate::name::{FreshName, SetName};
 use counted_cell::{CellLog, CellShare, FreeGrant, Receipt};
 use std::alloc::Global;
 use std::marker::Model;
 use std::mem::size_of;
-use std::sync::{Mutex, Wait};
+use std::sync::Wait;
 use text_forms::Fault;
 use text_forms::static_sets::StaticTables;
 use text_forms::word::{Buckets, Limits};
 
-/// The texts of the set with this name, in buckets by their hashes, each behind a lock of its own. Threads share it. In a clause it is
+/// The texts of the set with this name, in buckets by their hashes, each with a lock of its own. Threads share it. In a clause it is
 /// its limits and the bits of the number of its buckets.
 #[derive(Drop)]
 pub struct NamedSet<Static: StaticTables, N: SetName> {
-    buckets: Vec<Mutex<Bucket<Static, N, FreeGrant>>>,
+    buckets: Vec<LockedBucket<Static, N, FreeGrant>>,
     count: Buckets,
     limits: Limits,
     alloc: Global,
@@ -61,12 +61,12 @@ impl<Static: StaticTables, N: SetName> NamedSet<Static, N> {
         })
     }
 
-    // A bucket for each of the name's logs, in their order, behind a lock of its own. It is refused for `Memory` alone.
+    // A bucket for each of the name's logs, in their order, with a lock of its own. It is refused for `Memory` alone.
     fn buckets_of(
         alloc: Global,
         mut logs: Vec<CellLog>,
         count: Buckets,
-    ) -> Result<Vec<Mutex<Bucket<Static, N, FreeGrant>>>, Fault>
+    ) -> Result<Vec<LockedBucket<Static, N, FreeGrant>>, Fault>
         requires names { N.logs ≡ map (λ l. l.name) logs.items }
         requires empty { AllByRecursion IsEmpty logs.items }
         requires number { vec_len logs ≡ 2 ^ count }
@@ -75,7 +75,7 @@ impl<Static: StaticTables, N: SetName> NamedSet<Static, N> {
     {
         let mut buckets = Vec::with_capacity(alloc, count.number())?;
         while let Some(bucket) = Self::last_bucket(alloc, &mut logs) {
-            buckets.push(Mutex::new(bucket))?;
+            buckets.push(LockedBucket::new(bucket))?;
         }
         buckets.reverse();
         Ok(buckets)
@@ -107,9 +107,9 @@ impl<Static: StaticTables, N: SetName> NamedSet<Static, N> {
 
     /// A held word of the text.
     ///
-    /// `FullCount` comes where the text's word is held as often as the limits allow, `TicketsSpent` where its bucket has given its last
-    /// ticket, and `Memory` where a request for memory is refused. It would also come if the bucket behind the lock had another number
-    /// than the one that was asked for. It never has, but no type tells which value lies behind which lock, so a comparison does.
+    /// `FullCount` if the text's word is held as often as the limits allow, `TicketsSpent` if its bucket has given its last ticket, and
+    /// `Memory` if a request for memory is refused. `Memory` would also be returned if the bucket behind the lock had another number than
+    /// the one that was asked for. It never has, but no type tells which value lies behind which lock, so a comparison does.
     pub fn intern<'s, R: Wait>(&'s self, rt: &R, text: &str) -> Result<Held<'s, Static, N>, Fault>
         ensures text { IfOk result (λ held. held.text ≡ text.now) }
         ensures refused { IfErr result IsInternFault }
@@ -132,8 +132,8 @@ impl<Static: StaticTables, N: SetName> NamedSet<Static, N> {
         ensures refused { IfErr result IsInternFault }
     {
         let number = self.count.bucket_of(hash);
-        let lock = &self.buckets[usize::from(number)];
-        match intern_behind(rt, lock, number, text, hash, &self.limits, FreeGrant) {
+        let bucket = &self.buckets[usize::from(number)];
+        match bucket.intern(rt, number, text, hash, &self.limits, FreeGrant) {
             Ok((share, seen)) => Ok(Held::new(share, seen, self)),
             Err((fault, _)) => Err(fault),
         }
@@ -166,8 +166,8 @@ impl<Static: StaticTables, N: SetName> NamedSet<Static, N> {
         ensures refused { IfErr result (λ fault. fault ≡ FullCount) }
     {
         let number = self.count.bucket_of(hash);
-        let lock = &self.buckets[usize::from(number)];
-        match find_behind(rt, lock, number, text, hash, FreeGrant) {
+        let bucket = &self.buckets[usize::from(number)];
+        match bucket.find(rt, number, text, hash, FreeGrant) {
             Answer::Held(share, seen) => Ok(Some(Held::new(share, seen, self))),
             Answer::Full(_, _) => Err(Fault::FullCount),
             Answer::Absent(_) => Ok(None),
@@ -177,12 +177,12 @@ impl<Static: StaticTables, N: SetName> NamedSet<Static, N> {
     /// Takes each bucket once, from the first to the last: cells without shares go.
     pub fn sweep<R: Wait>(&self, rt: &R) {
         for bucket in &self.buckets {
-            bucket.lock(rt).prune();
+            bucket.sweep(rt);
         }
     }
 
     /// Calls `visit` once for each cell that is linked, with its text and the number of its shares as one look at its count reads it: bucket
-    /// by bucket, from the first to the last, each under its lock, and in a bucket in the order in which they were linked.
+    /// by bucket, from the first to the last, each under its lock. In which order a bucket's cells come isn't said.
     ///
     /// A cell that nobody holds any more may still be linked: its number is 0. Beside other threads, which may link and unlink between one
     /// bucket and the next, and count up and down at any time, nothing is said of what is visited. A `visit` that waits for the lock of the
@@ -195,12 +195,12 @@ impl<Static: StaticTables, N: SetName> NamedSet<Static, N> {
         }
     }
 
-    /// How many bytes the set has asked for and still holds: its buckets with their locks, their places for cells, and the cells that are
+    /// The bytes that the set has asked for and still holds: its buckets with their locks, their places for cells, and the cells that are
     /// linked, with their texts. Each bucket is read under its lock.
     ///
-    /// The set itself, which lies where its owner has it, isn't counted. Beside other threads, nothing is said of the sum.
+    /// The set itself isn't counted, since it lies where its owner put it. Beside other threads, nothing is said of the sum.
     pub fn memory<R: Wait>(&self, rt: &R) -> u128 {
-        let bucket_size = size_of::<Mutex<Bucket<Static, N, FreeGrant>>>() as u128;
+        let bucket_size = size_of::<LockedBucket<Static, N, FreeGrant>>() as u128;
         let mut sum = bucket_size.saturating_mul(self.buckets.capacity() as u128);
         for bucket in &self.buckets {
             sum = sum.saturating_add(bucket.lock(rt).memory());
@@ -217,7 +217,7 @@ impl<Static: StaticTables, N: SetName> NamedSet<Static, N> {
         sum
     }
 
-    /// Gives a share back. Where it was its cell's last, tries the lock of the cell's bucket, once, and prunes the bucket.
+    /// Gives a share back. If it was its cell's last, tries the lock of the cell's bucket, once, and takes the cell out.
     #[inline]
     pub(crate) fn give_back(&self, share: CellShare) -> Receipt
         ensures { (result.name ≡ share.cell.name) × (result.number ≡ share.number) }
@@ -225,19 +225,17 @@ impl<Static: StaticTables, N: SetName> NamedSet<Static, N> {
         let hash = share.label().hash;
         let (receipt, last) = share.give().parts();
         if last.is_some() {
-            self.try_prune(hash);
+            self.try_take_out(hash);
         }
         receipt
     }
 
-    /// Tries the lock of a hash's bucket, once, and prunes the bucket. It stands apart, so that the end of a share that isn't the last stays
-    /// short.
+    /// Tries the lock of a hash's bucket, once, and takes out the cell with this hash if it has no share left. It stands apart, so that the
+    /// end of a share that isn't the last stays short.
     #[cold]
     #[inline(never)]
-    fn try_prune(&self, hash: u64) {
+    fn try_take_out(&self, hash: u64) {
         let at = usize::from(self.count.bucket_of(hash));
-        if let Some(mut bucket) = self.buckets[at].try_lock() {
-            bucket.prune();
-        }
+        self.buckets[at].try_take_out(hash);
     }
 }

@@ -30,8 +30,8 @@ fn inline_atoms(rt: HostRuntime) {
     play(&rt, rt.alloc(), USUAL, &[&INLINE]);
 }
 
-/// Texts that are dynamic, and their words: the low 12 bits of f1 are the bucket, of 0x86f9a2c5, 0x06a47210 and 0xb9737e77. The first one is held
-/// to the end, so that it is found again.
+/// Texts that are dynamic, and their words: the low 12 bits of f1, which is 0x86f9a2c5, 0x06a47210 and 0xb9737e77, are the bucket. The first one is
+/// held until the end, so that it is found again.
 const DYNAMIC: [Step; 5] = [
     Step::Intern("abcdefgh"),
     Step::Word("abcdefgh", 0x1_0b14),
@@ -83,7 +83,7 @@ fn intern_both<'s, R: Wait + Abort>(rt: &R, set: &'s DefaultSet, own: &str) -> B
     (intern(rt, set, "tokenised"), intern(rt, set, own))
 }
 
-/// Whether two threads have one atom of the text that both interned.
+/// Whether two threads have the same atom of the text that both interned.
 fn is_shared(left: &DefaultAtom<'_>, right: &DefaultAtom<'_>) -> bool {
     let is_equal = left == right;
     let is_one = are_one(left, right);

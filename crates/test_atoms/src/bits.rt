@@ -51,13 +51,13 @@ pub fn check<S: SharedSet, R: Wait + Abort>(rt: &R, set: S, first: u64) {
     );
 }
 
-/// Whether the text lies in the bucket at this place, of as many.
+/// Whether the text is in the bucket at this place, of this many.
 fn has_place<R: Wait + Abort>(rt: &R, set: &DefaultSet, number: usize, place: usize) -> bool {
     let _held = intern(rt, set, "interned");
     has_one_entry(rt, set, number, place)
 }
 
-/// Checks it in a set of so many bits.
+/// Checks it in a set of this many bits.
 fn check_place<R: Wait + Abort>(rt: &R, alloc: Global, bits: u8, number: usize, place: usize) {
     let set = set_of(rt, alloc, buckets_of(rt, bits));
     assert_that(rt, has_place(rt, &set, number, place));
@@ -82,7 +82,7 @@ const WORDS: [(u8, usize, usize, u64); 15] = [
     (14, 16384, 0x3210, 0x1_c840),
 ];
 
-/// A set of each number of bits is made, and each word's bucket is the one of its set's that its text lies in.
+/// A set of each number of bits is made, and each word's bucket is the one in its set that its text is in.
 #[test]
 fn words_have_the_bits_of_their_set(rt: HostRuntime) {
     for (bits, number, place, first) in &WORDS {
@@ -119,7 +119,7 @@ fn text_of_bucket(alloc: Global, buckets: Buckets, place: usize) -> Option<Strin
     None
 }
 
-/// Checks that this many entries are linked, also once they die as the atoms are dropped, and that a sweep takes them all.
+/// Checks that this many entries are linked, even once they die as the atoms are dropped, and that a sweep takes them all.
 fn check_sweep<R: Wait + Abort, A: Drop>(rt: &R, set: &DefaultSet, atoms: A, count: u128) {
     check_linked(rt, set, count);
     drop_under_locks(rt, set, atoms);
@@ -147,7 +147,7 @@ fn check_ends<R: Wait + Abort>(rt: &R, set: &DefaultSet, buckets: Buckets) {
     check_sweep(rt, set, (first, last), count);
 }
 
-/// Checks it in a set of so many bits.
+/// Checks it in a set of this many bits.
 fn check_ends_of<R: Wait + Abort>(rt: &R, alloc: Global, bits: u8) {
     let buckets = buckets_of(rt, bits);
     check_ends(rt, &set_of(rt, alloc, buckets), buckets);

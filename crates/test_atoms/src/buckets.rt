@@ -14,8 +14,8 @@ use string_cache::static_sets::EmptyStaticAtomSet;
 use string_cache::word::{Buckets, Limits, ticket_word};
 use test_calls::hash_of;
 
-/// Looks at tickets alone, and gives one as its share. Entries that aren't named die to `add` and stay to `dying`, which notes the first
-/// three that it is asked about.
+/// Looks only at tickets, and gives one as its share. For entries that aren't named, `add` answers that they are dying, and `dying` that they stay;
+/// `dying` notes the first three that it is asked about.
 #[derive(Drop)]
 struct Fake {
     added: u64,
@@ -70,7 +70,7 @@ impl<G: Grant> Counts<G> for Fake {
     }
 }
 
-/// The tickets of a bucket's entries, newest first, with zeros behind them.
+/// The tickets of a bucket's entries, newest first, followed by zeros.
 fn tickets(bucket: &mut Bucket<EmptyStaticAtomSet>) -> [u64; 3] {
     let mut fake = Fake::new(0, 0, 0);
     bucket.prune(&mut fake);
@@ -108,7 +108,7 @@ fn pass<R: Wait, C: Counts<FreeGrant>>(
     bucket.pass(rt, text, hash, counts, FreeGrant)
 }
 
-/// The ticket that was found; 1 where the entry is full, and 0 where there is none.
+/// The ticket that was found; 1 if the entry is full, and 0 if there is none.
 fn found(answer: Pass<u64, FreeGrant>) -> u64 {
     match answer {
         Pass::Found(ticket) => ticket,
@@ -145,7 +145,7 @@ fn stay(one: &Share, two: &Share, three: &Share) -> bool {
         && is_share(three, "tokenised", THIRD)
 }
 
-/// What a pass finds of "tokenised".
+/// What a pass finds for "tokenised".
 fn finds<R: Wait>(rt: &R, bucket: &mut Bucket<EmptyStaticAtomSet>, mut fake: Fake) -> u64 {
     found(pass(rt, bucket, "tokenised", &mut fake))
 }
@@ -200,7 +200,7 @@ fn check_share(rt: &impl Abort, share: &Share, text: &str, ticket: u64) {
     assert_that(rt, is_share(share, text, ticket));
 }
 
-/// A share of a text, whose entry is linked where there is none.
+/// A share of a text, whose entry is linked if there is none.
 fn share_of<R: Wait + Abort>(
     rt: &R,
     bucket: &mut Bucket<EmptyStaticAtomSet>,
@@ -264,7 +264,7 @@ fn spent_tickets(rt: HostRuntime) {
     assert_that(&rt, is_spent(&mut bucket, &limits));
 }
 
-/// A bucket asks for a text's hash alone: g and f1 of this one, which is inline, are 0x7f1a22d084b2f283 by OpenSSL's SipHash.
+/// A bucket asks only for a text's hash: g and f1 of this one, which is inline, are 0x7f1a22d084b2f283 by OpenSSL's SipHash.
 #[test]
 fn short_text_of_a_bucket(rt: HostRuntime) {
     let limits = Limits::greatest();

@@ -21,7 +21,7 @@ use test_samples::keys;
 pub enum Question<'q> {
     /// Both texts, which are of one bucket, stay apart.
     Apart(&'q str, &'q str),
-    /// So many workers are at the texts at once, so often.
+    /// This many workers are at the texts at once, this often.
     Workers(usize, usize, &'q [String]),
     /// Many texts come and go, one after another.
     ComeAndGo,
@@ -41,7 +41,7 @@ pub fn check<S: SharedSet + Together + Send + Sync, R: Threads + Wait + Abort + 
     check_linked(rt, set, 0);
 }
 
-/// Asks it of a new set of so many bits, of each kind.
+/// Asks it of a new set of this many bits, of each kind.
 fn check_both<R: Threads + Clock + Wait + Abort + Sync>(
     rt: &R,
     alloc: Global,
@@ -141,7 +141,7 @@ fn check_apart_in_a_set<S: SharedSet, R: Wait + Abort>(rt: &R, set: S, first: &s
     check_linked(rt, set, 0);
 }
 
-// These say nothing of what they do, so that what calls them is proved in a moment.
+// These say nothing about what they do, so that their callers are proved in a moment.
 
 /// The word of a text, which is held twice.
 fn hold_twice(rt: &impl Abort, table: &mut Table<EmptyStaticAtomSet>, text: &str) -> u64 {
@@ -152,7 +152,7 @@ fn hold_twice(rt: &impl Abort, table: &mut Table<EmptyStaticAtomSet>, text: &str
     word
 }
 
-/// Gives a word that has to be held.
+/// Gives a word that must be held.
 fn give(rt: &impl Abort, table: &mut Table<EmptyStaticAtomSet>, word: u64) {
     assert_that(rt, table.holds(word));
     table.give(word);
@@ -220,7 +220,7 @@ fn check_apart<R: Threads + Clock + Wait + Abort + Sync>(
     check_table(rt, alloc, buckets, first, second);
 }
 
-/// So many of the first texts that are of one bucket.
+/// This many of the first texts that are of one bucket.
 fn first_mates(
     rt: &impl Abort,
     alloc: Global,
@@ -250,7 +250,7 @@ fn check_mates<R: Threads + Clock + Wait + Abort + Sync>(rt: &R, alloc: Global, 
     check_mates_of(rt, alloc, buckets, &mates);
 }
 
-/// Of one text more than there are buckets two have one bucket.
+/// Of one more text than there are buckets, two have the same bucket.
 #[test]
 fn two_texts_of_one_bucket(rt: HostRuntime) {
     for bits in &BITS {
@@ -258,7 +258,7 @@ fn two_texts_of_one_bucket(rt: HostRuntime) {
     }
 }
 
-/// Interns and clones a text. Whether the clone has it once the atom has gone.
+/// Interns and clones a text. Returns whether the clone has it once the atom has gone.
 fn is_cloned<S: SharedSet, R: Wait + Abort>(rt: &R, set: S, text: &str) -> bool {
     let atom = intern(rt, set, text);
     let clone = clone_of(rt, &atom);
@@ -266,7 +266,7 @@ fn is_cloned<S: SharedSet, R: Wait + Abort>(rt: &R, set: S, text: &str) -> bool 
     has_text(&clone, text)
 }
 
-/// Interns, clones and drops each of the texts, so often. Whether each atom had its text.
+/// Interns, clones and drops each of the texts, this often. Returns whether each atom had its text.
 pub fn turn_over<S: SharedSet, R: Wait + Abort>(
     rt: &R,
     set: S,
@@ -282,12 +282,12 @@ pub fn turn_over<S: SharedSet, R: Wait + Abort>(
     is_same
 }
 
-/// Whether so many turns were as they should be, and all of them.
+/// Whether this many turns were as they should be, and all of them.
 fn are_all(turns: &[bool], number: usize) -> bool {
     turns.len() == number && turns.iter().all(|is_same| *is_same)
 }
 
-/// So many workers, each with so many rounds, at these texts. Whether each atom had its text, and whether none is left linked.
+/// This many workers, each with this many rounds, at these texts. Returns whether each atom had its text, and whether none is left linked.
 fn work_together<S: SharedSet + Together + Send + Sync, R: Threads + Wait + Abort + Sync>(
     rt: &R,
     set: S,
@@ -315,7 +315,7 @@ fn check_workers<S: SharedSet + Together + Send + Sync, R: Threads + Wait + Abor
     assert_that(rt, work_together(rt, set, crew, texts));
 }
 
-/// So many workers, each with so many rounds, at eleven texts of one bucket, in sets of 2 to the power of `bits` buckets. As ten texts for each
+/// This many workers, each with this many rounds, at eleven texts of one bucket, in sets of 2 to the power of `bits` buckets. As ten texts for each
 /// bucket would be fewer, some bucket has eleven.
 fn check_crew<R: Threads + Clock + Wait + Abort + Sync>(
     rt: &R,

@@ -38,7 +38,7 @@ fn text_of_a_dying_entry_gets_a_new_one(rt: HostRuntime) {
     play(&rt, rt.alloc(), USUAL, &[&LET_DIE, &INTERNED_ANEW]);
 }
 
-/// The words of "forgotten" and "magnitude", where these are the first two texts.
+/// The words of "forgotten" and "magnitude", if these are the first two texts.
 const FORGOTTEN: u64 = 0x1_1cbc;
 
 const MAGNITUDE: u64 = 0x2_1cbc;
@@ -62,13 +62,13 @@ const HELD_STAY: [Step; 15] = [
     Step::Is(1, "magnitude", MAGNITUDE),
 ];
 
-/// Passes for the other text, interning both again, sweeps and drops that aren't the last leave an entry that has a share.
+/// Passes for the other text, interning both again, sweeps, and drops that aren't the last leave an entry that has a share.
 #[test]
 fn held_texts_stay_linked(rt: HostRuntime) {
     play(&rt, rt.alloc(), USUAL, &[&HELD_STAY]);
 }
 
-/// The texts are of the first bucket, of the last one, and two of one between.
+/// The texts are in the first bucket, in the last one, and two in one between.
 const SWEEP_EACH: [Step; 12] = [
     Step::Intern("afterwards"),
     Step::Intern("geometric"),
@@ -101,7 +101,7 @@ const ONE_OF_TWO_SHARES: [Step; 8] = [
     Step::Linked(0),
 ];
 
-/// The same of a text whose hash is even: that of "interned", in a set of one bucket.
+/// The same for a text whose hash is even: that of "interned", in a set of one bucket.
 const ONE_OF_TWO_EVEN: [Step; 8] = [
     Step::Intern("tokenised"),
     Step::Intern("interned"),
@@ -152,7 +152,7 @@ const THREE_DIE: [Step; 9] = [
 /// What a sweep leaves, and what a pass for another text and the end of a living text's last atom do.
 const TWO_STAY: [Step; 4] = [
     Step::Sweep,
-    Step::Visits("repeated 1;tokenised 1;", "tokenised 1;repeated 1;"),
+    Step::Visits("repeated 1;tokenised 1;", "repeated 1;tokenised 1;"),
     Step::Drop(3),
     Step::Visits("tokenised 1;", "tokenised 1;"),
 ];
@@ -161,18 +161,18 @@ const NEW_ONE: [Step; 2] = [
     Step::Intern("magnitude"),
     Step::Visits(
         "magnitude 1;repeated 1;tokenised 1;",
-        "tokenised 1;repeated 1;magnitude 1;",
+        "repeated 1;tokenised 1;magnitude 1;",
     ),
 ];
 
 const HELD_ONE: [Step; 2] = [
     Step::Intern("tokenised"),
-    Step::Visits("repeated 1;tokenised 2;", "tokenised 2;repeated 1;"),
+    Step::Visits("repeated 1;tokenised 2;", "repeated 1;tokenised 2;"),
 ];
 
 const NONE_FOUND: [Step; 2] = [
     Step::Absent("magnitude"),
-    Step::Visits("repeated 1;tokenised 1;", "tokenised 1;repeated 1;"),
+    Step::Visits("repeated 1;tokenised 1;", "repeated 1;tokenised 1;"),
 ];
 
 const LAST_GOES: [Step; 2] = [Step::Drop(1), Step::Visits("repeated 1;", "repeated 1;")];

@@ -13,12 +13,12 @@ use string_cache::word::Buckets;
 use string_cache::{SetAtom, SharedSet};
 use test_calls::{has_text, hash_of, look_up};
 
-/// The bucket's place of a text.
+/// The place of a text's bucket.
 fn place_of(buckets: Buckets, text: &str) -> usize {
     usize::from(buckets.bucket_of(hash_of::<EmptyStaticAtomSet>(text)))
 }
 
-/// Puts a text at a place. Whether there was none yet.
+/// Puts a text at a place. Returns whether there was none yet.
 fn is_put(texts: &mut [String], place: usize, text: String) -> bool {
     match texts.get_mut(place) {
         Some(at) if at.is_empty() => {
@@ -34,7 +34,7 @@ fn text_of(rt: &impl Abort, alloc: Global, n: u32) -> String {
     format!(in alloc; "the text {n:06}").expect(rt, "a text")
 }
 
-/// Puts texts at their buckets' places till each has one. How many have.
+/// Puts texts at their buckets' places until each has one. Returns how many have.
 fn put_each(rt: &impl Abort, alloc: Global, buckets: Buckets, texts: &mut [String]) -> usize {
     let mut number = 0usize;
     for n in 0..400_000u32 {
@@ -101,15 +101,15 @@ fn visits<S: SharedSet, R: Wait>(rt: &R, set: S, number: usize, holders: u64) ->
     shown.entries == number as u64 && shown.fewest == holders && shown.most == holders
 }
 
-/// The bytes of a bucket, those that it keeps once it had a text, and those of a text of 15 bytes beside them.
+/// The bytes of a bucket, those that it keeps once it had a text, and those of a text of 15 bytes in addition.
 fn bytes_of(kind: Kind) -> [u128; 3] {
     match kind {
         Kind::Plain => [32, 32, 48 + 40 + 16],
-        Kind::Named => [48, 48 + 32, 40 + 16],
+        Kind::Named => [184, 184 + 32, 40 + 16],
     }
 }
 
-/// Whether the set has so many texts with these holders, of which each has a bucket of its own.
+/// Whether the set has this many texts with these holders, each in a bucket of its own.
 fn has_texts<S: SharedSet, R: Wait>(
     rt: &R,
     set: S,
@@ -139,7 +139,7 @@ fn end_last<T: Drop>(atoms: &mut Vec<T>) {
     let _ = atoms.pop();
 }
 
-/// Holds the texts, and lets each die while a visit has its bucket's lock. Whether they were linked and found before.
+/// Holds the texts, and lets each die while a visit has its bucket's lock. Returns whether they were linked and found before.
 fn are_found_till_they_die<S: SharedSet, R: Wait + Abort>(
     rt: &R,
     set: S,
@@ -152,7 +152,7 @@ fn are_found_till_they_die<S: SharedSet, R: Wait + Abort>(
     are_held && atoms.is_empty()
 }
 
-/// Whether the texts are linked and found while they are held, and only linked while they die, till a sweep.
+/// Whether the texts are linked and found while they are held, and only linked while they die, until a sweep.
 fn are_swept<S: SharedSet, R: Wait + Abort>(rt: &R, set: S, kind: Kind, texts: &[String]) -> bool {
     let were_held = are_found_till_they_die(rt, set, kind, texts);
     let are_dying = has_texts(rt, set, kind, texts.len(), 0);
@@ -166,7 +166,7 @@ fn go_alone<S: SharedSet, R: Wait + Abort>(rt: &R, set: S, kind: Kind, texts: &[
     is_empty(rt, set, kind, texts.len()) && found(rt, set, texts) == 0
 }
 
-/// Checks a set of as many buckets, of which each has one of the texts.
+/// Checks a set of as many buckets, each of which has one of the texts.
 pub fn check<S: SharedSet, R: Wait + Abort>(rt: &R, set: S, kind: Kind, texts: &[String]) {
     let [bucket, _, _] = bytes_of(kind);
     let of_none = (texts.len() as u128).saturating_mul(bucket);

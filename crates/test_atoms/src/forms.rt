@@ -1,4 +1,4 @@
-//! Dynamic texts of each sort in each call that takes one, in what the set tells of them, and in each way in which they go.
+//! Dynamic texts of each sort in each call that takes one, in what the set tells about them, and in each way in which they go.
 
 use crate::samples::{clone_of, intern};
 use crate::sets::{self, ONE_BUCKET, Size, ask};
@@ -58,7 +58,7 @@ fn comes<S: SharedSet, R: Wait + Abort>(rt: &R, set: S, text: &str) -> bool {
     is_given(rt, set, &intern(rt, set, text), text) && is_cloned(rt, set, text)
 }
 
-/// Whether the small atom has this text, and is turned into the other, whose text is in capitals.
+/// Whether the small atom has this text, and is turned into the other, whose text is in upper case.
 fn is_raised<S: SharedSet, R: Wait + Abort>(
     rt: &R,
     set: S,
@@ -71,7 +71,7 @@ fn is_raised<S: SharedSet, R: Wait + Abort>(
         && is_same(atom, upper_of(rt, set, small))
 }
 
-/// Whether the atom, whose text is in capitals, stays as it is in capitals, and is turned into small letters and back.
+/// Whether the atom, whose text is in upper case, stays as it is in upper case, and is turned into lower case and back.
 fn is_in_cases<S: SharedSet, R: Wait + Abort>(
     rt: &R,
     set: S,
@@ -82,7 +82,7 @@ fn is_in_cases<S: SharedSet, R: Wait + Abort>(
         && is_raised(rt, set, atom, &lower_of(rt, set, atom), lower)
 }
 
-/// Whether the text is put into capitals and into small letters.
+/// Whether the text is put into upper case and into lower case.
 fn changes<S: SharedSet, R: Wait + Abort>(rt: &R, set: S, text: &str) -> bool {
     let alloc = set.allocator();
     let upper = text.to_ascii_uppercase(alloc).expect(rt, "a text");
@@ -90,7 +90,7 @@ fn changes<S: SharedSet, R: Wait + Abort>(rt: &R, set: S, text: &str) -> bool {
     is_in_cases(rt, set, &intern(rt, set, &upper), &lower)
 }
 
-/// What a visit tells of one text: how often it came, with how many holders, and how many others came.
+/// What a visit tells about one text: how often it was visited, with how many holders, and how many others were.
 #[derive(Clone, Copy, PartialEq, Eq)]
 struct Seen {
     times: u64,
@@ -99,7 +99,7 @@ struct Seen {
 }
 
 impl Seen {
-    /// Notes the next text that is visited, of which there are so many holders.
+    /// Notes the next text that is visited, which has this many holders.
     fn note(&mut self, text: &str, next: &str, holders: u64) {
         if next == text {
             self.times = self.times.saturating_add(1);
@@ -120,7 +120,7 @@ fn seen_of<S: SharedSet, R: Wait>(rt: &R, set: S, text: &str) -> Seen {
     seen
 }
 
-/// Whether the text alone is linked, and visited once, with so many holders.
+/// Whether the text alone is linked, and visited once, with this many holders.
 fn is_seen_with<S: SharedSet, R: Wait>(rt: &R, set: S, text: &str, holders: u64) -> bool {
     let seen = seen_of(rt, set, text);
     seen.times == 1 && seen.holders == holders && seen.others == 0 && links(rt, set, 1)
@@ -139,7 +139,7 @@ fn end<T: Drop>(last: &mut Option<T>) {
     *last = None;
 }
 
-/// Lets the text's atom go while a visit has its bucket's lock. Whether the text is still linked then, without a holder.
+/// Lets the text's atom go while a visit has its bucket's lock. Returns whether the text is then still linked, without a holder.
 fn is_dying<S: SharedSet, R: Wait + Abort>(rt: &R, set: S, text: &str) -> bool {
     let mut last = Some(intern(rt, set, text));
     set.for_each(rt, |_, _| end(&mut last));
@@ -154,7 +154,7 @@ fn goes<S: SharedSet, R: Wait + Abort>(rt: &R, set: S, text: &str) -> bool {
     is_swept && is_dying(rt, set, text) && is_absent(rt, set, text) && links(rt, set, 0)
 }
 
-/// Whether one that died makes place for a new one of the same text.
+/// Whether one that died makes room for a new one of the same text.
 fn comes_again<S: SharedSet, R: Wait + Abort>(rt: &R, set: S, text: &str) -> bool {
     let was_dying = is_dying(rt, set, text);
     let again = intern(rt, set, text);
@@ -166,14 +166,14 @@ fn bytes_of(text: &str) -> u128 {
     40 + (text.len() as u128).div_ceil(8) * 8
 }
 
-/// How many bytes more the set has while the text is held.
+/// How many more bytes the set has while the text is held.
 fn memory_of<S: SharedSet, R: Wait + Abort>(rt: &R, set: S, text: &str) -> u128 {
     let before = set.memory(rt);
     let _atom = intern(rt, set, text);
     set.memory(rt).saturating_sub(before)
 }
 
-/// Whether the text's bytes are counted beside another text, for which its bucket has made room.
+/// Whether the text's bytes are counted next to another text, for which its bucket has made room.
 fn is_counted<S: SharedSet, R: Wait + Abort>(rt: &R, set: S, text: &str) -> bool {
     let _other = intern(rt, set, "interned");
     let before = set.memory(rt);
@@ -219,7 +219,7 @@ pub fn check<S: SharedSet, R: Wait + Abort>(rt: &R, set: S, question: Question) 
     assert_that(rt, is_so(rt, set, question, &long));
 }
 
-/// Each text is interned, found, cloned, changed, read from JSON and visited, dies, comes again and goes.
+/// Each text is interned, found, cloned, changed, read from JSON and visited, dies, is interned again and goes.
 #[test]
 fn texts_of_each_sort(rt: HostRuntime) {
     ask(
@@ -230,7 +230,7 @@ fn texts_of_each_sort(rt: HostRuntime) {
     );
 }
 
-/// A set tells each text's bytes.
+/// A set counts each text's bytes.
 #[test]
 fn texts_are_counted(rt: HostRuntime) {
     ask(

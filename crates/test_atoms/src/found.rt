@@ -23,8 +23,8 @@ fn fixed_texts_are_found(rt: HostRuntime) {
     play(&rt, rt.alloc(), USUAL, &[&FIXED]);
 }
 
-/// "forgotten" has an atom, where another text of its bucket and one of another bucket have none. What is found holds its text after the atom
-/// that it was found by has gone, and not longer than itself.
+/// "forgotten" has an atom, but another text of its bucket and one of another bucket have none. What is found holds its text after the atom that it
+/// was found by has gone, and no longer than it lives itself.
 const HELD: [Step; 11] = [
     Step::Intern("forgotten"),
     Step::Absent("magnitude"),
@@ -44,7 +44,7 @@ fn held_texts_alone_are_found(rt: HostRuntime) {
     play(&rt, rt.alloc(), USUAL, &[&HELD]);
 }
 
-/// Each of five texts of one bucket, which lie in two nodes of a set without a name.
+/// Each of five texts of one bucket, which are in two nodes of a set without a name.
 const OF_A_BUCKET: [Step; 18] = [
     Step::Intern("interned"),
     Step::Intern("tokenised"),
@@ -71,7 +71,7 @@ fn each_text_of_a_bucket_is_found(rt: HostRuntime) {
     play(&rt, rt.alloc(), ONE_BUCKET, &[&OF_A_BUCKET]);
 }
 
-/// The only ticket of "interned" is left after it was looked up, and none then.
+/// The only ticket of "interned" is left after it was looked up, and then none.
 const WITHOUT_TICKETS: [Step; 8] = [
     Step::Absent("interned"),
     Step::Linked(0),

@@ -5,8 +5,8 @@ use crate::scenes::{Call, Step};
 use crate::sets::{Size, USUAL, play, within};
 use string_cache::Fault;
 
-/// Two atoms of a text are all that there may be, for each call that would make one more. Where one of them goes, both calls make an atom of
-/// the same word, one after the other.
+/// Two atoms of a text are all that there may be, for each call that would make one more. When one of them goes, both calls make an atom of the same
+/// word, one after the other.
 const TWO_HOLDERS: [Step; 20] = [
     Step::Intern("interned"),
     Step::Intern("interned"),
@@ -46,7 +46,7 @@ fn one_serial(rt: HostRuntime) {
     play(&rt, rt.alloc(), within(9, 1), &[&ONE_SERIAL]);
 }
 
-/// A text of two thousand holders and one more, interned and cloned in turn, of which the first is left.
+/// A text of two thousand and one holders, interned and cloned in turn, of which the first is left.
 const MANY: [Step; 9] = [
     Step::Intern("interned"),
     Step::Repeat(&[Call::Intern("interned"), Call::Clone(0)], 1000),
@@ -64,8 +64,8 @@ fn two_thousand_holders(rt: HostRuntime) {
     play(&rt, rt.alloc(), USUAL, &[&MANY]);
 }
 
-/// While the text has a holder more, which is made in lower case of an atom in upper case, there can't be a third. No serial is left, and once
-/// the two holders have gone, none has.
+/// While the text has one more holder, which is made in lower case from an atom in upper case, there can't be a third. No serial is left, and once
+/// the two holders have gone, nobody can hold it.
 const NO_SHARE_STAYS: [Step; 26] = [
     Step::Intern("interned"),
     Step::Make(Call::Upper(0)),
@@ -107,7 +107,7 @@ const NARROW: Size = Size {
     limits: Some((2, 2)),
 };
 
-/// Each call that would hold once more what has two holders is refused for that, also if another text is put into small letters.
+/// Each call that would add a holder to what has two holders is refused for that, even if another text is put into lower case.
 const FULL: [Step; 13] = [
     Step::Intern("größenordnung"),
     Step::Intern("größenordnung"),
@@ -124,8 +124,8 @@ const FULL: [Step; 13] = [
     Step::Refused(Call::Lower(2), Fault::FullCount),
 ];
 
-/// Once both tickets are given, each call that would link another text is refused for that, also if a static one is put into capitals. The
-/// text that has one holder can be held once more by each call.
+/// Once both tickets are given, each call that would link another text is refused for that, even if a static one is put into upper case. The text
+/// that has one holder can be held once more by each call.
 const SPENT: [Step; 20] = [
     Step::Refused(Call::Intern("tokenised"), Fault::TicketsSpent),
     Step::Refused(Call::Own("tokenised"), Fault::TicketsSpent),
@@ -154,7 +154,7 @@ fn limits_refuse_calls(rt: HostRuntime) {
     play(&rt, rt.alloc(), NARROW, &[&FULL, &SPENT]);
 }
 
-/// Inline and static texts are nobody's to hold: the set has none of them.
+/// Nobody holds inline and static texts: the set has none of them.
 const FIXED: [Step; 7] = [
     Step::Intern(""),
     Step::Intern("été"),

@@ -1,4 +1,4 @@
-//! Atoms where any text or any bytes are asked for, and atoms in structs that are written as JSON.
+//! Atoms used where any text or any bytes are asked for, and atoms in structs that are written as JSON.
 
 use crate::assert_for;
 use crate::samples::{intern, new_set};

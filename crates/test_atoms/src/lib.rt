@@ -1,7 +1,6 @@
-//! Rows with worked values of sets, their buckets and their atoms: the atoms' words, texts, orders, cases and JSON texts, how many may hold
-//! one, and packed static types. And what no contract says of them: which locks are taken, what is counted, and what threads see of each
-//! other. They stand apart from those crates, since a crate with tests is proved twice, and in one crate, since a check of tests reads the
-//! libraries first.
+//! Rows with worked values of sets, their buckets and their atoms: the atoms' words, texts, orders, cases and JSON texts, how many may hold one, and
+//! packed static types. And what no contract says about them: which locks are taken, what is counted, and what threads see of each other. They are
+//! apart from those crates, since a crate with tests is proved twice, and in one crate, since a check of tests reads the libraries first.
 #![tactic(auto)]
 
 ghost use Rattle.std.specs.Prelude.{IsTrue};
@@ -67,7 +66,7 @@ fn assert_that(rt: &impl std::process::Abort, is_so: bool)
     assert!(rt; is_so);
 }
 
-/// Ends the test unless this is so for a value, which it tells.
+/// Ends the test unless this is so for a value, which it prints.
 #[cfg(test)]
 fn assert_for<T: std::fmt::Debug>(rt: &impl std::process::Abort, is_so: bool, value: &T)
     ensures { IsTrue is_so }

@@ -1,4 +1,4 @@
-//! Lists of atoms of one set: what they hold, and that what goes from them is given back.
+//! Lists of atoms of one set: what they hold, and that what is taken out of them is given back.
 
 mod many;
 
@@ -109,7 +109,7 @@ fn has_texts<S: SharedSet>(list: &SetList<S>, texts: &[&str]) -> bool {
         && has_each(list, texts)
 }
 
-/// Whether the list has these texts, and the set so many entries.
+/// Whether the list has these texts, and the set this many entries.
 fn holds<S: SharedSet, R: Wait>(
     rt: &R,
     set: S,
@@ -151,7 +151,7 @@ fn lends_none<S: SharedSet, R: Wait + Abort>(rt: &R, list: &SetList<S>, at: usiz
 /// An inline text, a static one, and two that are dynamic, one of them not ASCII.
 const FORMS: [&str; 5] = ["é", "sentence", "interned", "", "Überfluß"];
 
-/// A list of each form lends the atoms of its texts, and none behind them.
+/// A list of each form lends the atoms of its texts, and none after them.
 fn lend_each_form<S: SharedSet, R: Wait + Abort>(rt: &R, set: S, list: &SetList<S>) {
     assert_that(rt, holds(rt, set, list, &FORMS, 2));
     for (at, text) in FORMS.iter().enumerate() {
@@ -169,7 +169,7 @@ fn list_of_each_form(rt: HostRuntime) {
     play_both(&rt, rt.alloc(), USUAL, Scene::EachForm);
 }
 
-/// The list, where one that borrows its set for a shorter time is asked for.
+/// The list, used where one that borrows its set for a shorter time is asked for.
 fn shortened<'l, 's>(list: &'l AtomList<'s, One>) -> &'l AtomList<'l, One> {
     list
 }
@@ -180,7 +180,7 @@ fn list_stands_for_a_shorter_time(rt: HostRuntime) {
     assert_that(&rt, shortened(&AtomList::new(&set)).is_empty());
 }
 
-/// Whether the last place is of this word and text, and the set then has so many entries with what the list has left.
+/// Whether the last place is of this word and text, and the set then has this many entries with what the list has left.
 fn pops<S: SharedSet, R: Wait>(
     rt: &R,
     set: S,
@@ -199,10 +199,10 @@ fn has_last<S: SharedSet>(list: &mut SetList<S>) -> bool {
     pop(list).is_some()
 }
 
-/// Four texts, of which two are one.
+/// Four texts, two of which are the same.
 const FOUR: [&str; 4] = ["interned", "a", "interned", "geometric"];
 
-/// Takes and cuts off the places of a list of the four, till it has none.
+/// Takes and cuts off the places of a list of the four, until it has none.
 fn take_places<S: SharedSet, R: Wait + Abort>(rt: &R, set: S, list: &mut SetList<S>) {
     assert_that(
         rt,
@@ -243,7 +243,7 @@ fn cleared_list_is_filled_again(rt: HostRuntime) {
 /// One text, two times.
 const TWICE: [&str; 2] = ["interned", "interned"];
 
-/// Whether the list's every way to one holder more of "interned" is refused, and leaves it as it was.
+/// Whether the list's every way to one more holder of "interned" is refused, and leaves it as it was.
 fn is_full<S: SharedSet, R: Wait>(rt: &R, list: &mut SetList<S>) -> bool {
     push(rt, list, "interned") == Err(Fault::FullCount)
         && cloned_at(rt, list, 0).err() == Some(Fault::FullCount)
@@ -354,13 +354,13 @@ fn end_under_lock<S: SharedSet, R: Wait + Abort>(rt: &R, set: S) {
     set.sweep(rt);
 }
 
-/// The end of a list waits for no lock: what it lets go under one that a visit has goes with the next pass.
+/// The end of a list waits for no lock: what it lets go of while a visit has the lock goes with the next pass.
 #[test]
 fn list_ends_under_a_held_lock(rt: HostRuntime) {
     play_both(&rt, rt.alloc(), USUAL, Scene::EndsUnderLock);
 }
 
-/// Gives inline and static texts places, and takes them out. Whether there was one to take.
+/// Gives inline and static texts places, and takes them out. Returns whether there was one to take.
 fn fills_with_fixed<S: SharedSet, R: Wait + Abort>(rt: &R, set: S) -> bool {
     let mut list = list_of(rt, set, &["é", "sentence"]);
     let has_second = !lends_none(rt, &list, 1) && has_last(&mut list);

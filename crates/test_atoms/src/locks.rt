@@ -1,5 +1,5 @@
-//! Buckets' locks that are held meanwhile, and what stays linked. By OpenSSL's SipHash the bucket of "afterwards" is 0, of
-//! "geometric" 0xfff, and of "forgotten" and "magnitude" 0x72f.
+//! Buckets' locks that are held in the meantime, and what stays linked. By OpenSSL's SipHash the bucket of "afterwards" is 0, of "geometric" 0xfff,
+//! and of "forgotten" and "magnitude" 0x72f.
 
 use crate::assert_that;
 use crate::samples::{DefaultSet, check_linked, default_set, intern, lock_of, locks_but, shown};
@@ -14,7 +14,7 @@ use string_cache::static_sets::{EmptyStaticAtomSet, StaticTables};
 use string_cache::{Atom, DefaultAtom};
 use test_calls::{has_word, look_up};
 
-/// What is done with a new set beside another thread.
+/// What is done with a new set while another thread is there.
 #[derive(Clone, Copy)]
 enum Scene {
     OneBucket,
@@ -43,7 +43,7 @@ fn is_free(bucket: &Mutex<Bucket<EmptyStaticAtomSet>>) -> bool {
     bucket.try_lock().is_some()
 }
 
-/// Whether each lock is free but this bucket's, which is held, or each, where there is no such bucket.
+/// Whether each lock is free but this bucket's, which is held, or all are if there is no such bucket.
 fn are_free(set: &DefaultSet, held: usize) -> bool {
     for (at, bucket) in set.buckets().iter().enumerate() {
         if is_free(bucket) == (at == held) {
@@ -71,7 +71,7 @@ fn last_drop_under_a_held_lock(rt: HostRuntime) {
     check_linked(&rt, &set, 0);
 }
 
-/// A last drop keeps no lock, and prunes its own bucket alone.
+/// A last drop keeps no lock, and prunes only its own bucket.
 #[test]
 fn last_drop_keeps_no_lock(rt: HostRuntime) {
     let set = default_set(&rt, rt.alloc());
@@ -91,7 +91,7 @@ fn two_atoms<'s, R: Wait + Abort>(
     (intern(rt, set, first), intern(rt, set, second))
 }
 
-/// What the call gives, and whether it ended while this thread had the locks. They are let go after `most` milliseconds at the latest.
+/// What the call returns, and whether it ended while this thread had the locks. They are released after `most` milliseconds at the latest.
 fn beside<R: Threads + Clock, L: Drop, T: Send, F: FnOnce() -> T + Send>(
     rt: &R,
     most: u32,
@@ -136,13 +136,13 @@ fn has_found<R: Wait, Static: StaticTables>(
     }
 }
 
-/// Interns a text that is held already, and looks it up.
+/// Interns a text that is already held, and looks it up.
 fn intern_again<R: Wait + Abort>(rt: &R, set: &DefaultSet) -> bool {
     let second = intern(rt, set, "interned");
     has_word(&second, INTERNED) && has_found(rt, set, "interned", &second)
 }
 
-/// Interns a text twice, looks it up, and drops the atoms. Whether their words were the first ticket's.
+/// Interns a text twice, looks it up, and drops the atoms. Returns whether their words were the first ticket's.
 fn intern_twice<R: Wait + Abort>(rt: &R, set: &DefaultSet) -> bool {
     let first = intern(rt, set, "interned");
     has_word(&first, INTERNED) && intern_again(rt, set)
@@ -182,7 +182,7 @@ fn told<R: Wait>(rt: &R, set: &DefaultSet, call: Call) -> u128 {
     }
 }
 
-/// Whether the bucket is without entries within ten seconds.
+/// Whether the bucket is empty within ten seconds.
 fn is_emptied<R: Wait + Clock>(rt: &R, bucket: &Mutex<Bucket<EmptyStaticAtomSet>>) -> bool {
     for _ in 0..10_000 {
         if bucket.lock(rt).len() == 0 {
@@ -229,7 +229,7 @@ fn sweep_goes_on_to_the_last_bucket(rt: HostRuntime) {
     play(&rt, rt.alloc(), Scene::SweepGoesOn);
 }
 
-/// Whether the call, once it waits for the last bucket's lock, comes to hold no other.
+/// Whether the call holds no other lock once it waits for the last bucket's.
 fn waits_alone<R: Threads + Clock + Wait + Abort + Sync>(
     rt: &R,
     set: &DefaultSet,

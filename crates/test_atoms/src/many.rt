@@ -5,7 +5,7 @@ use crate::crowds::numbered;
 use crate::samples::{
     DefaultSet, check_linked, clone_of, intern, lock_of, one_bucket, shown, word_of,
 };
-use crate::sets::{self, ONE_BUCKET, ask};
+use crate::sets::{self, Kind, ONE_BUCKET, ask};
 use std::alloc::Global;
 use std::ops::Range;
 use std::process::Abort;
@@ -20,7 +20,7 @@ use test_calls::{hash_of, is_of, links, look_up};
 
 const MANY: u32 = 70_000;
 
-/// Of what there are so many in the only bucket of a new set.
+/// What there is this many of in the only bucket of a new set.
 #[derive(Clone, Copy)]
 pub enum Question {
     Holders,
@@ -30,12 +30,12 @@ pub enum Question {
 }
 
 /// Asks it of a set, which has no text afterwards.
-pub fn check<S: SharedSet, R: Wait + Abort>(rt: &R, set: S, question: Question) {
+pub fn check<S: SharedSet, R: Wait + Abort>(rt: &R, set: S, kind: Kind, question: Question) {
     match question {
         Question::Holders => hold_by_many(rt, set),
         Question::Serials => come_many_times(rt, set),
-        Question::Texts => hold_many(rt, set),
-        Question::Dying => let_many_die(rt, set),
+        Question::Texts => hold_many(rt, set, kind),
+        Question::Dying => let_many_die(rt, set, kind),
     }
     check_linked(rt, set, 0);
 }
@@ -45,13 +45,13 @@ fn check_both<R: Threads + Clock + Wait + Abort + Sync>(rt: &R, alloc: Global, q
     ask(rt, alloc, ONE_BUCKET, sets::Question::Many(question));
 }
 
-/// How many texts a visit shows, and how many holders they have together.
+/// The number of texts that a visit shows, and of the holders that they have together.
 fn visited<S: SharedSet, R: Wait>(rt: &R, set: S) -> (u64, u64) {
     let shown = shown(rt, set);
     (shown.entries, shown.holders)
 }
 
-/// So many clones of an atom.
+/// This many clones of an atom.
 fn clones_of<H: AtomKind, R: Wait + Abort>(
     rt: &R,
     alloc: Global,
@@ -64,7 +64,7 @@ fn clones_of<H: AtomKind, R: Wait + Abort>(
     clones
 }
 
-/// So many atoms of one text.
+/// This many atoms of one text.
 fn atoms_of<S: SharedSet, R: Wait + Abort>(rt: &R, set: S, text: &str) -> Vec<SetAtom<S::Held>> {
     clones_of(rt, set.allocator(), &intern(rt, set, text))
 }
@@ -81,7 +81,7 @@ fn one_text_has_many_holders(rt: HostRuntime) {
     check_both(&rt, rt.alloc(), Question::Holders);
 }
 
-/// Whether the text comes with this serial. It goes at once.
+/// Whether the text gets this serial. It goes at once.
 fn comes_with<S: SharedSet, R: Wait + Abort>(rt: &R, set: S, serial: u64) -> bool {
     word_of(rt, set, "interned") >> 16 == serial
 }
@@ -98,8 +98,13 @@ fn one_text_comes_many_times(rt: HostRuntime) {
     check_both(&rt, rt.alloc(), Question::Serials);
 }
 
-/// How many texts one bucket holds here: each call walks over all of them.
-const TEXTS: usize = 2_500;
+/// How many texts one bucket holds here: in a set without a name each call walks over all of them.
+fn texts_of(kind: Kind) -> usize {
+    match kind {
+        Kind::Plain => 2_500,
+        Kind::Named => 70_000,
+    }
+}
 
 /// Atoms of the texts of these numbers.
 fn numbered_atoms<S: SharedSet, R: Wait + Abort>(
@@ -123,17 +128,29 @@ fn is_found<S: SharedSet, R: Wait>(rt: &R, set: S, text: &str, word: u64) -> boo
     }
 }
 
-/// Whether the set shows them, with the oldest and the newest found.
-fn shows_texts<S: SharedSet, R: Wait>(rt: &R, set: S) -> bool {
-    links(rt, set, TEXTS as u128)
-        && visited(rt, set) == (TEXTS as u64, TEXTS as u64)
-        && is_found(rt, set, "w0000000", 0x1_0000)
-        && is_found(rt, set, "w0002499", 2_500 * 0x1_0000)
+/// Whether the text of a number is found with the serial behind it.
+fn is_found_at<S: SharedSet, R: Wait + Abort>(rt: &R, set: S, n: usize) -> bool {
+    let text = numbered(rt, set.allocator(), n);
+    is_found(
+        rt,
+        set,
+        &text,
+        (n as u64).saturating_add(1).saturating_mul(0x1_0000),
+    )
 }
 
-fn hold_many<S: SharedSet, R: Wait + Abort>(rt: &R, set: S) {
-    let _atoms = numbered_atoms(rt, set, 0..TEXTS);
-    assert_that(rt, shows_texts(rt, set));
+/// Whether the set shows this many of them, with the oldest and the newest found.
+fn shows_texts<S: SharedSet, R: Wait + Abort>(rt: &R, set: S, texts: usize) -> bool {
+    links(rt, set, texts as u128)
+        && visited(rt, set) == (texts as u64, texts as u64)
+        && is_found_at(rt, set, 0)
+        && is_found_at(rt, set, texts.saturating_sub(1))
+}
+
+fn hold_many<S: SharedSet, R: Wait + Abort>(rt: &R, set: S, kind: Kind) {
+    let texts = texts_of(kind);
+    let _atoms = numbered_atoms(rt, set, 0..texts);
+    assert_that(rt, shows_texts(rt, set, texts));
 }
 
 #[test]
@@ -146,35 +163,48 @@ fn end<T: Drop>(last: &mut Option<T>) {
     *last = None;
 }
 
-/// Lets 300 texts die while a visit has the lock of their bucket, in which so many others are held.
+/// Lets 300 texts die while a visit has the lock of their bucket, in which this many others are held.
 fn let_die<S: SharedSet, R: Wait + Abort>(rt: &R, set: S, held: u64) {
     let mut last = Some(numbered_atoms(rt, set, 0..300));
     set.for_each(rt, |_, _| end(&mut last));
     assert_that(rt, visited(rt, set) == (held.saturating_add(300), held));
 }
 
-/// They go with the next sweep, with a text that is interned then or looked for, and with the end of a text's last atom. The others stay.
-fn let_go_beside<S: SharedSet, R: Wait + Abort>(rt: &R, set: S, held: u64) {
+/// In a set with a name, looks up a text that isn't there as often as it takes to look at 450 cells of a bucket, of which each call looks at some.
+fn look_on<S: SharedSet, R: Wait + Abort>(rt: &R, set: S, kind: Kind) {
+    if let Kind::Named = kind {
+        for _ in 0..40u32 {
+            assert_that(rt, matches!(look_up(rt, set, "geometric"), Ok(None)));
+        }
+    }
+}
+
+/// They go with the next sweep, with a text that is then interned or looked for, and with the end of a text's last atom: by that call, or in a set
+/// with a name by those after it. The others stay.
+fn let_go_beside<S: SharedSet, R: Wait + Abort>(rt: &R, set: S, kind: Kind, held: u64) {
     let left = u128::from(held);
     let_die(rt, set, held);
     set.sweep(rt);
     check_linked(rt, set, left);
     let_die(rt, set, held);
     let atom = intern(rt, set, "interned");
+    look_on(rt, set, kind);
     check_linked(rt, set, left.saturating_add(1));
     let_die(rt, set, held.saturating_add(1));
     drop(atom);
+    look_on(rt, set, kind);
     check_linked(rt, set, left);
     let_die(rt, set, held);
     assert_that(rt, matches!(look_up(rt, set, "interned"), Ok(None)));
+    look_on(rt, set, kind);
     check_linked(rt, set, left);
 }
 
 /// They go in a bucket of their own, and in one that had 150 texts before, which are held.
-fn let_many_die<S: SharedSet, R: Wait + Abort>(rt: &R, set: S) {
-    let_go_beside(rt, set, 0);
+fn let_many_die<S: SharedSet, R: Wait + Abort>(rt: &R, set: S, kind: Kind) {
+    let_go_beside(rt, set, kind, 0);
     let _held = numbered_atoms(rt, set, 1_000..1_150);
-    let_go_beside(rt, set, 150);
+    let_go_beside(rt, set, kind, 150);
 }
 
 #[test]
@@ -192,7 +222,7 @@ fn link(alloc: Global, bucket: &mut Bucket<EmptyStaticAtomSet>, n: u32) -> Resul
     }
 }
 
-/// Links so many texts in a bucket, which no pass goes over meanwhile.
+/// Links this many texts in a bucket, which no pass goes over meanwhile.
 fn linked_in(
     rt: &impl Abort,
     alloc: Global,
@@ -223,7 +253,7 @@ fn link_many<R: Wait + Abort>(rt: &R, set: &DefaultSet) {
     assert_that(rt, links(rt, set, 0));
 }
 
-/// Of a set without a name, whose bucket can be asked to link without a walk.
+/// For a set without a name, whose bucket can be asked to link without a walk.
 #[test]
 fn one_bucket_has_many_entries(rt: HostRuntime) {
     link_many(&rt, &one_bucket(&rt, rt.alloc()));

@@ -68,7 +68,7 @@ fn ask<R: Threads + Wait + Abort + Sync>(rt: &R, alloc: Global, question: Questi
     ask_as::<Brand, R>(rt, alloc, name, question);
 }
 
-/// Whether two atoms are one, and of this text.
+/// Whether two atoms are the same, and of this text.
 fn are_one_of<N: SetName>(atom: &Word<'_, N>, other: &Word<'_, N>, text: &str) -> bool {
     let is_equal = atom == other;
     let is_one = are_one(atom, other);
@@ -76,19 +76,19 @@ fn are_one_of<N: SetName>(atom: &Word<'_, N>, other: &Word<'_, N>, text: &str) -
     is_equal && is_one && has_text
 }
 
-/// Whether two atoms are two.
+/// Whether two atoms are different.
 fn are_two<N: SetName>(atom: &Word<'_, N>, other: &Word<'_, N>) -> bool {
     atom != other && !are_one(atom, other)
 }
 
-/// Whether an atom of the text, one more, and a clone are one.
+/// Whether an atom of the text, one more, and a clone are the same.
 fn is_one<N: SetName, R: Wait + Abort>(rt: &R, set: &Named<N>, text: &str) -> bool {
     let atom = intern(rt, set, text);
     let is_cloned = are_one_of(&atom, &clone_of(rt, &atom), text);
     is_cloned && are_one_of(&atom, &intern(rt, set, text), text)
 }
 
-/// Whether the atoms of two texts are two.
+/// Whether the atoms of two texts are different.
 fn is_apart<N: SetName, R: Wait + Abort>(rt: &R, set: &Named<N>, text: &str, other: &str) -> bool {
     are_two(&intern(rt, set, text), &intern(rt, set, other))
 }
@@ -130,7 +130,7 @@ fn long_text(rt: &impl Abort, alloc: Global) -> String {
     "Größe, 長さ, 🦀".repeat(alloc, 15_000).expect(rt, "a text")
 }
 
-/// Whether the atoms are one that two threads are given for a text.
+/// Whether the atoms that two threads get for a text are the same.
 fn is_one_in_two<N: SetName + Send + Sync, R: Threads + Wait + Abort + Sync>(
     rt: &R,
     set: &Named<N>,

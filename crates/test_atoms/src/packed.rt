@@ -1,4 +1,4 @@
-//! Packed static types, which stand in `test_packed`.
+//! Packed static types, which are in `test_packed`.
 
 mod found;
 mod held;

@@ -1,4 +1,4 @@
-//! What atoms tell and print, with values that come from outside, and atoms of JSON texts.
+//! What atoms tell and print, with values from outside, and atoms of JSON texts.
 
 use crate::samples::{intern, new_set};
 use crate::{assert_for, assert_that};
@@ -28,7 +28,7 @@ fn default_atom(rt: HostRuntime) {
     check_text(&rt, &printed, "Atom('' type=inline)");
 }
 
-// Both print the atoms where they fail.
+// Both print the atoms if they fail.
 
 fn check_equal<Static: StaticAtomSet>(
     rt: &impl Abort,
@@ -71,13 +71,13 @@ fn write_aligned<D: Display>(out: &mut String, value: &D) -> Result<(), Fault> {
     Ok(())
 }
 
-/// Writes a value under precisions, and a width that is the least.
+/// Writes a value under precisions, and a minimum width.
 fn write_cut<D: Display>(out: &mut String, value: &D) -> Result<(), Fault> {
     write!(out, "{value:*^9.2}|{value:.1}|{value:2}")?;
     Ok(())
 }
 
-/// A value under options that a text heeds.
+/// A value under options that apply to a text.
 fn styled<D: Display>(alloc: Global, value: &D) -> Result<String, Fault> {
     let mut out = String::new(alloc);
     write_aligned(&mut out, value)?;
@@ -199,7 +199,7 @@ fn atoms_of_one_text(rt: HostRuntime) {
     check_interned(&rt, &set, interned_cow(&rt, &set, text));
 }
 
-/// What a JSON text is refused for.
+/// Why a JSON text is refused.
 fn fault_of<R: Wait + Abort>(rt: &R, set: &Set<EmptyStaticAtomSet>, json: &str) -> Fault {
     let value = parsed(rt, set.allocator(), json);
     read_json(rt, set, &value).err().expect(rt, "a fault")

@@ -1,5 +1,4 @@
-//! What tests of this crate share: sets, atoms and numbers of buckets. They say nothing of what they do, so that each test is proved in a
-//! moment.
+//! What tests of this crate share: sets, atoms and numbers of buckets. They say nothing about what they do, so that each test is proved in a moment.
 
 use crate::assert_that;
 use std::alloc::Global;
@@ -17,7 +16,7 @@ pub type DefaultSet = Set<EmptyStaticAtomSet>;
 /// The bits of buckets that tests take: one bucket, the usual number, and the most.
 pub const BITS: [u8; 3] = [0, 12, 14];
 
-/// The buckets with so many bits.
+/// The buckets with this many bits.
 pub fn buckets_of(rt: &impl Abort, bits: u8) -> Buckets {
     Buckets::new(bits).expect(rt, "bits")
 }
@@ -63,8 +62,7 @@ pub fn lock_of<'s, R: Wait + Abort>(
     locked(rt, set, at).expect(rt, "a bucket")
 }
 
-/// What a visit of a set's entries shows: how many there are, how many holders they have together, and how many an entry has at the least
-/// and at the most.
+/// What a visit of a set's entries shows: how many there are, how many holders they have together, and the fewest and the most that an entry has.
 #[derive(Clone, Copy)]
 pub struct Visit {
     pub entries: u64,
@@ -98,7 +96,7 @@ pub fn check_linked<S: SharedSet, R: Wait + Abort>(rt: &R, set: S, count: u128) 
     assert_that(rt, links(rt, set, count));
 }
 
-/// The locks of all buckets but the one at this place, or of all, where there is no such bucket.
+/// The locks of all buckets but the one at this place, or of all if there is no such bucket.
 pub fn locks_but<'s, R: Wait + Abort, Static: StaticTables>(
     rt: &R,
     set: &'s Set<Static>,

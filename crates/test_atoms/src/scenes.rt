@@ -1,5 +1,5 @@
-//! Scenes over one set of either kind as data: what is done there, and what has to be so then. One function plays them, and keeps the atoms,
-//! so that a test has none of its own.
+//! Scenes over one set of either kind as data: what is done there, and what must then be so. One function plays them, and keeps the atoms, so that a
+//! test has none of its own.
 
 use crate::assert_for;
 use crate::sets::Kind;
@@ -14,39 +14,39 @@ use test_calls::{
     json_of, links, look_up, lowered, raised, read_json,
 };
 
-/// A step of a scene: what is done, or what has to be so. Its atoms have numbers, in the order in which they are made: 0 is the first.
+/// A step of a scene: what is done, or what must be so. Its atoms have numbers, in the order in which they are made: 0 is the first.
 #[derive(Drop)]
 pub enum Step {
     /// The text is interned, and its atom kept.
     Intern(&'static str),
     /// The call gives an atom, which is kept.
     Make(Call),
-    /// These calls are made so often, one after another, and their atoms kept.
+    /// These calls are made this often, one after another, and their atoms kept.
     Repeat(&'static [Call], usize),
     /// The atom goes.
     Drop(usize),
-    /// All atoms go but so many, the first ones.
+    /// All atoms go but the first ones, this many.
     Keep(usize),
     /// All atoms of the text go while a visit has the lock of its bucket, so that it stays linked.
     Die(&'static str),
     Sweep,
     /// The atom has this text and this word.
     Is(usize, &'static str, u64),
-    /// Both atoms have one word, and are equal.
+    /// Both atoms have the same word, and are equal.
     One(usize, usize),
     /// Each atom has this word.
     AllAre(u64),
-    /// The call is refused so.
+    /// The call is refused with this fault.
     Refused(Call, Fault),
     /// The text has no atom.
     Absent(&'static str),
     /// The text is interned with this word, and its atom goes.
     Word(&'static str, u64),
-    /// So many texts are linked.
+    /// This many texts are linked.
     Linked(u128),
     /// These are the texts that are linked, each with the number of its holders: in a set without a name, and in one with a name.
     Visits(&'static str, &'static str),
-    /// The set takes so many bytes: one without a name, and one with a name.
+    /// The set takes this many bytes: one without a name, and one with a name.
     Memory(u128, u128),
 }
 
@@ -58,7 +58,7 @@ pub enum Call {
     Own(&'static str),
     Cow(&'static str),
     Json(&'static str),
-    /// The text is looked up, and has to be found unless that is refused.
+    /// The text is looked up, and must be found unless that is refused.
     Find(&'static str),
     Clone(usize),
     Copy(usize),
@@ -68,10 +68,10 @@ pub enum Call {
     Again(usize),
 }
 
-/// What a scene keeps: its atoms, where those that have gone are replaced by that of the empty text.
+/// What a scene keeps: its atoms, with those that have gone replaced by that of the empty text.
 type Atoms<S> = Vec<SetAtom<<S as TextSet>::Held>>;
 
-// These say nothing of what they do, so that what calls them is proved in a moment.
+// These say nothing about what they do, so that their callers are proved in a moment.
 
 /// The atom of a number.
 fn atom_at<'a, H: AtomKind>(
@@ -117,7 +117,7 @@ fn again<S: SharedSet, R: Wait + Abort>(
     read_json(rt, set, &value)
 }
 
-/// What a call that takes a text gives, or is refused for.
+/// What a call that takes a text returns, or why it is refused.
 fn called_with<S: SharedSet, R: Wait + Abort>(
     rt: &R,
     set: S,
@@ -133,7 +133,7 @@ fn called_with<S: SharedSet, R: Wait + Abort>(
     }
 }
 
-/// What a call gives, or is refused for.
+/// What a call returns, or why it is refused.
 fn called<S: SharedSet, R: Wait + Abort>(
     rt: &R,
     set: S,
@@ -161,7 +161,7 @@ fn make_each<S: SharedSet, R: Wait + Abort>(rt: &R, set: S, atoms: &mut Atoms<S>
     }
 }
 
-/// Makes these calls so often.
+/// Makes these calls this often.
 fn repeat<S: SharedSet, R: Wait + Abort>(
     rt: &R,
     set: S,
@@ -258,7 +258,7 @@ fn takes<S: SharedSet, R: Wait>(rt: &R, set: S, bytes: u128) -> bool {
     set.memory(rt) == bytes
 }
 
-/// Whether the set of this kind tells of its texts as the step says.
+/// Whether the set of this kind tells about its texts what the step says.
 fn is_told<S: SharedSet, R: Wait>(rt: &R, set: S, kind: Kind, step: &Step) -> bool {
     match (step, kind) {
         (Step::Visits(wanted, _), Kind::Plain) => visits(rt, set, wanted),
@@ -289,7 +289,7 @@ fn is_so<S: SharedSet, R: Wait + Abort>(
     }
 }
 
-/// Takes a step. Whether what it says was so.
+/// Takes a step, and returns whether what it says was so.
 fn is_taken<S: SharedSet, R: Wait + Abort>(
     rt: &R,
     set: S,
@@ -323,7 +323,7 @@ fn take_each<S: SharedSet, R: Wait + Abort>(
     }
 }
 
-/// Plays the scenes in a set of this kind, each where the one before it ends.
+/// Plays the scenes in a set of this kind, each from where the one before it ends.
 pub fn play<S: SharedSet, R: Wait + Abort>(rt: &R, set: S, kind: Kind, scenes: &[&[Step]]) {
     let mut atoms = Vec::new(set.allocator());
     for steps in scenes {

@@ -23,7 +23,7 @@ use string_cache::dynamic_set::Set;
 use string_cache::word::Limits;
 use test_samples::One;
 
-/// Of which kind a set is.
+/// The kind of a set.
 #[derive(Clone, Copy)]
 pub enum Kind {
     /// Without a name.
@@ -62,24 +62,24 @@ pub fn within(holders: u64, serials: u64) -> Size {
 /// What is asked of a set.
 #[derive(Clone, Copy)]
 pub enum Question<'q> {
-    /// Scenes, each where the one before it ends.
+    /// Scenes, each from where the one before it ends.
     Scenes(&'q [&'q [Step]]),
     Texts(texts::Question),
     Forms(forms::Question),
     Told,
     Lists(lists::Scene),
     Many(many::Question),
-    /// One text in each bucket, which these are.
+    /// One text in each bucket; these are the texts.
     EveryBucket(&'q [String]),
     Threads(threads::Scene),
     Crowds(crowds::Question<'q>),
-    /// A call beside a visit.
+    /// A call during a visit.
     Waits(waits::Call),
     /// The first word of "interned".
     FirstWord(u64),
 }
 
-/// Asks it of a set that has to have these limits.
+/// Asks it of a set that must have these limits.
 fn asked<S: SharedSet + Together + Send + Sync, R: Threads + Clock + Wait + Abort + Sync>(
     rt: &R,
     set: S,
@@ -94,7 +94,7 @@ fn asked<S: SharedSet + Together + Send + Sync, R: Threads + Clock + Wait + Abor
         Question::Forms(of) => forms::check(rt, set, of),
         Question::Told => told::check(rt, set),
         Question::Lists(of) => lists::play(rt, set, of),
-        Question::Many(of) => many::check(rt, set, of),
+        Question::Many(of) => many::check(rt, set, kind, of),
         Question::EveryBucket(texts) => every_bucket::check(rt, set, kind, texts),
         Question::Threads(of) => threads::play(rt, set, of),
         Question::Crowds(of) => crowds::check(rt, set, of),
@@ -156,7 +156,7 @@ pub fn ask<R: Threads + Clock + Wait + Abort + Sync>(
     ask_named(rt, alloc, size, question);
 }
 
-/// Plays scenes in a new set of this size, of each kind, each scene where the one before it ends.
+/// Plays scenes in a new set of this size, of each kind, each scene from where the one before it ends.
 pub fn play<R: Threads + Clock + Wait + Abort + Sync>(
     rt: &R,
     alloc: Global,

@@ -13,7 +13,7 @@ use test_calls::{hash_of, links};
 /// A share of a text's entry, with its set.
 type Held<'s> = dynamic_set::Held<'s, EmptyStaticAtomSet>;
 
-/// Whether the third share is of the text and the first one's entry, and a single try gives none beside it.
+/// Whether the third share is of the text and the first one's entry, and a single try gives no further one.
 fn is_third(first: &Held<'_>, third: &Held<'_>, text: &str) -> bool
     requires { first.now.name.grows ≡ true }
 {
@@ -22,7 +22,7 @@ fn is_third(first: &Held<'_>, third: &Held<'_>, text: &str) -> bool
         && third.ticket() == first.ticket()
 }
 
-/// Whether a single try gives a third share beside the first and the second, and none then.
+/// Whether a single try gives a third share after the first and the second, and then none.
 fn has_third(first: &Held<'_>, second: &Held<'_>, text: &str) -> bool
     requires { (first.now.name.grows ≡ true) × (second.now.name.grows ≡ true) }
 {
@@ -41,7 +41,7 @@ fn has_second(first: &Held<'_>, text: &str) -> bool
     }
 }
 
-/// Whether a single try gives a share of the text's entry while it has fewer than three holders, and none then.
+/// Whether a single try gives a share of the text's entry while it has fewer than three holders, and then none.
 fn tries<R: Wait>(rt: &R, set: &DefaultSet, text: &str) -> bool {
     match set.intern_hashed(rt, text, hash_of::<EmptyStaticAtomSet>(text)) {
         Ok(first) => has_second(&first, text),

@@ -65,7 +65,7 @@ fn hash_of_text<S: SharedSet, R: Wait + Abort>(rt: &R, set: S, text: &str) -> u6
     intern(rt, set, text).get_hash()
 }
 
-/// Texts, and the numbers that their atoms hash as. The last is g and f1 of the text, as OpenSSL's SipHash tells them.
+/// Texts, and the numbers that their atoms hash as. The last is g and f1 of the text, as OpenSSL's SipHash gives them.
 const HASHES: [(&str, u64); 4] = [
     ("", 1),
     ("foo", 0x6f6f_6631),
@@ -90,7 +90,7 @@ fn order<S: SharedSet, R: Wait + Abort>(rt: &R, set: S, left: &str, right: &str)
     left.cmp(&intern(rt, set, right))
 }
 
-/// Two texts, and the order of their atoms. By their words "b" would stand before "aa", and "sentence" before "interned".
+/// Two texts, and the order of their atoms. By their words "b" would come before "aa", and "sentence" before "interned".
 const ORDERS: [(&str, &str, Ordering); 6] = [
     ("é", "z", Ordering::Greater),
     ("aa", "b", Ordering::Less),
@@ -111,7 +111,7 @@ fn orders(rt: HostRuntime) {
     check_both(&rt, rt.alloc(), Question::Orders);
 }
 
-/// Whether atoms of two texts are equal as they are, and without case, where these are true and not elsewhere.
+/// Whether atoms of two texts are equal as they are, and without case, exactly if these are true.
 fn have_equalities<S: SharedSet, R: Wait + Abort>(
     rt: &R,
     set: S,
@@ -123,7 +123,7 @@ fn have_equalities<S: SharedSet, R: Wait + Abort>(
     (left == right) == equal && left.eq_ignore_ascii_case(&right) == without_case
 }
 
-/// Whether the atom equals a text as it is, and without case, where these are true and not elsewhere.
+/// Whether the atom equals a text as it is, and without case, exactly if these are true.
 fn equals_text<H: AtomKind>(
     atom: &SetAtom<H>,
     text: &str,
@@ -201,7 +201,7 @@ fn clones(rt: HostRuntime) {
     check_both(&rt, rt.alloc(), Question::Clones);
 }
 
-/// Whether the other, which goes, is dynamic as the atom is, and one with it.
+/// Whether the other, which goes, is dynamic as the atom is, and equal to it.
 pub fn is_same<H: AtomKind>(atom: &SetAtom<H>, other: SetAtom<H>) -> bool {
     other.is_dynamic() && other == *atom && are_one(&other, atom)
 }
@@ -323,7 +323,7 @@ fn is_sentence<H: AtomKind>(atom: SetAtom<H>) -> bool {
     atom.is_static() && has_word(&atom, 2)
 }
 
-/// Whether the atom in capitals is dynamic, and the static one again in small letters.
+/// Whether the atom in upper case is dynamic, and the static one again in lower case.
 fn has_static_lower<S: SharedSet, R: Wait + Abort>(
     rt: &R,
     set: S,
@@ -361,7 +361,7 @@ fn has_length<H: AtomKind>(atom: &SetAtom<H>, bytes: usize) -> bool {
     atom.as_bytes().len() == bytes
 }
 
-/// Checks the other case of an atom that has small letters and none beyond ASCII to change.
+/// Checks the other case of an atom that has lower-case letters and none beyond ASCII to change.
 fn check_upper<S: SharedSet, R: Wait + Abort>(rt: &R, set: S, atom: &SetAtom<S::Held>) {
     let upper = upper_of(rt, set, atom);
     assert_that(

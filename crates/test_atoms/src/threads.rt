@@ -50,7 +50,7 @@ fn is_clone<H: AtomKind>(clone: &SetAtom<H>, atom: &SetAtom<H>, text: &str) -> b
     clone == atom && has_text(clone, text)
 }
 
-/// Interns, clones and drops a text. Whether both atoms were equal, and had it.
+/// Interns, clones and drops a text. Returns whether both atoms were equal, and had it.
 fn comes_and_goes<S: SharedSet, R: Wait + Abort>(rt: &R, set: S, text: &str) -> bool {
     let atom = intern(rt, set, text);
     is_clone(&clone_of(rt, &atom), &atom, text)
@@ -93,7 +93,7 @@ fn takes_no_more<H: AtomKind, R: Wait>(rt: &R, atom: &SetAtom<H>) -> bool {
     matches!(cloned(rt, atom), Err(Fault::FullCount))
 }
 
-/// Whether the atom takes just two more beside its two.
+/// Whether the atom takes just two more in addition to its two.
 fn takes_two_more<H: AtomKind, R: Wait + Abort>(rt: &R, atom: &SetAtom<H>) -> bool {
     let _third = clone_of(rt, atom);
     let _fourth = clone_of(rt, atom);
@@ -113,7 +113,7 @@ fn clone_in_two<S: SharedSet + Together + Send + Sync, R: Threads + Wait + Abort
     thread::join(rt, || set.clone_and_drop(rt), || set.clone_and_drop(rt));
 }
 
-/// Two threads clone atoms of one text, of which each has one, so that there are at most four holders.
+/// Two threads clone atoms of one text. Each has one, so there are at most four holders.
 fn clone_one_text<S: SharedSet + Together + Send + Sync, R: Threads + Wait + Abort + Sync>(
     rt: &R,
     set: S,
@@ -127,13 +127,13 @@ fn clone_one_text<S: SharedSet + Together + Send + Sync, R: Threads + Wait + Abo
     );
 }
 
-/// No share is lost or left over, and none is refused, though both threads change one count.
+/// No share is lost or left over, and none is refused, even though both threads change one count.
 #[test]
 fn two_threads_clone_one_text(rt: HostRuntime) {
     play_both(&rt, rt.alloc(), within(4, 9), Scene::Clones);
 }
 
-/// Waits until two threads have come here as often as this.
+/// Waits until two threads have come here this often.
 fn meet<R: Wait>(rt: &R, gate: &AtomicU64, times: u64) {
     let _ = gate.fetch_add(1, Ordering::SeqCst);
     for _ in rt.forever() {
@@ -144,8 +144,8 @@ fn meet<R: Wait>(rt: &R, gate: &AtomicU64, times: u64) {
     }
 }
 
-/// Interns a text at the same time as another thread does, which nobody holds before, in each of 2,000 rounds. In how many both had
-/// one word.
+/// In each of 2,000 rounds, interns a text that nobody held before, at the same time as another thread does. Returns in how many both had the same
+/// word.
 pub fn intern_beside<S: SharedSet, R: Wait + Abort>(
     rt: &R,
     set: S,

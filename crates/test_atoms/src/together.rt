@@ -1,4 +1,4 @@
-//! What threads do with one set side by side. These are calls of a trait whose bounds name no atom: in a thread, the checker takes no generic
+//! What threads do with one set side by side. These are calls of a trait whose bounds name no atom: in a thread, the checker accepts no generic
 //! function over a set whose atoms are bounded.
 
 use crate::sets::Kind;

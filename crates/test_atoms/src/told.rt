@@ -14,10 +14,10 @@ use string_cache::trivial_impls::PrecomputedHash;
 use string_cache::{AtomKind, SetAtom, SharedSet};
 use test_calls::{are_one, has_text, has_word};
 
-/// A text, its hash of 32 bits, what its atom prints as, for readers and for programmers, and the JSON that it is written as.
+/// A text, its 32-bit hash, what its atom prints as, for readers and for debugging, and the JSON that it is written as.
 type Row = (&'static str, u32, &'static str, &'static str);
 
-/// Texts that are inline, static and dynamic. The last hash is that of the text's entry, as OpenSSL's SipHash tells it.
+/// Texts that are inline, static and dynamic. The last hash is that of the text's entry, as OpenSSL's SipHash gives it.
 const ROWS: [Row; 5] = [
     ("", 1, ", Atom('' type=inline)", "\"\""),
     (
@@ -50,7 +50,7 @@ fn is_lent<A: AsStr + AsSlice<u8> + PrecomputedHash>(atom: &A, text: &str, hash:
     atom.as_str() == text && atom.as_slice() == text.as_bytes() && atom.precomputed_hash() == hash
 }
 
-/// What an atom prints as, and as what for programmers.
+/// What an atom prints as, for readers and for debugging.
 fn printed<A: Display + Debug>(rt: &impl Abort, alloc: Global, atom: &A) -> String {
     format!(in alloc; "{atom}, {atom:?}").expect(rt, "a text")
 }
@@ -140,7 +140,7 @@ fn is_empty<H: AtomKind>(atom: &SetAtom<H>) -> bool {
     has_word(atom, 1) && has_text(atom, "") && *atom == SetAtom::<H>::default()
 }
 
-/// Whether the first of two atoms stands behind the other.
+/// Whether the first of two atoms comes after the other.
 fn stands_behind<H: AtomKind>(atom: &SetAtom<H>, other: &SetAtom<H>) -> bool {
     atom.cmp(other) == Ordering::Greater && other.partial_cmp(atom) == Some(Ordering::Less)
 }

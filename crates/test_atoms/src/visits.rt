@@ -4,7 +4,7 @@
 use crate::scenes::{Call, Step};
 use crate::sets::{ONE_BUCKET, USUAL, play};
 
-/// Bucket by bucket, and in a bucket the newest first, or the oldest in a set with a name.
+/// Bucket by bucket, and in a bucket the newest first, or the oldest in a set with a name, where the last takes the place of one that goes.
 const EACH_PLAIN: &str = "afterwards 1;magnitude 1;forgotten 2;geometric 1;";
 
 const EACH_NAMED: &str = "afterwards 1;forgotten 2;magnitude 1;geometric 1;";
@@ -61,7 +61,7 @@ fn dying_entries_of_a_bucket_are_visited(rt: HostRuntime) {
     play(&rt, rt.alloc(), USUAL, &[&TWO_DYING]);
 }
 
-/// Five texts of one bucket, of which one between goes, and a new one comes.
+/// Five texts of one bucket. One between goes, and a new one is linked.
 const OF_A_BUCKET: [Step; 11] = [
     Step::Intern("interned"),
     Step::Intern("tokenised"),
@@ -76,7 +76,7 @@ const OF_A_BUCKET: [Step; 11] = [
     Step::Intern("magnitude"),
     Step::Visits(
         "magnitude 1;forgotten 1;repeated 1;document 1;interned 1;",
-        "interned 1;document 1;repeated 1;forgotten 1;magnitude 1;",
+        "interned 1;forgotten 1;document 1;repeated 1;magnitude 1;",
     ),
     Step::Keep(0),
     Step::Visits("", ""),
@@ -97,7 +97,7 @@ const CELL: u128 = 40;
 
 /// The bytes of a bucket of a set with a name, with its lock, and of four places for cells. A bucket makes room for four, then for twice as
 /// many as it has, and keeps it.
-const NAMED: u128 = 48;
+const NAMED: u128 = 184;
 
 const FOUR: u128 = 32;
 
@@ -178,8 +178,8 @@ fn memory_of_a_long_text(rt: HostRuntime) {
     play(&rt, rt.alloc(), ONE_BUCKET, &[&MEMORY_OF_LONG]);
 }
 
-/// A node stays for the one entry that is left in it: of two nodes the first entries stay, and three of each go. So do all eight places of a
-/// set with a name.
+/// A node stays for the one entry that is left in it: in two nodes the first entries stay, and three of each go. So do all eight places of a set with
+/// a name.
 const ONE_OF_A_NODE: [Step; 15] = [
     Step::Intern("interned"),
     Step::Intern("document"),
@@ -212,7 +212,7 @@ const WITH_TWO: Step = Step::Memory(
     4096 * NAMED + 2 * (FOUR + CELL + 16),
 );
 
-/// What is still linked counts, though nobody holds it.
+/// What is still linked counts, even though nobody holds it.
 const DYING_COUNT: [Step; 8] = [
     Step::Intern("afterwards"),
     Step::Intern("geometric"),

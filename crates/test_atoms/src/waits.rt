@@ -1,5 +1,5 @@
-//! Calls beside another thread's visit, which has a bucket's lock meanwhile: which of them wait for it, and what they tell then. By OpenSSL's
-//! SipHash the bucket of "afterwards" is 0, of "geometric" 0xfff, and of "interned" 0x210.
+//! Calls during another thread's visit, which has a bucket's lock: which of them wait for it, and what they then tell. By OpenSSL's SipHash the
+//! bucket of "afterwards" is 0, of "geometric" 0xfff, and of "interned" 0x210.
 
 use crate::assert_for;
 use crate::samples::{check_linked, clone_of, intern, shown};
@@ -15,7 +15,7 @@ use std::time::{Clock, Duration};
 use string_cache::{Fault, SetAtom, SharedSet};
 use test_calls::{has_text, has_word, look_up, lowered, read_json};
 
-/// What is done beside the visit.
+/// What is done during the visit.
 #[derive(Clone, Copy, Debug)]
 pub enum Call {
     /// What takes the lock of each bucket.
@@ -45,7 +45,7 @@ pub struct Meeting {
     has_ended: AtomicBool,
 }
 
-/// Waits till this is so, for so many milliseconds at the most. Whether it is.
+/// Waits until this is so, for at most this many milliseconds. Returns whether it is.
 fn waits_for<R: Clock>(rt: &R, is_so: &AtomicBool, most: u32) -> bool {
     for _ in 0..most {
         if is_so.load(Ordering::SeqCst) {
@@ -65,13 +65,13 @@ impl Meeting {
         }
     }
 
-    /// Lets the visit begin, and waits till it has the lock.
+    /// Lets the visit begin, and waits until it has the lock.
     fn meet<R: Clock>(&self, rt: &R) {
         self.is_ready.store(true, Ordering::SeqCst);
         let _ = waits_for(rt, &self.is_locked, 10_000);
     }
 
-    /// Keeps the lock till the call has ended, for so many milliseconds at the most. Whether it has.
+    /// Keeps the lock until the call has ended, for at most this many milliseconds. Returns whether it has.
     fn keep<R: Clock>(&self, rt: &R, most: u32) -> bool {
         self.is_locked.store(true, Ordering::SeqCst);
         waits_for(rt, &self.has_ended, most)
@@ -82,7 +82,7 @@ impl Meeting {
     }
 }
 
-/// Visits the set, and stays at the text. Whether the call ended meanwhile.
+/// Visits the set, and stays at the text. Returns whether the call ended in the meantime.
 pub fn visits_long<S: SharedSet, R: Clock + Wait>(
     rt: &R,
     set: S,
@@ -104,11 +104,11 @@ pub fn visits_long<S: SharedSet, R: Clock + Wait>(
 fn bytes_of(kind: Kind) -> u128 {
     match kind {
         Kind::Plain => 4096 * 32 + 2 * (48 + 40 + 16),
-        Kind::Named => 4096 * 48 + 2 * (32 + 40 + 16),
+        Kind::Named => 4096 * 184 + 2 * (32 + 40 + 16),
     }
 }
 
-/// Whether the set tells of two texts with one holder each.
+/// Whether the set shows two texts with one holder each.
 fn tells_two<S: SharedSet, R: Wait>(rt: &R, set: S, kind: Kind, call: Call) -> bool {
     match call {
         Call::Linked => set.linked(rt) == 2,
@@ -139,7 +139,7 @@ fn is_first<S: SharedSet, R: Wait + Abort>(rt: &R, set: S, text: &str, word: u64
     has_word(&atom, word) && is_found(rt, set, text)
 }
 
-/// Whether a clone's text in small letters is this one, and not dynamic.
+/// Whether a clone's text in lower case is this one, and not dynamic.
 fn lowers_to<S: SharedSet, R: Wait + Abort>(
     rt: &R,
     set: S,
@@ -150,7 +150,7 @@ fn lowers_to<S: SharedSet, R: Wait + Abort>(
     has_text(&lower, text) && !lower.is_dynamic()
 }
 
-/// Whether a text that isn't dynamic is interned, cloned, looked up and put into small letters.
+/// Whether a text that isn't dynamic is interned, cloned, looked up and put into lower case.
 fn keeps_fixed<S: SharedSet, R: Wait + Abort>(rt: &R, set: S, text: &str) -> bool {
     lowers_to(rt, set, &intern(rt, set, text), text) && is_found(rt, set, text)
 }
@@ -160,7 +160,7 @@ fn refuses_null<S: SharedSet, R: Wait>(rt: &R, set: S) -> bool {
     matches!(read_json(rt, set, &Value::Null), Err(Fault::NotText))
 }
 
-/// Works with an inline and a static text, a dynamic atom, and a JSON value. Whether each was as it should be.
+/// Works with an inline and a static text, a dynamic atom, and a JSON value. Returns whether each was as it should be.
 fn works_unlocked<S: SharedSet, R: Clock + Wait + Abort>(rt: &R, set: S, at: &Meeting) -> bool {
     let dynamic = intern(rt, set, "interned");
     at.meet(rt);
@@ -190,7 +190,7 @@ fn works<S: SharedSet, R: Clock + Wait + Abort>(
     is_right
 }
 
-/// What the call tells, in which a thread meets the visit.
+/// What the call in which a thread meets the visit tells.
 pub fn works_beside<S: SharedSet, R: Clock + Wait + Abort>(
     rt: &R,
     set: S,
@@ -229,7 +229,7 @@ const BOTH_DIE: [Step; 5] = [
     Step::Linked(2),
 ];
 
-/// Makes the call beside a visit of two texts.
+/// Makes the call during a visit of two texts.
 fn call_beside<S: SharedSet + Together + Send + Sync, R: Threads + Clock + Wait + Abort + Sync>(
     rt: &R,
     set: S,

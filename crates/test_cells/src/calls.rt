@@ -1,5 +1,5 @@
-//! Calls of a set with a name that the tests of two modules make. They say nothing of what they do, so that the proof of a test has less to
-//! read, and answer in a word, so that a test has less to end.
+//! Calls of a set with a name that the tests of two modules make. They say nothing about what they do, so that the proof of a test has less to read,
+//! and return a plain value, so that a test has less to end.
 
 use named_set::{Held, NamedSet, SetName};
 use std::sync::Wait;
@@ -32,7 +32,7 @@ pub fn cloned<'s, S: StaticTables, N: SetName, R: Wait>(
     held.clone_held(rt)
 }
 
-/// Whether so many cells are linked.
+/// Whether this many cells are linked.
 pub fn links<S: StaticTables, N: SetName, R: Wait>(
     rt: &R,
     set: &NamedSet<S, N>,
@@ -46,7 +46,7 @@ pub fn has_text<S: StaticTables, N: SetName>(held: &Held<'_, S, N>, text: &str) 
     held.text() == text
 }
 
-/// Whether both are equal, and have one word.
+/// Whether both are equal, and have the same word.
 pub fn are_one<S: StaticTables, N: SetName>(one: &Held<'_, S, N>, other: &Held<'_, S, N>) -> bool {
     one == other && one.word() == other.word()
 }

@@ -26,7 +26,7 @@ impl Drop for ShareGuard {
 }
 
 impl ShareGuard {
-    /// Gives the share back. Whether it was the last.
+    /// Gives the share back, and returns whether it was the last.
     fn gives_last(self) -> bool {
         self.into_share().give().last().is_some()
     }
@@ -43,12 +43,12 @@ impl ShareGuard {
         self.share.text() == text
     }
 
-    /// A share more of its cell.
+    /// One more share of its cell.
     fn one_more<R: Wait + Abort>(&self, rt: &R) -> ShareGuard {
         share_answer(self.share.add(rt, self.share.permit())).share(rt)
     }
 
-    /// Whether a share more is refused, since there are as many as there may be.
+    /// Whether one more share is refused, since there are as many as there may be.
     fn is_full<R: Wait>(&self, rt: &R) -> bool {
         matches!(
             share_answer(self.share.add(rt, self.share.permit())),
@@ -119,14 +119,14 @@ fn made(rt: &impl Abort, alloc: Global) -> (Owner<Global>, ShareGuard)
     make(alloc, 2, "interned").expect(rt, "an answer")
 }
 
-/// A share more of the owner's cell.
+/// One more share of the owner's cell.
 fn one_more<A: Allocator, R: Wait + Abort>(rt: &R, owner: &Owner<A>) -> ShareGuard
     requires { owner.now.name.grows ≡ true }
 {
     reply_answer(owner.add(rt, owner.permit())).share(rt)
 }
 
-/// Whether a share more is refused, since there are as many as there may be.
+/// Whether one more share is refused, since there are as many as there may be.
 fn is_full<A: Allocator, R: Wait>(rt: &R, owner: &Owner<A>) -> bool
     requires { owner.now.name.grows ≡ true }
 {
@@ -138,14 +138,14 @@ fn is_dying<A: Allocator>(owner: &Owner<A>) -> bool {
     owner.dying().is_ok()
 }
 
-/// Whether a share more is refused, since there is none.
+/// Whether one more share is refused, since there is none left.
 fn is_over<A: Allocator, R: Wait>(rt: &R, owner: &Owner<A>) -> bool
     requires { owner.now.name.grows ≡ true }
 {
     matches!(reply_answer(owner.add(rt, owner.permit())), Answer::Dying)
 }
 
-/// Whether the owner reads so many shares.
+/// Whether the owner reads this many shares.
 fn has_shares<A: Allocator>(owner: &Owner<A>, number: u64) -> bool {
     owner.count().shares() == number
 }
@@ -208,7 +208,7 @@ fn replies(rt: HostRuntime) {
     assert_that(&rt, frees(owner));
 }
 
-/// A share more by a single try.
+/// One more share by a single try.
 fn tried(first: &ShareGuard) -> Option<ShareGuard> {
     let share = first.share.try_add(first.share.permit()).ok()?;
     Some(ShareGuard { share })
@@ -239,7 +239,7 @@ fn single_tries(rt: HostRuntime) {
     tries(&rt, alloc, &text).expect(&rt, "an answer");
 }
 
-/// A share more of the owner's cell by a single try.
+/// One more share of the owner's cell by a single try.
 fn owner_tried<A: Allocator>(owner: &Owner<A>) -> Option<ShareGuard>
     requires { owner.now.name.grows ≡ true }
 {
@@ -254,7 +254,7 @@ fn has_no_try<A: Allocator>(owner: &Owner<A>) -> bool
     owner_tried(owner).is_none()
 }
 
-/// Those of an owner, at a limit of 2: one is had, at the limit there is none, and none once the shares were given back.
+/// Those of an owner, at a limit of 2: one is given, at the limit none is, and none is once the shares were given back.
 #[test]
 fn single_tries_of_an_owner(rt: HostRuntime) {
     let (owner, first) = made(&rt, rt.alloc());
@@ -277,7 +277,7 @@ fn both_are_given_back(rt: HostRuntime) {
     assert_that(&rt, frees(owner));
 }
 
-/// Adds a share and gives it back, again and again. How many were refused.
+/// Adds a share and gives it back, again and again. Returns how many were refused.
 fn clone_and_give<R: Wait>(rt: &R, first: &ShareGuard) -> u64 {
     let mut refused = 0u64;
     for _ in 0..30_000 {
@@ -297,7 +297,7 @@ fn refused_at_once<R: Threads + Wait + Sync>(rt: &R, first: &ShareGuard) -> (u64
     )
 }
 
-/// No share is lost or left over, and none is refused, though two threads change one count.
+/// No share is lost or left over, and none is refused, even though two threads change one count.
 #[test]
 fn one_count_in_two_threads(rt: HostRuntime) {
     let (owner, first) = make(rt.alloc(), 3, "interned").expect(&rt, "an answer");
@@ -321,7 +321,7 @@ fn one_of_two_is_the_last(rt: HostRuntime) {
     assert_that(&rt, frees(owner));
 }
 
-/// How many bytes of the heap are taken once a cell of the text has ended at its owner's `finish`, or at its drop.
+/// The bytes of the heap that are in use once a cell of the text has ended at its owner's `finish`, or at its drop.
 fn left_by_an_end(heap: &LocalHeap, text: &str, by_drop: bool) -> Result<usize, AllocError> {
     let (owner, share) = make(heap, 1, text)?;
     drop(share);
@@ -343,14 +343,14 @@ fn leaves<A: Allocator>(owner: Owner<A>) -> bool {
     matches!(owner.finish(), Ending::Left(_))
 }
 
-/// Whether the share is the last of the text, and its block of so many bytes is in use before and after it is given back.
+/// Whether the share is the last of the text, and its block of this many bytes is in use before and after it is given back.
 fn stays(heap: &LocalHeap, share: ShareGuard, text: &str, size: usize) -> bool {
     let is_held = share.has_text(text) && heap.used() == size;
     let is_last = share.gives_last();
     is_held && is_last && heap.used() == size
 }
 
-/// Whether the block of a cell stays where its owner ends before its share.
+/// Whether the block of a cell stays if its owner ends before its share.
 fn is_left_behind(heap: &LocalHeap, text: &str, size: usize) -> Result<bool, AllocError> {
     let (owner, share) = make(heap, 1, text)?;
     let is_made = heap.used() == size;
@@ -358,8 +358,7 @@ fn is_left_behind(heap: &LocalHeap, text: &str, size: usize) -> Result<bool, All
     Ok(stays(heap, share, text, size) && is_made && is_left)
 }
 
-/// A cell is one block, which is given back at the end of the owner where no share is left, and never where one is. One of the
-/// texts has 300,000 bytes.
+/// A cell is one block, which is given back at the end of the owner if no share is left, and never if one is. One of the texts has 300,000 bytes.
 #[test]
 fn the_end_frees_what_is_not_held(rt: HostRuntime) {
     let heap = LocalHeap::new(rt.alloc(), 400_000).expect(&rt, "an answer");
@@ -384,7 +383,7 @@ const BLOCKS: [(&str, usize, usize); 6] = [
     ("a longer text, which takes more than one word", 88, 96),
 ];
 
-/// Whether a cell of the text tells this as its block's size, where the heap has this in use then.
+/// Whether a cell of the text reports this as its block's size, and the heap then has this in use.
 fn tells_its_size(
     heap: &LocalHeap,
     text: &str,

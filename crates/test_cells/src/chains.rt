@@ -1,5 +1,5 @@
-//! What no clause says: that memory is found, what becomes of the items at the end, and how deep that goes. All pass also
-//! where any one request for memory is refused, as under `rt try --test --fail-alloc N`.
+//! What no clause says: that memory is found, what becomes of the items at the end, and how deep that goes. All also pass if any one request for
+//! memory is refused, as under `rt try --test --fail-alloc N`.
 
 mod packs;
 
@@ -10,7 +10,7 @@ use std::process::Abort;
 use std::sync::atomic::{AtomicU64, Ordering};
 use std::test::Fail;
 
-/// Puts its digit behind those of the marks that ended before it.
+/// Puts its digit after those of the marks that ended before it.
 struct Mark<'a> {
     ended: &'a AtomicU64,
     digit: u64,
@@ -24,7 +24,7 @@ impl<'a> Drop for Mark<'a> {
     }
 }
 
-/// The number with one digit more.
+/// The number with one more digit.
 fn followed(number: u64, digit: u64) -> u64 {
     number.wrapping_mul(10).wrapping_add(digit)
 }
@@ -44,7 +44,7 @@ fn digits(chain: &mut NodeChain<Mark>) -> u64 {
     number
 }
 
-/// Adds a mark as the first. Where that is refused, the mark comes back and nothing has changed; it is then added again.
+/// Adds a mark as the first. If that is refused, the mark is handed back and nothing has changed; it is then added again.
 fn add<'a>(
     rt: &impl Abort,
     chain: &mut NodeChain<Mark<'a>>,
@@ -78,7 +78,7 @@ fn five<'a>(
     Ok(chain)
 }
 
-/// Takes the items of these digits out, and passes the others.
+/// Takes out the items of these digits, and passes the others.
 fn take_out(chain: &mut NodeChain<Mark>, digits: &[u64]) {
     for _ in 0..chain.remaining() {
         let Some(mark) = chain.look() else {
@@ -144,7 +144,7 @@ fn pass(chain: &mut NodeChain<Mark>) {
     }
 }
 
-/// Whether the next item has this digit, and so many are to come with it.
+/// Whether the next item has this digit, and this many are left with it.
 fn stands_at(chain: &NodeChain<Mark>, digit: u64, left: usize) -> bool {
     matches!(chain.look(), Some(mark) if mark.digit == digit) && chain.remaining() == left
 }
@@ -161,7 +161,7 @@ fn items_that_were_passed_end_as_well(rt: HostRuntime) -> Result<(), Fail> {
     Ok(())
 }
 
-/// An end that called itself for each next node would want more stack than there is.
+/// An end that called itself for each next node would need more stack than there is.
 #[test]
 fn a_long_chain_ends(rt: HostRuntime) -> Result<(), Fail> {
     let mut chain = NodeChain::new(rt.alloc());

@@ -1,5 +1,5 @@
-//! What no clause says of a set with a name: that a text which is held is found under its word, that the last holder's end takes its cell
-//! out, and when the limits refuse.
+//! What no clause says about a set with a name: that a text which is held is found under its word, that the last holder's end takes out its cell, and
+//! when the limits refuse.
 ghost use Rattle.std.specs.Prelude.{◌≡◌};
 
 use crate::assert_that;
@@ -25,7 +25,7 @@ fn are_two<S: StaticTables, N: SetName>(one: &Held<'_, S, N>, other: &Held<'_, S
     one != other && one.word() != other.word()
 }
 
-/// Whether a text is given another word than the one that is held.
+/// Whether a text is given a word other than the one that is held.
 fn is_another<S: StaticTables, N: SetName, R: Wait>(
     rt: &R,
     set: &NamedSet<S, N>,
@@ -51,7 +51,7 @@ fn is_given_again<S: StaticTables, N: SetName, R: Wait>(
     }
 }
 
-/// Whether it is, and another text beside both another one.
+/// Whether it is, and another text is given another word.
 fn is_again<S: StaticTables, N: SetName, R: Wait>(
     rt: &R,
     set: &NamedSet<S, N>,
@@ -65,7 +65,7 @@ fn is_again<S: StaticTables, N: SetName, R: Wait>(
     }
 }
 
-/// Two that hold one text have one word, and a third of another text has another.
+/// Two that hold the same text have the same word, and a third that holds another text has another.
 fn tells_apart<S: StaticTables, N: SetName, R: Wait>(
     rt: &R,
     set: &NamedSet<S, N>,
@@ -127,7 +127,7 @@ fn has_new_word<S: StaticTables, N: SetName, R: Wait>(
     }
 }
 
-/// A text that nobody holds has left, and gets a word that it hasn't had.
+/// A text that nobody holds is gone, and gets a word that it hasn't had before.
 fn goes_with_the_last<S: StaticTables, N: SetName, R: Wait>(
     rt: &R,
     set: &NamedSet<S, N>,
@@ -144,7 +144,7 @@ fn refusal<T: Drop>(outcome: Result<T, Fault>) -> Option<Fault> {
     outcome.err()
 }
 
-/// Whether no holder more is given by a clone, for the text or for a look at it.
+/// Whether no further holder is given by a clone, by the text or by looking it up.
 fn is_full<S: StaticTables, N: SetName, R: Wait>(
     rt: &R,
     set: &NamedSet<S, N>,
@@ -184,7 +184,7 @@ fn is_full_at_two<S: StaticTables, N: SetName, R: Wait>(
     }
 }
 
-/// Interns and gives back until the tickets of its one bucket are spent, and tells how many it had.
+/// Interns and gives back until the tickets of its one bucket are spent, and returns how many it had.
 fn tickets_of<S: StaticTables, N: SetName, R: Wait>(rt: &R, set: &NamedSet<S, N>) -> u64 {
     for count in 0..100u64 {
         if refusal(interned(rt, set, "spent")) == Some(Fault::TicketsSpent) {
@@ -236,7 +236,7 @@ fn asks_of<N: SetName, R: Wait + Abort>(
     Ok(true)
 }
 
-/// Two holders of one text have one word, the last takes it along, and a third is refused where there may be two.
+/// Two holders of one text have the same word, which goes with the last, and a third is refused if there may be two.
 #[test]
 fn words_are_those_of_texts(rt: HostRuntime) {
     let name = small_name(rt.alloc()).expect(&rt, "a name");
@@ -253,7 +253,7 @@ fn spends<N: SetName, R: Wait>(rt: &R, alloc: Global, name: FreshName) -> Result
     Ok(tickets_of(rt, &set))
 }
 
-/// A bucket gives as many tickets as the limits say, though nothing is held.
+/// A bucket gives as many tickets as the limits say, even though nothing is held.
 #[test]
 fn tickets_are_spent_at_the_limit(rt: HostRuntime) {
     let name = small_name(rt.alloc()).expect(&rt, "a name");

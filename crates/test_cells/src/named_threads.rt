@@ -1,5 +1,5 @@
-//! What no clause says of threads at one set with a name: that two at one new text are given one word, and that many at the texts of one
-//! bucket are each given theirs and leave nothing.
+//! What no clause says about threads at one set with a name: that two at one new text get the same word, and that many at the texts of one bucket
+//! each get theirs and leave nothing.
 ghost use Rattle.std.specs.Prelude.{◌≡◌};
 
 use crate::calls::{cloned, has_text, interned, is_found_as, links};
@@ -67,7 +67,7 @@ struct Meeting {
     two: AtomicU64,
 }
 
-/// Waits until two threads have come here as often as this.
+/// Waits until two threads have come here this often.
 fn meet<R: Wait>(rt: &R, gate: &AtomicU64, times: u64) {
     let _ = gate.fetch_add(1, Ordering::SeqCst);
     for _ in rt.forever() {
@@ -78,8 +78,8 @@ fn meet<R: Wait>(rt: &R, gate: &AtomicU64, times: u64) {
     }
 }
 
-/// Interns a text that nobody holds before, at the same time as another thread does, in each round. In how many both had one word. If it is
-/// refused, the other needn't wait any more.
+/// Interns a text that nobody held before, at the same time as another thread does, in each round. Returns in how many both had the same word. If it
+/// is refused, the other needn't wait any more.
 fn intern_beside<N: SetName, R: Wait>(
     rt: &R,
     set: &Named<N>,
@@ -106,7 +106,7 @@ fn intern_beside<N: SetName, R: Wait>(
     Ok(same)
 }
 
-/// What two threads at one new text say of their rounds.
+/// What two threads at one new text say about their rounds.
 fn intern_at_once<N: SetName + Send + Sync, R: Threads + Wait + Sync>(
     rt: &R,
     set: &Named<N>,
@@ -123,7 +123,7 @@ fn intern_at_once<N: SetName + Send + Sync, R: Threads + Wait + Sync>(
     )
 }
 
-/// Two threads at one new text. Whether both had one word in each round, and nothing stayed.
+/// Two threads at one new text. Returns whether both had the same word in each round, and nothing stayed.
 fn two_at_one_text<N: SetName + Send + Sync, R: Threads + Wait + Sync>(
     rt: &R,
     set: &Named<N>,
@@ -206,7 +206,7 @@ fn turn_over<N: SetName, R: Wait>(rt: &R, set: &Named<N>, texts: &[String]) -> b
     true
 }
 
-/// 64 workers at texts of one bucket. Whether each was given its texts, and whether none is left linked.
+/// 64 workers at texts of one bucket. Returns whether each was given its texts, and whether none is left linked.
 fn many_at_one_bucket<N: SetName + Send + Sync, R: Threads + Wait + Sync>(
     rt: &R,
     alloc: Global,

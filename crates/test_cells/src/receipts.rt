@@ -1,9 +1,9 @@
-//! What a caller knows of the receipts of two shares.
+//! What a caller knows about the receipts of two shares.
 ghost use Rattle.std.specs.Prelude.{◌≡◌};
 
 use counted_cell::{CellShare, Receipt};
 
-/// Gives both shares back. The receipt of the first.
+/// Gives both shares back, and returns the receipt of the first.
 pub fn first_receipt(first: CellShare, second: CellShare) -> Receipt
     ensures { (result.name ≡ first.cell.name) × (result.number ≡ first.number) }
 {

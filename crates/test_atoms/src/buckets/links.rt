@@ -14,7 +14,7 @@ use string_cache::word::{Limits, ticket_word};
 use string_cache::{DefaultAtom, Fault};
 use test_calls::is_of;
 
-/// Links a text, once more where there is no memory: a refused link leaves the bucket as it was.
+/// Links a text, and tries again if there is no memory: a refused link leaves the bucket as it was.
 fn link_again<R: Abort>(
     rt: &R,
     bucket: &mut Bucket<EmptyStaticAtomSet>,
@@ -30,12 +30,12 @@ fn link_again<R: Abort>(
     }
 }
 
-/// Passes also where any one request for memory is refused, as under `rt try --test --fail-alloc N`: a refused link leaves the
-/// bucket, and the next one gets the serial that it would have got.
+/// Also passes if any one request for memory is refused, as under `rt try --test --fail-alloc N`: a refused link leaves the bucket as it was, and the
+/// next one gets the serial that it would have got.
 #[test]
 fn refused_links_made_again(rt: HostRuntime) -> Result<(), Fail> {
     let mut bucket = new_bucket(rt.alloc());
-    // Of six entries two nodes are made.
+    // Six entries make two nodes.
     for serial in 1..=6u64 {
         let ticket = ticket_word(serial, 0xe77);
         let before = tickets(&mut bucket);
@@ -67,7 +67,7 @@ fn nine_entries(rt: &impl Abort, alloc: Global) -> Bucket<EmptyStaticAtomSet> {
     bucket
 }
 
-/// Takes out the entry of a serial. Whether the three newest are those of these serials then.
+/// Takes out the entry of a serial, and returns whether the three newest are then those of these serials.
 fn leaves(
     bucket: &mut Bucket<EmptyStaticAtomSet>,
     serial: u64,
@@ -102,7 +102,7 @@ const GOES: [[Goes; 4]; 3] = [
     ],
 ];
 
-/// Whether entries of nine go so, and the others are left.
+/// Whether entries of nine go in this way, and the others are left.
 fn go_so(rt: &impl Abort, alloc: Global, goes: &[Goes]) -> bool {
     let mut bucket = nine_entries(rt, alloc);
     for (serial, newest) in goes {

@@ -69,7 +69,7 @@ pub fn are_keys<N: SetName, R: Wait + Abort>(rt: &R, set: &Named<N>) -> bool {
     are_put(rt, set, &mut HashMap::new(set.allocator()))
 }
 
-/// Whether a key has the atom that it was made of.
+/// Whether a key has the atom that it was made from.
 pub fn is_key<N: SetName, R: Wait + Abort>(rt: &R, set: &Named<N>, text: &str) -> bool {
     let key = key_of(rt, set, text);
     let has = has_text(key.atom(), text);

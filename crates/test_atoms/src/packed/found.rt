@@ -1,5 +1,5 @@
-//! Texts of packed static types that are found, and others. The places and hashes of names are those of a program of its own, which was
-//! written from the definitions in Python.
+//! Texts of packed static types that are found, and others. The places and hashes of names are those of a separate program, which was written in
+//! Python from the definitions.
 
 use crate::{assert_for, assert_that};
 use std::alloc::{AllocError, Global};
@@ -11,7 +11,7 @@ use test_packed::dishes::Dishes;
 use test_packed::elements::Elements;
 use test_packed::misplaced::Misplaced;
 
-// These say nothing of what they do, so that each test is proved in a moment.
+// These say nothing about what they do, so that each test is proved in a moment.
 
 /// Whether the text is static, at this index.
 fn is_at<S: StaticTables>(text: &str, index: u32) -> bool {
@@ -37,7 +37,7 @@ fn has_text<S: StaticTables>(index: u32) -> bool {
     static_text::<S>(index).is_some()
 }
 
-/// Checks that a static type is perfect, has so many texts, and those of the rows at their indices, with their hashes.
+/// Checks that a static type is perfect, has this many texts, and those of the rows at their indices, with their hashes.
 fn check_listed<S: StaticTables>(rt: &impl Abort, count: u32, rows: &[(u32, &str, u64)]) {
     assert_that(rt, are_perfect::<S>() && S::count() == count);
     for (index, text, hash) in rows {
@@ -57,7 +57,7 @@ const DISHES: [(u32, &str, u64); 5] = [
     (4, "café au lait", 0x8112_8fc1_8b9c_cd76),
 ];
 
-/// Names of several scripts.
+/// Names in several scripts.
 #[test]
 fn dishes_are_static(rt: HostRuntime) {
     check_listed::<Dishes>(&rt, 5, &DISHES);

@@ -16,8 +16,8 @@ use test_packed::elements::Elements;
 use test_packed::misplaced::Misplaced;
 use test_samples::keys;
 
-// These say nothing of what they do, so that each test is proved in a moment. They take any static type, since the borrow checker doesn't
-// cover a function in which a set, an atom or a table of a packed type stands by name.
+// These say nothing about what they do, so that each test is proved in a moment. They take any static type, since the borrow checker doesn't cover a
+// function that names a set, an atom or a table of a packed type.
 
 fn new_set<Static: StaticTables>(rt: &impl Abort, alloc: Global) -> Set<Static> {
     Set::new(alloc).expect(rt, "a set")
@@ -81,12 +81,12 @@ fn gives<S: StaticTables>(rt: &impl Abort, alloc: Global, text: &str, word: u64)
     interns(&mut new_table::<S>(rt, alloc), text, word)
 }
 
-/// Whether the table holds so many texts once it has this one.
+/// Whether the table holds this many texts once it has this one.
 fn has_then<S: StaticTables>(table: &mut Table<S>, text: &str, number: usize) -> bool {
     table.intern(text).is_ok() && table.entries() == number
 }
 
-/// Whether a table of its own holds so many then.
+/// Whether a table of its own then holds this many.
 fn holds<S: StaticTables>(rt: &impl Abort, alloc: Global, text: &str, number: usize) -> bool {
     has_then(&mut new_table::<S>(rt, alloc), text, number)
 }

@@ -41,7 +41,7 @@ fn is_counted<K: AsStr>((key, count): (&K, &u64), (text, times): &(&str, u64)) -
     key.as_str() == *text && count == times
 }
 
-/// Whether the map has keys of these texts, in this order, as often as this.
+/// Whether the map has keys of these texts, in this order, this often.
 fn has_counts<K: Ord + AsStr>(sorted: &BTreeMap<K, u64>, wanted: &[(&str, u64)]) -> bool {
     for (found, row) in sorted.iter().zip(wanted.iter()) {
         if !is_counted(found, row) {
@@ -66,10 +66,10 @@ fn count_words<S: SharedSet, R: Wait + Abort>(
     }
 }
 
-/// The words of the text below, in their order, and how often each comes.
+/// The words of the text below, in their order, and how often each occurs.
 const COUNTS: [(&str, u64); 4] = [("a", 2), ("b", 1), ("interned", 3), ("sentence", 1)];
 
-/// Whether the map has these words, as often as this, and no others.
+/// Whether the map has these words, this often, and no others.
 fn has_hashed<S: SharedSet, R: Wait + Abort>(
     rt: &R,
     set: S,
@@ -92,7 +92,7 @@ fn have_words<S: SharedSet, R: Wait + Abort>(rt: &R, set: S, text: &str) -> bool
     has_hashed(rt, set, &counts, &COUNTS) && has_counts(&sorted, &COUNTS)
 }
 
-/// The words of a text are counted as often as they come.
+/// The words of a text are counted as often as they occur.
 pub fn check_keys<S: SharedSet, R: Wait + Abort>(rt: &R, set: S) {
     assert_that(
         rt,

@@ -6,7 +6,7 @@ use node_chain::{NodeChain, Pack};
 use std::sync::atomic::{AtomicU64, Ordering};
 use std::test::Fail;
 
-/// A pack of this many marks, of which the last has the digit 1.
+/// A pack of this many marks, the last of which has the digit 1.
 fn pack_of<'a>(ended: &'a AtomicU64, count: u64) -> Pack<Mark<'a>> {
     let mut pack = Pack::new(Mark { ended, digit: 1 });
     for digit in 2..=count {
@@ -27,7 +27,7 @@ fn digits_of(pack: &Pack<Mark>) -> u64 {
     number
 }
 
-/// Whether a pack of so many items, of which the one at this place is taken out, has these digits left, and all end in this order.
+/// Whether a pack of this many items, with the one at this place taken out, has these digits left, and all end in this order.
 fn closes(count: u64, index: usize, left: u64, ends: u64) -> bool {
     let ended = AtomicU64::new(0);
     let mut pack = pack_of(&ended, count);
@@ -40,7 +40,7 @@ fn closes(count: u64, index: usize, left: u64, ends: u64) -> bool {
     is_full && is_left && ended.load(Ordering::SeqCst) == ends
 }
 
-/// How many items there are, which place is taken out, and the digits that are left, and that end.
+/// The number of items, the place that is taken out, the digits that are left, and those that end.
 const GAPS: [(u64, usize, u64, u64); 9] = [
     (2, 0, 1, 21),
     (2, 1, 2, 12),

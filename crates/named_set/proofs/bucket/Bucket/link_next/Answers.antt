@@ -1,11 +1,28 @@
-use Rattle.std.proofs.Common.{◌≡◌, ◌∙◌, ap, sym, subst, arith, ℕ, [], ◌∷◌, ◌+◌, length, length-append}
+use Rattle.std.proofs.Common.{◌≡◌, ◌∙◌, ap, sym, subst, refl, arith, zero, ℕ, [], ◌∷◌, ◌++◌, ◌+◌, length, length-append, Some, slice_get}
+use Rattle.std.specs.List.{Contains}
+use Rattle.std.specs.List.Sorted.{IsPermutation}
+use Rattle.std.proofs.lemmas.List.Sorted.{Contains-permutation}
 use Rattle.text_forms.specs.Tables.{bucket_of, entry_hash}
 use Rattle.text_forms.specs.Word.{IsTicket, ticket_of}
+use Rattle.counted_cell.specs.Cell.{Cell}
 use Rattle.counted_cell.specs.CellEntry.{entry_of}
 use Rattle.named_set.specs.Logged.{IsNew, IsOf, Kept}
-use Rattle.named_set.proofs.Keeping.{kept_with}
-use Rattle.named_set.proofs.Rows.{each_snoc, snoc_get}
+use Rattle.named_set.proofs.Keeping.{each_permuted, kept_permuted, kept_with, stands}
 use Rattle.named_set.proofs.bucket.Bucket.link_next.Goals as goal
+
+-- the cells as they were, in some order
+pub invariant_of-self : goal.invariant_of-self
+invariant_of-self g c =
+    let inv = c.self.invariant in
+    let inside = c.self.inside in
+    let linked = inside.owners in
+    let same = c.in-Err.ensures.same in (
+      inv.0,
+      inv.1,
+      inv.2,
+      kept_permuted inside.number linked c.add.new.self inside.log.entries inside.log.gone same inv.3,
+      each_permuted (IsOf g.Static.StaticTables.tables g.G.Grant.may (length g.N.SetName.logs) inside.number) linked c.add.new.self same inv.4,
+    )
 
 pub invariant_of-self-2 : goal.invariant_of-self-2
 invariant_of-self-2 g c =
@@ -13,7 +30,8 @@ invariant_of-self-2 g c =
     let logs = g.N.SetName.logs in
     let inv = c.self.invariant in
     let inside = c.self.inside in
-    let linked = inside.owners.items in
+    let linked = inside.owners in
+    let more = c.add.new.self in
     let entries = inside.log.entries in
     let gone = inside.log.gone in
     let cell = c.in_ok-owner.owner in
@@ -26,16 +44,21 @@ invariant_of-self-2 g c =
     let given : IsTicket (length entries + 1) inside.number = (omega arith, omega (arith, inv.1, below, range.1), inv.2) in
     let ticket : cell.label.ticket ≡ ticket_of (length entries + 1) inside.number = o.ticket ∙ ap (λ (k : ℕ). ticket_of (k + 1) inside.number) inv.1 in
     let hash : cell.label.hash ≡ entry_hash T cell.text = o.hash ∙ (c.requires.hash ∙ ap (entry_hash T) (sym o.text)) in
-    let kept = kept_with inside.number linked entries gone cell c.args.text.now inv.3 none o.text given ticket in (
+    let kept = kept_with inside.number linked entries gone cell c.args.text.now inv.3 none o.text given ticket in
+    let added : IsPermutation (cell ∷ linked) more = c.in_default.ensures.added in (
       n.0 ∙ inv.0,
       omega (arith, inv.1, ap length n.1, length-append entries (entry_of c.in_ok-owner.share.cell ∷ [])),
       inv.2,
-      rw (c.push_reserved.ensures.items, c.reserve.ensures.items, n.1, n.2, o.share) kept,
-      rw (c.push_reserved.ensures.items, c.reserve.ensures.items) (each_snoc (IsOf T g.G.Grant.may (length logs) inside.number) linked cell inv.4 (record { hash = hash; bucket = ap (bucket_of T (length logs)) o.text ∙ here; granted = o.may })),
+      rw (n.1, n.2, o.share) (kept_permuted inside.number (cell ∷ linked) more (entries ++ entry_of cell ∷ []) gone added kept),
+      each_permuted (IsOf T g.G.Grant.may (length logs) inside.number) (cell ∷ linked) more added (record { hash = hash; bucket = ap (bucket_of T (length logs)) o.text ∙ here; granted = o.may }, inv.4),
     )
 
 pub returns-clause-seen : goal.returns-clause-seen
 returns-clause-seen g c =
-    let linked = c.self.inside.owners.items in
-    let made = c.in_ok-owner.ensures in
-    c.seen-seen.ensures.seen (length linked) c.in_ok-owner.share.cell (rw (c.push_reserved.ensures.items, c.reserve.ensures.items, made.share) (snoc_get linked c.in_ok-owner.owner))
+    let linked = c.self.inside.owners in
+    let more = c.add.new.self in
+    let cell = c.in_ok-owner.owner in
+    let first : Contains (cell ∷ linked) cell = (zero, omega arith, refl) in
+    let at = stands more cell (Contains-permutation (cell ∷ linked) more cell c.in_default.ensures.added first) in
+    let there : slice_get more at.0 ≡ Some c.in_ok-owner.share.cell = at.1 ∙ ap (λ (d : Cell). Some d) (sym c.in_ok-owner.ensures.share) in
+    c.seen-seen.ensures.seen at.0 c.in_ok-owner.share.cell there
