@@ -1,9 +1,10 @@
 """Whether the answers of some calls on a set are those of one map from text to ticket and holders, in some order of the calls.
 
 Beside the map stands what may be linked though nobody holds it. A last drop takes its entry out, but where another call had the lock of its
-bucket; then the next pass over the bucket does, unless it had begun before the drop ended. Which call had it is guessed, drop by drop, and the
-answers have to be right under one guess: a drop that had a lock was a last one, and left nothing itself; and a call that goes over all
-buckets took their locks from the first to the last.
+bucket; then the next interning, look-up or sweep there does, unless it had begun before the drop ended. (In a set with a name it does as the
+drop noted; if several noted, it looks at 16 entries, and no scene has more.) Which call had the lock is guessed, drop by drop, and the answers
+have to be right under one guess: a drop that had a lock was a last one, and left nothing itself; and a call that goes over all buckets took
+their locks from the first to the last.
 """
 
 from itertools import product
@@ -17,10 +18,12 @@ HASHES = {
     "magnitude": 0x72F,
     "afterwards": 0,
     "geometric": 0xFFF,
+    "elsewhere": 0xA8A,
     "FORGOTTEN": 0xCF5,
     "MAGNITUDE": 0x9D8,
     "AFTERWARDS": 0x924,
     "GEOMETRIC": 0x1F1,
+    "ELSEWHERE": 0xE3,
 }
 
 WALKS = ("linked", "visit")  # they go over the buckets one after another, and leave each as it is
@@ -147,8 +150,8 @@ def after_link(state, call, text, limits):
 
 
 def after_pass(state, call, text, limits):
-    """The map after a call that goes over the bucket of its text: each entry of this text that is dying is taken out, and so is each other
-    one whose drop had ended."""
+    """The map after an interning or a look-up: each entry of its text that is dying is taken out, and so is each other one of its bucket
+    whose drop had ended."""
     bucket = limits.bucket_of(text)
     state = state.without_dying(lambda drop: drop.text == text or drop.ended < call.begun and limits.bucket_of(drop.text) == bucket)
     if state.of(text)[1]:

@@ -151,6 +151,14 @@ class Histories(unittest.TestCase):
         self.wrong(*left, intern(2, 5, 6, SECOND, text="magnitude"), linked(2, 7, 7, 2))
         self.wrong(*left, intern(2, 4, 6, SECOND), linked(2, 7, 7, 2))  # the text is looked for, and its entry is dying
 
+    def test_the_next_call_takes_out_all_that_were_left(self):
+        interned = intern(1, 0, 0, FIRST), intern(2, 1, 1, SECOND, text="magnitude")
+        beside = call(3, 2, 7, "memory", "-", 0, "nothing"), drop(1, 3, 4, FIRST), drop(2, 5, 6, SECOND, text="magnitude")
+        found = call(3, 8, 8, "find", "geometric", 0, "absent")
+        self.well(*interned, *beside, linked(3, 9, 9, 2))
+        self.well(*interned, *beside, found, linked(3, 9, 9, 0))
+        self.wrong(*interned, *beside, found, linked(3, 9, 9, 1))
+
     def test_only_a_last_drop_takes_the_lock(self):
         held = intern(1, 0, 0, FIRST), intern(2, 1, 1, SECOND, text="magnitude")
         shared = *held, call(2, 2, 2, "clone", "magnitude", SECOND)

@@ -6,9 +6,11 @@ from pathlib import Path
 from history import Limits
 
 FILE = Path(__file__).resolve().parent / "scenes.txt"
-TEXTS = ("forgotten", "magnitude", "afterwards", "geometric", "FORGOTTEN", "MAGNITUDE", "AFTERWARDS", "GEOMETRIC")
+WORDS = ("forgotten", "magnitude", "afterwards", "geometric", "elsewhere")
+TEXTS = (*WORDS, *map(str.upper, WORDS))
 LETTERS = {"clone": "c", "drop": "d", "upper": "u", "lower": "w", "sweep": "s", "linked": "l", "visit": "v", "memory": "m"}
-FIRST_LETTERS = {"intern": "0", "read": "A", "find": "I"}  # of the first text
+FIRST_LETTERS = {"intern": "0", "read": "A", "find": "K"}  # of the first text
+NINE = [f"intern {text}" for text in ("elsewhere", *WORDS[:4], *TEXTS[5:9])] + ["drop"] * 8
 ON_ATOM = ("clone", "drop", "upper", "lower")
 
 
@@ -23,6 +25,7 @@ class Scene:
     name: str
     is_named: bool = False  # its set has a name
     has_named: bool = False  # it is tried over such a set as well
+    is_alone: bool = False  # over such a set alone
     holders: int = 9
     serials: int = 9
     bits: int = 0
@@ -77,6 +80,8 @@ def calls_of(text):
     for word in words:
         if word in LETTERS:
             calls.append(word)
+        elif word == "nine":
+            calls += NINE
         elif word in FIRST_LETTERS:
             calls.append(f"{word} {next(words, '')}")
         else:
@@ -100,8 +105,8 @@ def read_line(scene, line):
         scene.is_by_order, scene.is_compared = True, line.endswith("compared")
     elif line == "refusals":
         scene.has_refusals = True
-    elif line == "named":
-        scene.has_named = True
+    elif line in ("named", "named alone"):
+        scene.has_named, scene.is_alone = True, line.endswith("alone")
     elif word in ("holders", "serials", "bits", "deep") and rest.strip().isdecimal():
         setattr(scene, word, int(rest))
     elif word == "thread" and rest.count("|") == 1:
@@ -124,7 +129,7 @@ def read_scenes(text):
             read_line(scenes[-1], line.strip())
         else:
             raise BadScene("a line stands before the first 'scene: NAME'")
-    scenes += [scene.over_named() for scene in scenes if scene.has_named]
+    scenes = [scene for scene in scenes if not scene.is_alone] + [scene.over_named() for scene in scenes if scene.has_named]
     names = [scene.name for scene in scenes]
     if len(set(names)) < len(names) or not all(scene.threads for scene in scenes):
         raise BadScene("two scenes have one name, or one has no thread")

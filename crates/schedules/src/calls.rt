@@ -1,4 +1,4 @@
-//! The calls that a thread makes, and what they answer.
+//! The calls that a thread makes, and what they return.
 
 use crate::texts::{Case, Word};
 use string_cache::Fault;
@@ -9,7 +9,7 @@ pub enum Call {
     Intern(Word),
     /// Interns the text of a JSON value.
     Read(Word),
-    /// Looks a text up.
+    /// Looks up a text.
     Find(Word),
     /// Makes an atom of its text in this case, or a clone.
     Again(Option<Case>),
@@ -30,12 +30,12 @@ pub enum Whole {
 
 impl Call {
     /// The call that a letter stands for: a digit interns the text of that number, a letter from `A` reads it from a JSON value, and one
-    /// from `I` looks it up.
+    /// from `K` looks it up.
     pub fn of_letter(letter: u8) -> Option<Call> {
         match letter {
-            b'0'..=b'7' => Some(Call::Intern(Word::of_number(letter - b'0')?)),
-            b'A'..=b'H' => Some(Call::Read(Word::of_number(letter - b'A')?)),
-            b'I'..=b'P' => Some(Call::Find(Word::of_number(letter - b'I')?)),
+            b'0'..=b'9' => Some(Call::Intern(Word::of_number(letter - b'0')?)),
+            b'A'..=b'J' => Some(Call::Read(Word::of_number(letter - b'A')?)),
+            b'K'..=b'T' => Some(Call::Find(Word::of_number(letter - b'K')?)),
             b'c' => Some(Call::Again(None)),
             b'd' => Some(Call::Drop),
             b'u' => Some(Call::Again(Some(Case::Upper))),
@@ -69,11 +69,11 @@ pub struct Begun {
     pub at: u64,
 }
 
-/// What a call answered.
+/// What a call returned.
 #[derive(Clone, Copy)]
 pub enum Answer {
     Nothing,
-    /// An atom of the text that it has to have, with this ticket.
+    /// An atom of the text that it should have, with this ticket.
     Ticket(u64),
     /// An atom of another text.
     OtherText(u64),
@@ -81,7 +81,7 @@ pub enum Answer {
     /// No atom, since nobody holds the text.
     Absent,
     Linked(u128),
-    /// This many entries, and no text twice that somebody holds.
+    /// This many entries, and no text that somebody holds was met twice.
     Visited(u64),
     /// An entry of no text that was interned, or a second one of a text that somebody holds.
     Strange(u64),

@@ -1,8 +1,8 @@
 //! A few threads that each make some calls on one set, for a tool that tries all orders of their steps (docs/SCHEDULES.md).
 //!
-//! `schedules [named] HOLDERS SERIALS BITS THREAD ..`: the set, which has a name if that is asked for, has these limits, and 2 to the power
-//! of `BITS` buckets. A thread is `CALLS/CALLS`, of letters each; the first calls are made before any thread is started. At its end a
-//! thread drops what it has. A line says of each call which thread made it, on which text, when it began and ended, and what it answered.
+//! `schedules [named] HOLDERS SERIALS BITS THREAD ..`: the set, which has a name if that is asked for, has these limits, and 2 to the power of `BITS`
+//! buckets. A thread is `CALLS/CALLS`, each made of letters; the first calls are made before any thread is started. At its end a thread drops what it
+//! has. A line says for each call which thread made it, on which text, when it began and ended, and what it returned.
 #![tactic(auto)]
 
 mod calls;
@@ -30,10 +30,10 @@ use string_cache::word::{Buckets, Limits};
 use string_cache::{EmptyStaticAtomSet, Fault};
 use worker::Worker;
 
-/// Added once to the word that is the clock: it tells the tool which word that is, on which no thread waits for another.
+/// Added once to the word that is the clock: it tells the tool which word that is, and no thread waits for another on it.
 const CLOCK: u64 = 0x5343_4845_4400_0000;
 
-/// A thread that wasn't started yet.
+/// A thread that hasn't been started yet.
 #[derive(Drop)]
 struct Start<'c, S: Shared> {
     worker: Worker<'c, S>,
@@ -60,7 +60,7 @@ impl<'c, S: Shared> Start<'c, S> {
     }
 }
 
-/// What each thread's calls answered.
+/// What each thread's calls returned.
 type Answers = Vec<Result<Vec<Done>, Fault>>;
 
 /// Starts a thread for each of the last `left` of them, from the last down, and joins them all.
@@ -173,7 +173,7 @@ fn buckets_of(bits: &str) -> Result<Buckets> {
     Ok(buckets)
 }
 
-/// Adds the threads of the arguments to those, the first one first, and makes their first calls.
+/// Adds the threads of the arguments to `starts`, the first one first, and makes their first calls.
 fn push_starts<'c, S: Shared, R: Wait>(
     rt: &R,
     alloc: Global,
@@ -190,7 +190,7 @@ fn push_starts<'c, S: Shared, R: Wait>(
     Ok(())
 }
 
-/// Makes the first calls of all threads, starts these, and adds what they did to that.
+/// Makes the first calls of all threads, starts them, and adds what they did to `done`.
 fn make_calls<'e, S: Shared + Send + 'e, R: Threads + Wait + Sync>(
     rt: &'e R,
     alloc: Global,

@@ -3,11 +3,11 @@
 use crate::calls::Answer;
 use crate::texts::Word;
 
-/// The entries that were met, of a set in which a text has one entry that somebody holds at most.
+/// The entries that were met, of a set in which a text has at most one entry that somebody holds.
 #[derive(Clone, Copy)]
 pub struct Seen {
     count: u64,
-    held: u8,
+    held: u16,
     is_strange: bool,
 }
 
@@ -30,7 +30,7 @@ impl Seen {
         if holders == 0 {
             return;
         }
-        let own = 1u8.checked_shl(u32::from(number)).unwrap_or(0);
+        let own = 1u16.checked_shl(u32::from(number)).unwrap_or(0);
         self.is_strange |= self.held & own != 0;
         self.held |= own;
     }

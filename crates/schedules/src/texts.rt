@@ -21,9 +21,10 @@ pub struct Word {
     case: Case,
 }
 
-/// None is inline. By SipHash their buckets among 4096 are 0x72f, 0x72f, 0 and 0xfff: so the first two have one bucket, whatever the
-/// number of buckets up to that, and with 16 the third has another.
-const TEXTS: [Text; 4] = [
+/// None is inline. By SipHash their buckets among 4096 are 0x72f, 0x72f, 0, 0xfff and 0xa8a: so the first two share a bucket, whatever the number of
+/// buckets up to that, and with 16 buckets the third has another. In upper case they are texts of their own: so there are more than the eight that
+/// a bucket of a set with a name walks.
+const TEXTS: [Text; 5] = [
     Text {
         lower: "forgotten",
         upper: "FORGOTTEN",
@@ -40,14 +41,18 @@ const TEXTS: [Text; 4] = [
         lower: "geometric",
         upper: "GEOMETRIC",
     },
+    Text {
+        lower: "elsewhere",
+        upper: "ELSEWHERE",
+    },
 ];
 
 impl Word {
-    /// The word of a number: 0 to 3 are the texts in lower case, and 4 to 7 in upper case.
+    /// The word of a number: 0 to 4 are the texts in lower case, and 5 to 9 in upper case.
     pub fn of_number(number: u8) -> Option<Word> {
-        let case = if number < 4 { Case::Lower } else { Case::Upper };
-        let text = TEXTS.get(usize::from(number % 4))?;
-        if number < 8 {
+        let case = if number < 5 { Case::Lower } else { Case::Upper };
+        let text = TEXTS.get(usize::from(number % 5))?;
+        if number < 10 {
             Some(Word { text: *text, case })
         } else {
             None
@@ -61,9 +66,9 @@ impl Word {
         }
     }
 
-    /// The number of a text, or `None` where no word has it.
+    /// The number of a text, or `None` if no word has it.
     pub fn number_of(text: &str) -> Option<u8> {
-        (0..8u8).find(|number| match Word::of_number(*number) {
+        (0..10u8).find(|number| match Word::of_number(*number) {
             Some(word) => word.as_str() == text,
             None => false,
         })

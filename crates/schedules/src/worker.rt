@@ -10,10 +10,10 @@ use std::sync::Wait;
 use std::sync::atomic::{AtomicU64, Ordering};
 use string_cache::Fault;
 
-/// The most atoms of a thread, and calls, for which it has room before it begins.
+/// The most atoms and calls of a thread for which it has room before it begins.
 const ROOM: usize = 8;
 
-/// An atom, and the word that it has to have.
+/// An atom, and the word that it should have.
 #[derive(Drop)]
 struct Kept<S: Shared> {
     atom: S::Atom,
@@ -60,7 +60,7 @@ impl<'c, S: Shared> Worker<'c, S> {
         })
     }
 
-    /// Makes the calls of these letters, and then drops what atoms are left, the newest first. What each answered.
+    /// Makes the calls of these letters, and then drops the atoms that are left, the newest first. Returns what each call returned.
     pub fn work<R: Wait>(mut self, rt: &R, letters: &str) -> Result<Vec<Done>, Fault> {
         self.make_all(rt, letters)?;
         self.let_all_go()?;
@@ -86,7 +86,7 @@ impl<'c, S: Shared> Worker<'c, S> {
         Ok(())
     }
 
-    /// Makes one call. One on an atom isn't made where there is none.
+    /// Makes one call. One on an atom isn't made if there is none.
     fn make<R: Wait>(&mut self, rt: &R, call: Call) -> Result<(), Fault> {
         match call {
             Call::Intern(word) => self.intern(rt, word),
@@ -112,7 +112,7 @@ impl<'c, S: Shared> Worker<'c, S> {
         }
     }
 
-    /// Marks that a call ends, and notes what it answered.
+    /// Marks that a call ends, and notes what it returned.
     fn end(&mut self, begun: Begun, answer: Answer) -> Result<(), Fault> {
         let done = Done {
             thread: self.thread,
@@ -124,7 +124,7 @@ impl<'c, S: Shared> Worker<'c, S> {
         Ok(())
     }
 
-    /// Ends a call that was to give an atom of the word, and keeps that.
+    /// Ends a call that was to give an atom of the word, and keeps the atom.
     fn keep(
         &mut self,
         begun: Begun,
@@ -137,7 +137,7 @@ impl<'c, S: Shared> Worker<'c, S> {
         }
     }
 
-    /// Keeps the atom that a call gave, and ends that.
+    /// Keeps the atom that a call gave, and ends the call.
     fn keep_atom(&mut self, begun: Begun, kept: Kept<S>) -> Result<(), Fault> {
         let answer = kept.answer();
         self.atoms.push(kept)?;
@@ -171,7 +171,7 @@ impl<'c, S: Shared> Worker<'c, S> {
         }
     }
 
-    /// Makes another atom of the newest one: of its text in this case, or a clone.
+    /// Makes another atom from the newest one: of its text in this case, or a clone.
     fn renew<R: Wait>(&mut self, rt: &R, case: Option<Case>) -> Result<(), Fault> {
         let Some(Kept { atom, word }) = self.atoms.last() else {
             return Ok(());
@@ -209,7 +209,7 @@ fn name_of(case: Option<Case>) -> &'static str {
     }
 }
 
-/// What a call on the whole set answers.
+/// What a call on the whole set returns.
 fn ask_set<S: Shared, R: Wait>(rt: &R, set: S, call: Whole) -> Answer {
     match call {
         Whole::Sweep => {
