@@ -186,6 +186,36 @@ def count_names(place):
     return 1
 
 
+def by_its_head(place, name):
+    """The program over names that the command at the head of its source builds."""
+    tool("cc")
+    for link, to in (("lib", place.library), ("clients", CLIENTS)):
+        if not (place.room / link).exists():
+            (place.room / link).symlink_to(to)
+    commands = re.findall(r"^ \* (cc .*?)(?: \*/)?$", (C / "names" / f"{name}.c").read_text(encoding="utf-8"), re.MULTILINE)
+    if len(commands) != 1:
+        raise Failed(f"{name}.c has {len(commands)} commands that build it at its head")
+    said_by("bash", "-c", commands[0], cwd=place.room)
+    return place.room / name
+
+
+def names_faults(place):
+    """If the programs over names can't read a file, or write what they print, they end with status 1 and say so, with the file's name."""
+    few, many, absent, found = place.room / "few.c", place.room / "many.c", place.room / "absent.c", 0
+    few.write_text("int few;\n", encoding="ascii")
+    many.write_text("".join(f"int name_{number};\n" for number in range(9000)), encoding="ascii")
+    for program in (by_its_head(place, "count_names"), by_its_head(place, "scopes")):
+        rows = [(f"'{path}'", f"names: {path}: ") for path in (absent, place.room)] + [(f"< '{place.room}'", "names: standard input: ")]
+        rows += [(f"'{path}' {to}", "names: the output can't be written\n") for path in (few, many) for to in ("> /dev/full", ">&-")]
+        for words, why in rows:
+            ran = subprocess.run(["sh", "-c", f"'{program}' {words}"], capture_output=True, text=True, check=False, timeout=SECONDS)
+            if ran.returncode != 1 or not ran.stderr.startswith(why) or ran.stderr.count("\n") != 1:
+                raise Failed(f"{program.name} {words} has the status {ran.returncode}, and says {ran.stderr}")
+        said_by(program, many)
+        found += len(rows) + 1
+    return found
+
+
 def races_of(program, room):
     """What a program printed until the first report, and what ThreadSanitizer wrote to its log: its status alone shows nothing."""
     log = room / f"{program.name}.log"
@@ -278,14 +308,14 @@ def rust_tests(place):
 
 
 def facade_tests(name):
-    """The tests of a facade, which depends on no serde in the copy: cargo looks for it even where nobody asks for the feature."""
+    """The tests of a facade, which depends on no serde in the copy: cargo looks for it even where the feature is off."""
 
     def tests(place):
         shutil.copytree(CLIENTS / name, place.room / name, ignore=shutil.ignore_patterns("target", "Cargo.lock"))
         manifest = place.room / name / "Cargo.toml"
         lines = manifest.read_text(encoding="utf-8").replace('"dep:serde"', "").splitlines(keepends=True)
         manifest.write_text("".join(line for line in lines if not line.startswith("serde =")), encoding="utf-8")
-        return crate_tests(place, name)
+        return crate_tests(place, name, "--no-default-features")
 
     return tests
 
@@ -295,16 +325,20 @@ def serde_tests(place):
     if not any(REGISTRY.glob("serde-1.*")):
         raise Skipped(f"there is no serde in {REGISTRY}")
     debian = ["--config", 'source.crates-io.replace-with="debian"', "--config", f'source.debian.directory="{REGISTRY}"']
-    return crate_tests(place, "rust_facade", *debian, "--features", "serde_support", "--test", "features")
+    return crate_tests(place, "rust_facade", *debian, "--test", "features")
 
 
-def html5ever_trees(place):
-    """A program over Debian's html5ever prints the same trees over the facade as over Debian's string_cache."""
-    said = said_by(TOP / "gate" / "real_client.py", place.library, place.room).strip()
-    if said.startswith("SKIPPED: "):
-        raise Skipped(said.removeprefix("SKIPPED: "))
-    print(f"clients {said}", flush=True)
-    return 1
+def real_client(name):
+    """A program over Debian's crate of this name writes the same over the facade as over Debian's string_cache."""
+
+    def test(place):
+        said = said_by(TOP / "gate" / "real_client.py", place.library, place.room, name).strip()
+        if said.startswith("SKIPPED: "):
+            raise Skipped(said.removeprefix("SKIPPED: "))
+        print(f"clients {said}", flush=True)
+        return 1
+
+    return test
 
 
 def python_tests(place):
@@ -323,13 +357,15 @@ def rows():
     for name in ("calls", "hostile", "memory", "heap", "counted", "model"):
         found.update(c_tests(name))
     found.update({**c_tests("readers", words=["-pthread"]), "c readers races": reader_races})
-    found.update({"c lexer": lexer_tests, "c scopes": scopes, "c count_names": count_names, "cpp": cpp_tests, "cpp sanitized": cpp_checked})
+    found.update({"c lexer": lexer_tests, "c scopes": scopes, "c count_names": count_names, "c names faults": names_faults})
+    found.update({"cpp": cpp_tests, "cpp sanitized": cpp_checked})
     for name in ("shared", "shared_threads", "shared_memory", "keys"):
         found.update(c_tests(name, [SHARED], ["-pthread", "-I", C]))
     found.update({"c shared races": shared_races, "cpp shared": shared_cpp_tests, "cpp shared sanitized": shared_cpp_checked})
     found.update({"cpp shared races": cpp_races, "cpp shared memcheck": shared_cpp_memcheck, "c shared header": shared_header_alone})
     found.update({"rust": rust_tests, "rust facade": facade_tests("rust_facade"), "rust facade 0.8": facade_tests("rust_facade_0_8")})
-    found.update({"rust facade serde": serde_tests, "rust html5ever": html5ever_trees, "python": python_tests})
+    found.update({"rust facade serde": serde_tests, "python": python_tests})
+    found.update({f"rust {name}": real_client(name) for name in ("html5ever", "lalrpop")})
     return found
 
 

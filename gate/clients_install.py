@@ -12,6 +12,16 @@ from pathlib import Path
 
 from clients_base import AS_C, C, CLIENTS, Failed, Skipped, TOP, cc, said_by, tool
 
+SCRIPT = TOP / "tools" / "c_library.sh"
+# What the prover says one after another, and what the script tells then of how far it is.
+PROVING = [
+    ("", "proving, N seconds; nothing checked so far"),
+    ("rt: chose --jobs 4 for interner_table", "proving interner_table, N seconds; nothing checked so far"),
+    ("so far: 0 of 52 functions checked; the verdict comes last", "proving interner_table, N seconds; 0 of 52 functions checked"),
+    ("checked interner_table::table::get, 5 of 93\nso far: 27 of 52 functions checked", "proving interner_table, N seconds; 27 of 52 functions checked"),
+    ("fn interner_table::table::get: proved\nrt: chose --jobs 1 for string_cache_c", "proving string_cache_c, N seconds; nothing checked so far"),
+    ("checked string_cache_c::sc_get, 7 of 40", "proving string_cache_c, N seconds; 7 of 40 checked"),
+]
 PIP = ["--no-build-isolation", "--no-index", "--no-deps", "--disable-pip-version-check"]
 
 
@@ -103,13 +113,47 @@ def install_pages(place):
 
 def script_help(place):
     """The script says how it is used, and what is no use of it ends with status 2."""
-    script = TOP / "tools" / "c_library.sh"
-    if "--prefix" not in said_by(script, "--help"):
+    if "--prefix" not in said_by(SCRIPT, "--help"):
         raise Failed("--help doesn't say how to install")
     for words in ([], ["--prefix"], ["--other"], ["a", "b", "c"]):
-        if subprocess.run([script, *words], capture_output=True, cwd=place.room, check=False).returncode != 2:
+        if subprocess.run([SCRIPT, *words], capture_output=True, cwd=place.room, check=False).returncode != 2:
             raise Failed(f"{' '.join(words)} is taken")
     return 5
+
+
+def stand_in(folder, name, body):
+    """Puts a program of this name into the folder, and answers the environment in which it stands before others of that name."""
+    folder.mkdir(exist_ok=True)
+    (folder / name).write_text(f"#!/bin/bash\n{body}\n", encoding="utf-8")
+    (folder / name).chmod(0o755)
+    return {**os.environ, "PATH": f"{folder}:{os.environ['PATH']}"}
+
+
+def script_progress(place):
+    """While the library is proved, the script tells what the prover said last of how far it is. Here both are quick, and nothing is proved."""
+    bins, sleep = place.room / "bin", shutil.which("sleep")
+    stand_in(bins, "sleep", f"exec {sleep} 0.1")
+    environment = stand_in(bins, "rt", "".join(f"echo {shlex.quote(line)}\n{sleep} 1\n" for line, _ in PROVING) + "exit 1")
+    ran = subprocess.run([SCRIPT, place.room / "out"], capture_output=True, text=True, env=environment, check=False)
+    told = re.findall(r"^c_library: (proving.*)$", ran.stderr, re.MULTILINE)
+    told = list(dict.fromkeys(re.sub(r"\d+ seconds", "N seconds", line) for line in told))
+    if told != [line for _, line in PROVING]:
+        raise Failed(f"it tells {told}")
+    if ran.returncode != 1 or (place.room / "out").exists():
+        raise Failed(f"after a proof that failed the status is {ran.returncode}, and {os.listdir(place.room)} is there")
+    return len(PROVING)
+
+
+def script_archive(place):
+    """What is no archive of the exports ends the script with status 1 and a line that says why."""
+    archive = place.room / "archive.a"
+    rows = {"": "is no archive", "text\n": "is no archive", "!<arch>\n": "the exports can't be linked from", None: "there is no archive"}
+    for text, why in rows.items():
+        archive.unlink(missing_ok=True) if text is None else archive.write_text(text, encoding="ascii")
+        ran = subprocess.run([SCRIPT, place.room / "out", archive], capture_output=True, text=True, check=False)
+        if ran.returncode != 1 or not re.search(rf"^c_library: .*{why}", ran.stderr, re.MULTILINE) or str(archive) not in ran.stderr:
+            raise Failed(f"of {text!r} it says, with status {ran.returncode}: {ran.stderr}")
+    return len(rows)
 
 
 def python_with_setuptools():
@@ -135,14 +179,34 @@ def install_pip(place):
     missing = [name for name in ("__init__.py", "libstring_cache.so", "py.typed") if not (target / "string_cache" / name).is_file()]
     if missing:
         raise Failed(f"the package has no {' '.join(missing)}")
-    program = "import string_cache as s, importlib.metadata as m; print(s.VERSION, m.version('string-cache'), s.Interner().intern('abc'))"
+    program = "import string_cache as s, importlib.metadata as m\n"
+    program += "print(s.VERSION, s.__version__, m.version('string-cache'), s.Interner().intern('abc'))"
     environment = {**without_variables(), "PYTHONPATH": str(target), "PYTHONDONTWRITEBYTECODE": "1"}
     environment.pop("STRING_CACHE_LIBRARY", None)
-    number, version, word = said_by(python, "-c", program, cwd=place.room, env=environment).split()
+    number, told, version, word = said_by(python, "-c", program, cwd=place.room, env=environment).split()
     major, minor, patch = map(int, version.split("."))
-    if int(number) != major * 10000 + minor * 100 + patch or int(word) != 0x63626131:
-        raise Failed(f"the package of version {version} has a library of version {number}")
+    if int(number) != major * 10000 + minor * 100 + patch or told != version or int(word) != 0x63626131:
+        raise Failed(f"the package of version {version} says {told}, and has a library of version {number}")
     return 3
+
+
+def install_without_wheel(place):
+    """A Python that can build no wheel is told in one line what it lacks, and nothing is installed."""
+    python, hidden, sources = python_with_setuptools(), place.room / "hidden", place.room / "python"
+    shutil.copytree(CLIENTS / "python", sources, ignore=shutil.ignore_patterns("__pycache__"))
+    hidden.mkdir()
+    missing = ("wheel", "wheel.bdist_wheel", "setuptools.command.bdist_wheel")
+    (hidden / "sitecustomize.py").write_text(f"import sys\nsys.modules.update(dict.fromkeys({missing}))\n", encoding="ascii")
+    environment = {**without_variables(), "PYTHONPATH": str(hidden), "STRING_CACHE_LIBRARY": str(place.library / "libstring_cache.so")}
+    ran = subprocess.run([python, "setup.py", "--version"], cwd=sources, capture_output=True, text=True, env=environment, check=False)
+    told = ran.stderr.splitlines()
+    if ran.returncode != 1 or ran.stdout or len(told) != 1 or "wheel" not in told[0]:
+        raise Failed(f"without wheel setup.py says {ran.stdout}{ran.stderr}")
+    words = [python, "-m", "pip", "install", *PIP, "--target", place.room / "target", sources]
+    ran = subprocess.run(words, capture_output=True, text=True, env=environment, check=False)
+    if ran.returncode != 1 or told[0] not in ran.stderr or "Traceback" in ran.stderr or (place.room / "target" / "string_cache").exists():
+        raise Failed(f"without wheel pip says {ran.stdout}{ran.stderr}")
+    return 2
 
 
 def install_cargo(place):
@@ -164,5 +228,6 @@ def install_cargo(place):
 def install_rows():
     """What is tested of an installation, by its name."""
     found = {"install pkg-config": install_pkg_config, "install cmake": install_cmake, "install manual": install_pages}
-    found.update({"install help": script_help, "install pip": install_pip, "install cargo": install_cargo})
+    found.update({"install help": script_help, "install progress": script_progress, "install archive": script_archive})
+    found.update({"install pip": install_pip, "install without wheel": install_without_wheel, "install cargo": install_cargo})
     return found

@@ -148,6 +148,49 @@ void two_texts_never_share_a_symbol() {
     }
 }
 
+// Symbols are compared as their words are.
+bool agree(const SharedSymbol &one, const SharedSymbol &other) {
+    const std::uint64_t left = one.word(), right = other.word();
+    return (one == other) == (left == right) && (one != other) == (left != right) && (one < other) == (left < right);
+}
+
+// Words of short texts that differ in one byte of eight, and of long ones that differ in the serial alone, also only in its bits from the 17th on.
+void all_bits_of_symbols_are_compared() {
+    SharedInterner names(0, 9, std::uint64_t(1) << 40, 0);
+    std::vector<SharedSymbol> symbols{names.intern("aaaaaaa"), names.intern("aaaaaa")};
+    for (std::size_t at = 0; at < 7; ++at) {
+        std::string text = "aaaaaaa";
+        text[at] = 'b';
+        symbols.push_back(names.intern(text));
+    }
+    symbols.push_back(names.intern("a longer name"));
+    symbols.push_back(names.intern("another long name"));
+    for (std::size_t at = 2; at < 65536; ++at) {
+        names.intern("a name that goes again");
+    }
+    symbols.push_back(names.intern("a name that comes late"));
+    CHECK(symbols.back().word() - symbols[9].word() == std::uint64_t(1) << 32);
+    CHECK(std::set<SharedSymbol>(symbols.begin(), symbols.end()).size() == symbols.size());
+    for (const SharedSymbol &one : symbols) {
+        CHECK(std::all_of(symbols.begin(), symbols.end(), [&one](const SharedSymbol &other) { return agree(one, other); }));
+    }
+}
+
+// All of it is in the shards, so twice as many have twice as much.
+void memory_has_its_shards() {
+    const std::uint64_t table = string_cache::Interner(9, 9, 0).memory();
+    for (std::uint8_t shard_bits = 0; shard_bits < 8; ++shard_bits) {
+        const SharedInterner names(shard_bits, 9, 9, 0), twice(static_cast<std::uint8_t>(shard_bits + 1), 9, 9, 0);
+        CHECK(names.memory() >= (table + 64) << shard_bits && twice.memory() == 2 * names.memory());
+    }
+    SharedInterner names(3, 9, 9, 0);
+    const std::uint64_t empty = names.memory();
+    for (std::size_t at = 0; at < 40; ++at) {
+        const SharedSymbol name = names.intern(numbered(at));
+        CHECK(names.memory() >= empty + name.text().size() && names.text_bytes() == name.text().size() && names.size() == 1);
+    }
+}
+
 void refusals_are_thrown() {
     SharedInterner names(0, 2, 2, 0);
     const SharedSymbol name = names.intern("a longer name");
@@ -273,6 +316,8 @@ const Test tests[] = {
     {"equal_texts_are_equal_symbols", equal_texts_are_equal_symbols},
     {"a_text_goes_with_its_last_symbol", a_text_goes_with_its_last_symbol},
     {"two_texts_never_share_a_symbol", two_texts_never_share_a_symbol},
+    {"all_bits_of_symbols_are_compared", all_bits_of_symbols_are_compared},
+    {"memory_has_its_shards", memory_has_its_shards},
     {"refusals_are_thrown", refusals_are_thrown},
     {"an_interner_is_moved", an_interner_is_moved},
     {"each_request_is_refused", each_request_is_refused},

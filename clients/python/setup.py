@@ -17,7 +17,10 @@ from setuptools.command.build_py import build_py
 try:
     from setuptools.command.bdist_wheel import bdist_wheel
 except ImportError:  # before setuptools 70.1
-    from wheel.bdist_wheel import bdist_wheel
+    try:
+        from wheel.bdist_wheel import bdist_wheel
+    except ImportError:
+        raise SystemExit("there is neither setuptools 70.1 nor wheel: pip install wheel, or a later setuptools") from None
 
 HERE = Path(__file__).resolve().parent
 NAME = "libstring_cache.so"

@@ -21,6 +21,7 @@ from __future__ import annotations
 
 import ctypes
 import ctypes.util
+import itertools
 import os
 import threading
 from collections.abc import Callable, Iterator
@@ -109,6 +110,7 @@ _library = _loaded(_path())
 VERSION: int = _library.sc_version()
 if VERSION // 10000 != MAJOR:
     raise ImportError(f"libstring_cache.so has version {VERSION // 10000}, where {MAJOR} is known here")
+__version__ = f"{VERSION // 10000}.{VERSION // 100 % 100}.{VERSION % 100}"  # of the library, which has that of its package
 
 
 def _check(number: int) -> None:
@@ -273,17 +275,16 @@ class Interner:
             yield text
 
     def items(self) -> Iterator[tuple[int, str]]:
-        """The ints and texts in that order. What changes meanwhile may be seen or not."""
-        word, place = ctypes.c_uint64(), 0
-        while True:
+        """The ints and texts in that order. What changes meanwhile may be seen or not, and there are at most as many as at the beginning."""
+        word, end = ctypes.c_uint64(), len(self)
+        for place in itertools.count():
             with self._lock:
                 number = _library.sc_entry(self._table, place, word, None)
-                if number == NOT_HELD:
+                if number == NOT_HELD or (number == OK and place == end):
                     return
                 _check(number)
                 item = word.value, self._text(word.value)
             yield item
-            place += 1
 
     def __reduce__(self) -> NoReturn:
         """What copy and pickle ask for: a second interner over one table would free it twice."""

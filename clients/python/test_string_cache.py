@@ -34,6 +34,19 @@ class Interning(unittest.TestCase):
         self.assertEqual(self.names.text(0x63626131), "abc")
         self.assertEqual(len(self.names), 0)
 
+    def test_any_text_is_looked_up(self) -> None:
+        samples = [*SAMPLES, "x" * 2_000_000, "é" * 1_000_000, "a" + "日本語" * 300_000]
+        long = [text for text in samples if len(text.encode()) > 7]
+        self.assertEqual([text in self.names for text in samples], [text not in long for text in samples])
+        self.assertEqual([self.names.get(text) for text in long], [None] * len(long))
+        words = [self.names.intern(text) for text in samples]
+        self.assertEqual([self.names.get(text) for text in samples], words)
+        self.assertTrue(all(text in self.names and word in self.names for text, word in zip(samples, words)))
+        # Not by assertEqual, which would print a difference of such texts.
+        self.assertTrue([self.names.text(word) for word in words] == samples)
+        self.assertTrue(list(self.names) == long)
+        self.assertEqual(self.names.text_bytes(), sum(len(text.encode()) for text in long))
+
     def test_looking_up_interns_nothing(self) -> None:
         self.assertIsNone(self.names.get("a longer name"))
         self.assertNotIn("a longer name", self.names)
@@ -61,6 +74,22 @@ class Interning(unittest.TestCase):
         self.assertEqual(list(self.names.items()), list(zip(words, texts)))
         self.names.release(words[0])
         self.assertEqual(list(self.names), [texts[-1], *texts[1:-1]])
+
+    def test_what_changes_in_a_loop_lets_it_end(self) -> None:
+        texts = [f"name number {at}" for at in range(9)]
+        for text in texts:
+            self.names.intern(text)
+        for at, text in enumerate(self.names):
+            self.assertEqual(text, texts[at])
+            self.names.intern(f"another name, number {at}")
+        self.assertEqual((at, len(self.names)), (8, 18))
+        for at, (word, text) in enumerate(self.names.items()):
+            self.assertLess(at, 18)
+            self.assertEqual(self.names.text(word), text)
+            self.names.release(word)
+        for at, _ in enumerate(self.names):
+            self.names.clear()
+        self.assertEqual((at, list(self.names)), (0, []))
 
     def test_a_text_goes_with_its_last_holder(self) -> None:
         word = self.names.intern("a longer name")
@@ -197,6 +226,7 @@ class Ending(unittest.TestCase):
 
     def test_the_library_is_the_one_that_this_module_knows(self) -> None:
         self.assertEqual(VERSION // 10000, 1)
+        self.assertEqual([int(part) for part in string_cache.__version__.split(".")], [1, VERSION // 100 % 100, VERSION % 100])
 
 
 if __name__ == "__main__":

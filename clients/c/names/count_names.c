@@ -1,6 +1,9 @@
 /* Prints each name of a program in C with the line where it comes first and how often it comes, in the order of their first lines.
  *
- * usage: count_names [FILE] */
+ * usage: count_names [FILE]
+ *
+ * At the top of the repository, after `tools/c_library.sh lib`, bash builds it by
+ * cc -I lib clients/c/names/{count_names,lexer,source,word_map}.c lib/libstring_cache.a -o count_names */
 #include <inttypes.h>
 #include <stdio.h>
 #include <stdlib.h>
@@ -91,5 +94,6 @@ int main(int count, char **arguments) {
     word_map_free(&names.places);
     free(names.list);
     free(source.text);
+    end_output();
     return 0;
 }

@@ -3,7 +3,10 @@
  * A name belongs to the block that is open where it comes first. Where a block ends, a line tells its lines, and one each of its names, in the
  * order in which they came. Then they are given back: the table holds what is in sight, and nothing else.
  *
- * usage: scopes [FILE] */
+ * usage: scopes [FILE]
+ *
+ * At the top of the repository, after `tools/c_library.sh lib`, bash builds it by
+ * cc -I lib clients/c/names/{scopes,lexer,source,word_map}.c lib/libstring_cache.a -o scopes */
 #include <inttypes.h>
 #include <stdio.h>
 #include <stdlib.h>
@@ -144,5 +147,6 @@ int main(int count, char **arguments) {
     free(scopes.names);
     free(scopes.blocks);
     free(source.text);
+    end_output();
     return 0;
 }

@@ -1,4 +1,4 @@
-/* A whole file in memory, and the end of a program with a message. */
+/* A whole file in memory, and the end of a program: with a message, or with all that it printed. */
 #ifndef NAMES_SOURCE_H
 #define NAMES_SOURCE_H
 
@@ -9,10 +9,13 @@ struct source {
     size_t len;
 };
 
-/* All that a file has; of standard input where there is no name. Ends the program where it can't be read. */
+/* All that a file has; of standard input if there is no name. If it can't be read, ends the program with a message that names it. */
 struct source read_source(const char *name);
 
 /* Prints a message, and ends the program with status 1. */
 _Noreturn void fail(const char *what);
+
+/* Ends what is printed, behind which nothing may be. If not all of it could be written, ends the program with a message. */
+void end_output(void);
 
 #endif

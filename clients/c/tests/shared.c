@@ -5,7 +5,7 @@
 #include "check.h"
 #include "string_cache_shared.h"
 
-enum { ROOM = 64, MANY = 50000 };
+enum { ROOM = 64, MANY = 50000, MORE = 70000 };
 
 static const uint64_t HOLDERS = (UINT64_C(1) << 63) - 1;
 static const uint64_t TICKETS = (UINT64_C(1) << 48) - 1;
@@ -130,6 +130,40 @@ static void two_texts_never_share_a_word(void) {
     }
 }
 
+/* Whatever the number of shards, an open interner is left as it is. */
+static void an_open_interner_is_not_opened(void) {
+    for (uint8_t shard_bits = 0; shard_bits <= 14; shard_bits++) {
+        sc_shared shared = opened(shard_bits, 0);
+        struct sc_shards *const shards = shared.shards;
+        const uint64_t word = word_of(&shared, "a longer text");
+        CHECK(sc_shared_open(&shared) == SC_NOT_CLOSED && sc_shared_open_with(&shared, shard_bits, 1, 1, 0) == SC_NOT_CLOSED);
+        CHECK(sc_shared_open_with(&shared, 255, 0, 0, 255) == SC_NOT_CLOSED && shared.shards == shards);
+        CHECK(has_text(&shared, word, "a longer text") && holders_of(&shared, word) == 1);
+        sc_shared_close(&shared);
+    }
+}
+
+/* Of entries, holders and bytes there are more than 16 bits can count. */
+static void counts_go_beyond_16_bits(void) {
+    sc_shared shared = opened(4, 8);
+    uint64_t bytes = 0, word = 0;
+    char text[ROOM];
+    for (int at = 0; at < MORE; at++) {
+        bytes += (uint64_t)snprintf(text, sizeof text, "text number %d", at);
+        word = word_of(&shared, text);
+    }
+    CHECK(sc_shared_entries(&shared) == MORE && sc_shared_text_bytes(&shared) == bytes && sc_shared_memory(&shared) > bytes);
+    for (uint64_t at = 1; at < MORE; at++) {
+        CHECK(sc_shared_clone(&shared, word) == SC_OK);
+    }
+    CHECK(holders_of(&shared, word) == MORE);
+    for (uint64_t at = MORE; at-- != 0;) {
+        CHECK(sc_shared_give(&shared, word) == SC_OK && holders_of(&shared, word) == at);
+    }
+    CHECK(sc_shared_entries(&shared) == MORE - 1 && !sc_shared_holds(&shared, word));
+    sc_shared_close(&shared);
+}
+
 /* A word with another shard, bucket or serial is not held, and changes nothing. */
 static void the_word_of_another_shard_is_not_held(void) {
     sc_shared shared = opened(3, 4);
@@ -236,6 +270,8 @@ static const test tests[] = {
     {"a_short_text_is_the_same_word_everywhere", a_short_text_is_the_same_word_everywhere},
     {"any_number_is_answered_as_by_a_table", any_number_is_answered_as_by_a_table},
     {"two_texts_never_share_a_word", two_texts_never_share_a_word},
+    {"an_open_interner_is_not_opened", an_open_interner_is_not_opened},
+    {"counts_go_beyond_16_bits", counts_go_beyond_16_bits},
     {"the_word_of_another_shard_is_not_held", the_word_of_another_shard_is_not_held},
     {"limits_have_ranges", limits_have_ranges},
     {"a_closed_interner_says_so", a_closed_interner_says_so},

@@ -219,7 +219,8 @@ impl<Beside> LockedSymbol<'_, Beside> {
         self.own.map_or(Err(Fault::NotHeld), |own| self.inside.0.hold(own))
     }
 
-    /// As [`Interner::release`].
+    /// As [`Interner::release`]: takes off a holder that [`LockedName::intern`] or [`LockedSymbol::hold`] counted. More calls than these take off
+    /// that of a [`SharedSymbol`], which says what is left of it.
     pub fn release(&mut self) -> bool {
         self.own.is_some_and(|own| self.inside.0.release(own))
     }
@@ -232,13 +233,18 @@ impl<Beside> LockedSymbol<'_, Beside> {
 
 /// One holder of a name in a [`SharedInterner`], which it knows: a clone is one holder more, and the drop gives its own back. Two symbols are equal
 /// exactly if they are of one interner and their names are equal.
+///
+/// Its name is held until it is dropped, unless [`LockedSymbol::release`] takes off more holders than were counted by hand. That is safe, but if the
+/// last holder goes in this way, the symbol stands for nothing from then on: [`SharedSymbol::name`] is empty, [`SharedSymbol::holders`] is `None`,
+/// [`SharedSymbol::try_clone`] is [`Fault::NotHeld`], a clone panics, and the drop does nothing. It never stands for another name, and it isn't
+/// equal to the symbol of its name if that is interned again.
 pub struct SharedSymbol<'a> {
     names: &'a SharedInterner,
     symbol: Symbol,
 }
 
 impl<'a> SharedSymbol<'a> {
-    /// The name, as a copy.
+    /// The name, as a copy. It is empty if the last holder was [released](LockedSymbol::release) from below the symbol.
     pub fn name(&self) -> String {
         match is_ticket(self.symbol) {
             true => self.names.lock_symbol(self.symbol).resolve(),
@@ -257,12 +263,12 @@ impl<'a> SharedSymbol<'a> {
         self.names
     }
 
-    /// How many holders the name has at this moment. `None` for one of at most 7 bytes.
+    /// How many holders the name has at this moment. `None` for one of at most 7 bytes, and if the last was [released](LockedSymbol::release).
     pub fn holders(&self) -> Option<u64> {
         self.names.lock_symbol(self.symbol).holders()
     }
 
-    /// One holder more. [`Fault::FullCount`] under limits.
+    /// One holder more. [`Fault::FullCount`] under limits, and [`Fault::NotHeld`] if the last was [released](LockedSymbol::release).
     pub fn try_clone(&self) -> Result<SharedSymbol<'a>, Fault> {
         if is_ticket(self.symbol) {
             self.names.lock_symbol(self.symbol).hold()?;
@@ -271,7 +277,7 @@ impl<'a> SharedSymbol<'a> {
     }
 }
 
-/// Panics where the limits allow no holder more: [`SharedSymbol::try_clone`] answers that.
+/// Panics where [`SharedSymbol::try_clone`] answers a fault: the limits allow no holder more, or the last was released.
 impl Clone for SharedSymbol<'_> {
     fn clone(&self) -> Self {
         self.try_clone().expect("one holder more")

@@ -1,6 +1,6 @@
 //! What threads ask of an interner that they share.
 
-use interned_names::{hashes_of, Fault, SharedInterner, SharedSymbol, Symbol};
+use interned_names::{hashes_of, Fault, Interner, SharedInterner, SharedSymbol, Symbol};
 use std::collections::{HashMap, HashSet};
 use std::thread;
 
@@ -52,6 +52,25 @@ fn a_name_goes_with_its_last_symbol() {
     assert_eq!((names.len(), names.text_bytes(), names.get("a longer name")), (0, 0, Ok(None)));
     assert!(!names.lock_symbol(symbol).is_held() && !names.lock_symbol(symbol).release());
     assert_ne!(intern(&names, "a longer name").symbol(), symbol);
+}
+
+/// The name goes while two symbols stand for it, by one release for each: what its docs say of them.
+#[test]
+fn symbols_whose_holders_are_released_stand_for_nothing() {
+    let names = new_interner();
+    let (first, second) = (intern(&names, "a longer name"), intern(&names, "a longer name"));
+    assert!(names.lock_symbol(first.symbol()).release());
+    assert_eq!((first.name().as_str(), second.holders()), ("a longer name", Some(1)));
+    assert!(names.lock_symbol(first.symbol()).release() && !names.lock_symbol(first.symbol()).release());
+    for symbol in [&first, &second] {
+        assert_eq!((symbol.name(), symbol.to_string(), symbol.holders()), (String::new(), String::new(), None));
+        assert_eq!(symbol.try_clone(), Err(Fault::NotHeld));
+    }
+    assert!(names.is_empty() && thread::scope(|scope| scope.spawn(|| first.clone()).join().is_err()));
+    let again = intern(&names, "a longer name");
+    assert!(first == second && first != again);
+    drop((first, second));
+    assert_eq!((again.name().as_str(), again.holders(), names.len()), ("a longer name", Some(1), 1));
 }
 
 #[test]
@@ -111,6 +130,70 @@ fn memory_is_told() {
     drop(symbol);
     assert_eq!(names.memory(), empty + 496 + 208 + 1);
     assert_eq!(format!("{names:?}"), "SharedInterner(0 names)");
+}
+
+/// Each name is alone in its interner, and all four shards have one.
+#[test]
+fn all_shards_are_added_up() {
+    let texts: Vec<String> = (0..40).map(|number| format!("name number {number}")).collect();
+    assert_eq!(texts.iter().map(|text| hashes_of(text, 0).g & 3).collect::<HashSet<_>>().len(), 4);
+    let table = Interner::with_limits(9, 9, 0).expect("an interner").memory();
+    for text in &texts {
+        let names = SharedInterner::<()>::with_limits(2, 9, 9, 0).expect("an interner");
+        let empty = names.memory();
+        assert!(names.is_empty() && empty >= 4 * (table + 64));
+        let _symbol = intern(&names, text);
+        assert_eq!((names.len(), names.is_empty(), names.text_bytes()), (1, false, text.len() as u64));
+        assert_eq!(names.memory(), empty + text.len() as u64 + 496 + 208 + 1);
+    }
+}
+
+/// A thread that panics while it has a lock leaves the shard to the others, and each call of its own has changed all or nothing.
+#[test]
+fn a_panic_under_a_lock_takes_nothing_from_the_others() {
+    let names = new_interner();
+    let held = intern(&names, "a longer name");
+    let panicked = thread::scope(|scope| {
+        let thread = scope.spawn(|| {
+            let mut locked = names.lock_name("a longer name");
+            let symbol = locked.intern().expect("a symbol");
+            assert_ne!(locked.get(), Some(symbol), "a panic that is meant");
+        });
+        thread.join().is_err()
+    });
+    assert!(panicked && names.len() == 1 && names.memory() > names.text_bytes());
+    assert_eq!((held.name().as_str(), held.holders()), ("a longer name", Some(2)));
+    assert_eq!(names.get("a longer name"), Ok(Some(held.clone())));
+    assert!(names.lock_symbol(held.symbol()).release());
+    drop(held);
+    assert!(names.is_empty());
+}
+
+/// The name comes and goes, and each look-up gives a symbol that `intern` gave, or none: one that interned after another call would give a new one.
+#[test]
+fn a_look_up_interns_nothing() {
+    let (names, mut given) = (new_interner(), HashSet::new());
+    let look = || -> HashSet<Symbol> {
+        let found = (0..100_000).filter_map(|_| names.get("a longer name").expect("a look-up"));
+        found.map(|symbol| symbol.symbol()).collect()
+    };
+    thread::scope(|scope| {
+        let threads = [scope.spawn(look), scope.spawn(look)];
+        while threads.iter().any(|thread| !thread.is_finished()) {
+            given.insert(intern(&names, "a longer name").symbol());
+        }
+        assert!(threads.into_iter().all(|thread| thread.join().expect("a thread").is_subset(&given)));
+    });
+    assert!(names.is_empty());
+}
+
+#[test]
+fn a_symbol_is_written_in_its_width() {
+    let names = new_interner();
+    for (name, right, middle, cut) in [("short", "     short", "..short...", "sho"), ("nine name", " nine name", "nine name.", "nin")] {
+        let symbol = intern(&names, name);
+        assert_eq!((format!("{symbol:>10}"), format!("{symbol:.^10}"), format!("{symbol:.3}")), (right.into(), middle.into(), cut.into()));
+    }
 }
 
 /// How often each name of a shard was locked.

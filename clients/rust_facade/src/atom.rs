@@ -169,7 +169,7 @@ impl<Static: StaticAtomSet> Deref for Atom<Static> {
     }
 }
 
-impl<Static> Clone for Atom<Static> {
+impl<Static: StaticAtomSet> Clone for Atom<Static> {
     fn clone(&self) -> Self {
         Atom { word: self.word, entry: self.entry.clone(), phantom: PhantomData }
     }

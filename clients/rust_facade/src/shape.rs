@@ -29,7 +29,6 @@ pub(crate) fn hash_of_word(word: u64) -> TextHash {
 }
 
 /// The hash in 32 bits.
-#[cfg(feature = "precomputed_hash")]
 pub(crate) fn short_hash(hash: TextHash) -> u32 {
     (hash >> 32) as u32 ^ hash as u32
 }

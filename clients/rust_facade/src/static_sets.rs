@@ -42,7 +42,8 @@ pub struct EmptyStaticAtomSet;
 
 impl StaticAtomSet for EmptyStaticAtomSet {
     fn get() -> &'static PhfStrSet {
-        static ONE_TEXT: PhfStrSet = PhfStrSet { key: 0, disps: &[(0, 0)], atoms: &[""], hashes: &[0] };
+        // As in the original the hash is none under this key: programs may have stored it.
+        static ONE_TEXT: PhfStrSet = PhfStrSet { key: 0, disps: &[(0, 0)], atoms: &[""], hashes: &[0x3ddd_def3] };
         &ONE_TEXT
     }
 }

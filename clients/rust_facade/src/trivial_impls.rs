@@ -53,7 +53,6 @@ impl<Static: StaticAtomSet> fmt::Display for Atom<Static> {
     }
 }
 
-#[cfg(feature = "precomputed_hash")]
 impl<Static: StaticAtomSet> precomputed_hash::PrecomputedHash for Atom<Static> {
     fn precomputed_hash(&self) -> u32 {
         crate::shape::short_hash(self.get_hash())
@@ -85,7 +84,7 @@ impl<Static: StaticAtomSet> serde::de::Visitor<'_> for OfText<Static> {
     type Value = Atom<Static>;
 
     fn expecting(&self, out: &mut fmt::Formatter<'_>) -> fmt::Result {
-        out.write_str("a text")
+        out.write_str("an Atom")
     }
 
     fn visit_str<E: serde::de::Error>(self, text: &str) -> Result<Atom<Static>, E> {

@@ -1,8 +1,7 @@
-//! What other crates' traits ask of an atom, where the features are on.
+//! What other crates' traits ask of an atom: those of serde where the feature is on.
 
 use string_cache::DefaultAtom;
 
-#[cfg(feature = "precomputed_hash")]
 #[test]
 fn an_atom_has_its_hash_at_hand() {
     use precomputed_hash::PrecomputedHash;
@@ -38,10 +37,5 @@ fn an_atom_is_read_and_written_as_its_text() {
     }
     let number: U32Deserializer<Error> = 7_u32.into_deserializer();
     let refused = DefaultAtom::deserialize(number).expect_err("no text");
-    assert_eq!(refused.to_string(), "invalid type: integer `7`, expected a text");
-}
-
-#[test]
-fn atoms_need_no_feature() {
-    assert_eq!(DefaultAtom::from("a longer name").len(), 13);
+    assert_eq!(refused.to_string(), "invalid type: integer `7`, expected an Atom");
 }

@@ -10,8 +10,7 @@
 //! ```
 //!
 //! What differs: an [`Atom`] has 16 bytes in place of 8, and a text is kept once by its table and once beside it, since a table lends none. The end
-//! of a text's last atom waits for the lock of its table, as interning does. Want of memory panics, as in that crate. There is no measuring of memory,
-//! and the feature `serde_support` has to be asked for.
+//! of a text's last atom waits for the lock of its table, as interning does. Want of memory panics, as in that crate. There is no measuring of memory.
 
 #[path = "../../rust_facade/src/atom.rs"]
 mod atom;

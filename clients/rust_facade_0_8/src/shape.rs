@@ -23,7 +23,6 @@ pub(crate) fn hash_of_word(word: u64) -> TextHash {
 }
 
 /// The hash in 32 bits.
-#[cfg(feature = "precomputed_hash")]
 pub(crate) fn short_hash(hash: TextHash) -> u32 {
     hash
 }

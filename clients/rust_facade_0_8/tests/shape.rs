@@ -58,7 +58,6 @@ fn hashes_have_32_bits() {
     assert_eq!(hashes, [0xed02_e6f1, 0x6362_6131, 0x6362_6171 ^ 0x6766_6564]);
 }
 
-#[cfg(feature = "precomputed_hash")]
 #[test]
 fn an_atom_has_its_hash_at_hand() {
     use precomputed_hash::PrecomputedHash;
