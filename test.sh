@@ -18,10 +18,14 @@ said=$(mktemp -d)
 trap 'kill $(jobs -p) 2>/dev/null; rm -rf "$said"' EXIT
 passed=0
 failed=0
+skipped=0 # rows whose tools aren't there
 spent=0 # seconds of processors, over all parts
 
 # What a line says that tells of something that failed.
 wrong='WRONG|FAILED|BAD EDIT|NOT (PROVED|REFUSED|TRIED|CHECKED)'
+
+# What a line says that tells of a row that was left out.
+left_out='^[a-z]+ .*: (SKIPPED|skipped: )'
 
 # Runs a part of the gate under a name, which keeps what it says, its status, its time, and the time that processors spent on it: in a shell
 # of its own, since a shell counts for whatever it runs the time of each part beside it that ends meanwhile.
@@ -36,14 +40,16 @@ run() (
     echo $((SECONDS - begun)) > "$said/$name.seconds"
 )
 
-# Adds the numbers of a part's closing line 'N passed, M failed', and says them once more with its times and with what failed.
+# Adds the numbers of a part's closing line 'N passed, M failed', and says them once more with its times, what was left out and what failed.
 # A part without that line has failed.
 add() {
     local line user system
+    skipped=$((skipped + $(grep -cE "$left_out" "$said/$1")))
     line=$(grep -E '^[0-9]+ passed, [0-9]+ failed$' "$said/$1" | tail -n 1)
     read -r user system < "$said/$1.processors"
     spent=$((spent + user + system))
     echo "part $1: ${line:-no closing line}, $(< "$said/$1.seconds") s, $((user + system)) s of processors"
+    grep -E "$left_out" "$said/$1"
     grep -E "$wrong" "$said/$1" | tail -n 20
     if [[ $line =~ ^([0-9]+)\ passed,\ ([0-9]+)\ failed$ ]]; then
         passed=$((passed + BASH_REMATCH[1]))
@@ -111,5 +117,5 @@ add wrong_clients
 add caught
 add schedules
 echo "$spent s of processors in all, $SECONDS s by the clock"
-echo "$passed passed, $failed failed"
+echo "$passed passed, $failed failed, $skipped skipped"
 [[ $failed -eq 0 ]]

@@ -201,20 +201,61 @@ def job_fails_once(room):
 
 
 def program_is_missing(room):
-    return failed(counted(written(room, [TEXT]), atoms=room / "absent"), "piece 1 wasn't counted")
+    """A program that isn't here, or may not be run, is told at once: no piece is tried. Another machine's is found missing by the pieces."""
+    (room / "text").write_bytes(TEXT)
+    for absent, others in ((room / "absent", []), (room / "text", []), ("./absent", ["--sshlogin", "2/:"])):
+        found = counted([room / "text"], *others, "--keep", room / "kept", atoms=absent)
+        if wrong := failed(found, f"there is no program {absent}: `tools/try_atoms.py bin` builds one"):
+            return wrong
+        if found.returncode != 2 or (room / "kept").exists():
+            return f"with the status {found.returncode} pieces were tried"
+    ssh = room / "ssh"
+    ssh.write_text('#!/bin/bash\nshift\nexec sh -c "$*"\n', encoding="utf-8")
+    ssh.chmod(0o755)
+    return failed(counted([room / "text"], "--sshlogin", f"2/{ssh} machine", "--tries", "1", atoms=room / "absent"), "piece 1 wasn't counted")
+
+
+def path_has_braces(room):
+    """The path of the program, or of the folder that is kept, has what parallel would put something else for."""
+    for braces in ("{}", "{#}", "{= $_ =}"):
+        own = room / f"a{braces}b"
+        own.mkdir()
+        shutil.copy(ATOMS, own / "atoms")
+        files = written(own, [TEXT])
+        for found in (counted(files, atoms=own / "atoms"), counted(files, "--keep", own / "kept")):
+            if wrong := failed(found, f"a{braces}b/") or failed(found, "has braces"):
+                return wrong
+        if wrong := same(counted(files), whole(TEXT)):
+            return wrong
+    return None
+
+
+def program_is_named_from_here(room):
+    """A program in the folder where the run begins needs no more than `./`, and one on the path its name."""
+    shutil.copy(ATOMS, room / "counter")
+    file, path = written(room, [TEXT])[0].name, os.environ["PATH"]
+    for name, where in (("./counter", path), ("counter", f"{room}:{path}")):
+        found = ran([COUNT_MANY, "--atoms", name, "--block", BLOCK, file], cwd=room, env={**os.environ, "PATH": where})
+        if wrong := same(found, whole(TEXT)):
+            return wrong
+    return None
 
 
 def results_are_spoilt(room):
-    """A piece's counts that are cut short or gone, or whose last word isn't there, are made again; so is what no run has left."""
+    """A piece's counts that are cut short or gone, or whose last word isn't there, are made again; so is what no run has left, and what is
+    as long as it was, but something else, or another piece's."""
     files, kept = written(room, [TEXT]), room / "kept"
     counted(files, "--keep", kept)
     (kept / "run.0/2.counts").write_bytes((kept / "run.0/2.counts").read_bytes()[:-5])
     (kept / "run.0/3.counts").unlink()
     (kept / "run.0/4.counts.err").write_bytes(b"")
     (kept / "run.0/5.counts.err").unlink()
+    (kept / "run.0/6.counts").write_bytes(re.sub(rb"(?m)^1 ", b"2 ", (kept / "run.0/6.counts").read_bytes()))
+    for ending in ("counts", "counts.err"):
+        shutil.copy(kept / f"run.0/1.{ending}", kept / f"run.0/7.{ending}")
     found = same(counted(files, "--keep", kept, "--resume"), whole(TEXT))
     again = {counts.name for counts in kept.glob("run.1/*.counts") if counts.stat().st_size}
-    return found or (None if again == {f"{n}.counts" for n in (2, 3, 4, 5)} else f"counted again: {again}")
+    return found or (None if again == {f"{n}.counts" for n in range(2, 8)} else f"counted again: {again}")
 
 
 def run_is_broken_off(room):
@@ -238,6 +279,17 @@ def other_text_is_resumed(room):
     return failed(counted(files, "--keep", kept, "--resume"), "is of other files") or failed(
         counted(files, "--keep", kept), "has results already"
     )
+
+
+def other_run_is_laid_in(room):
+    """Pieces of another text of the same length aren't taken for those of this one."""
+    files, other = written(room, [TEXT]), room / "other"
+    other.write_bytes(TEXT.replace(b"word1", b"ward1"))
+    for file, kept in ((other, "those"), (files[0], "these")):
+        counted([file], "--keep", room / kept)
+    shutil.rmtree(room / "these" / "run.0")
+    shutil.copytree(room / "those" / "run.0", room / "these" / "run.0")
+    return same(counted(files, "--keep", room / "these", "--resume"), whole(TEXT))
 
 
 def text_grows_meanwhile(room):
@@ -341,10 +393,12 @@ def rows():
     yield "merge: a file that is cut off", merge_refuses(b"1 a\n", b"1 b\n2 c", why=b"cut off")
     yield "merge: a file that isn't in order", merge_refuses(b"1 b\n1 a\n", why=b"order")
     yield "merge: a file of something else", merge_refuses(b"one a\n", why=b"no line")
+    yield "merge: a number of too many digits", merge_refuses(b"%b a\n" % (b"7" * 5000), why=b"merge_counts: a number of 5000 digits")
     yield "merge: by the script, and as a map-reduce job", merges_in_two_ways
     yield "merge: its output is closed", merge_ends_well(">&-", b"1 a\n")
     yield "reduce: a last line without its end", reduce_refuses(b"a\t1\nb\t12", b"cut off")
     yield "reduce: lines of something else", reduce_refuses(b"a\tone\n", b"no line")
+    yield "reduce: a number of too many digits", reduce_refuses(b"a\t%b\n" % (b"7" * 5000), b"merge_counts: a number of 5000 digits")
     yield "reduce: its output is closed", merge_ends_well(">&-")
     yield "reduce: its input is closed", merge_ends_well("<&-")
     yield "mapper: fails where the program does", mapper_fails_with_the_program
@@ -354,9 +408,11 @@ def rows():
         return
     for name, texts in TEXTS.items():
         yield f"text: {name}", counts_as_the_whole(texts)
-    for row in (file_is_missing, file_is_a_folder, file_is_unreadable, job_fails, job_fails_once, program_is_missing):
+    for row in (file_is_missing, file_is_a_folder, file_is_unreadable, job_fails, job_fails_once):
         yield f"pieces: {row.__name__.replace('_', ' ')}", row
-    for row in (results_are_spoilt, run_is_broken_off, other_text_is_resumed, text_grows_meanwhile, prints_nothing_but_counts):
+    for row in (program_is_missing, program_is_named_from_here, path_has_braces):
+        yield f"pieces: {row.__name__.replace('_', ' ')}", row
+    for row in (results_are_spoilt, run_is_broken_off, other_text_is_resumed, other_run_is_laid_in, text_grows_meanwhile, prints_nothing_but_counts):
         yield f"pieces: {row.__name__.replace('_', ' ')}", row
     yield "machines: a line that breaks", line_breaks
     if shutil.which("sshd", path=os.environ.get("PATH", "") + ":/usr/sbin"):

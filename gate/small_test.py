@@ -1,6 +1,7 @@
 #!/usr/bin/env python3
 """Tries what no other part of the test command tries: the pictures of docs/ are what the scripts draw of the stored figures, the number of
-checks side by side is one that the machine has processors for, and gate/quick.py, over a small crate, passes what is right and nothing else.
+checks side by side is one that the machine has processors for, gate/pages.py tells of a page of definitions that doesn't say what the sources
+say, and gate/quick.py, over a small crate, passes what is right and nothing else.
 
 usage: gate/small_test.py
 """
@@ -13,8 +14,10 @@ import unittest
 from pathlib import Path
 from unittest import mock
 
+import definitions
 import find_tools  # has Python find the modules of tools/
 import machine
+import pages
 import quick
 import repository
 
@@ -70,6 +73,47 @@ class Machine(unittest.TestCase):
             for name, bytes_ in (("memory.max", 5000), ("memory.current", 3000)):
                 (Path(room) / name).write_text(f"{bytes_}\n", encoding="ascii")
             self.assertEqual(machine.free_memory(), 2000)
+
+
+class Definitions(unittest.TestCase):
+    """The page of definitions in a repository with two files of them, of which one uses the other."""
+
+    def setUp(self):
+        room = tempfile.TemporaryDirectory(prefix="definitions-test-")
+        self.addCleanup(room.cleanup)
+        self.top = Path(room.name)
+        self.write("crates.txt", "few: core\n")
+        self.write("docs/PROMISES.md", "")
+        self.write("crates/few/specs/Few.antt", "-- Few.\n\n-- one\nabbrev pub one : ℕ\none = 1\n")
+        self.write("crates/few/specs/More.antt", "use Rattle.few.specs.Few.{one}\n\npub record Two : Type 0 where\n  pub is : ℕ\n")
+        self.write("docs/DEFINITIONS.md", definitions.page_of("# By hand\n\n" + definitions.MARKER, self.top))
+        held = mock.patch.object(pages, "TOP", self.top)
+        held.start()
+        self.addCleanup(held.stop)
+
+    def write(self, file, text):
+        (self.top / file).parent.mkdir(parents=True, exist_ok=True)
+        (self.top / file).write_text(text, encoding="utf-8")
+
+    def changed(self, old, new):
+        text = (self.top / "docs" / "DEFINITIONS.md").read_text(encoding="utf-8")
+        self.assertIn(old, text)
+        self.write("docs/DEFINITIONS.md", text.replace(old, new))
+
+    def told(self):
+        return [why for _, _, why in pages.wrong_definitions() if why]
+
+    def test_what_is_written_passes(self):
+        self.changed("By hand", "Also by hand")
+        self.assertEqual(self.told(), [])
+
+    def test_another_sentence_is_told(self):
+        self.changed("- `one`: one", "- `one`: two")
+        self.assertEqual(self.told(), ["the sources don't say: - `one`: two", "the sources say: - `one`: one"])
+
+    def test_a_definition_without_a_comment_is_told(self):
+        self.write("docs/PROMISES.md", "It is `Two`.\n")
+        self.assertIn("Two has no comment in few/specs/More.antt", self.told())
 
 
 class Quick(unittest.TestCase):

@@ -1,10 +1,12 @@
 #!/usr/bin/env python3
 """Tries the scripts by which a user begins: a repository of each kind that tools/begin.py makes, whose example has to print by `rt try`
-what is stored of it, and the program that tools/try_atoms.py leaves, over its stored text and a large one, and without random bytes.
+what is stored of it, and one of crates that are named, and the program that tools/try_atoms.py leaves, over its stored text and a large one, and without random bytes.
+Each script of tools/ is asked for help, too.
 
 usage: gate/users_test.py
 """
 
+import os
 import subprocess
 import sys
 import tempfile
@@ -48,6 +50,22 @@ def stored(folder, name):
     return path.read_bytes() if path.is_file() else b""
 
 
+class Help(unittest.TestCase):
+    def test_each_script_tells_its_usage_and_does_nothing_else(self):
+        scripts = sorted(path for path in TOOLS.iterdir() if path.is_file() and os.access(path, os.X_OK))
+        self.assertIn("count_mapper.sh", [path.name for path in scripts])
+        for script in scripts:
+            for word in ("-h", "--help"):
+                with self.subTest(script=script.name, word=word), tempfile.TemporaryDirectory(prefix="help-") as room:
+                    before = sorted(TOOLS.iterdir())
+                    env = {**os.environ, "TMPDIR": room, "PYTHONDONTWRITEBYTECODE": "1"}
+                    status, said, why = ran(script, word, folder=room, env=env)
+                    self.assertEqual((status, why), (0, ""))
+                    self.assertRegex(said.decode(), rf"(?m)^usage: .*{script.name}")
+                    self.assertEqual(list(Path(room).iterdir()), [])
+                    self.assertEqual(sorted(TOOLS.iterdir()), before)
+
+
 class Begin(unittest.TestCase):
     def setUp(self):
         room = tempfile.TemporaryDirectory(prefix="users-")
@@ -80,6 +98,22 @@ class Begin(unittest.TestCase):
         ):
             self.assertEqual(ran(TOOLS / "begin.py", kind, self.room / kind)[0], 0)
             self.assertEqual({path.name for path in (self.room / kind / "crates").iterdir()}, crates, kind)
+
+    def test_crates_are_begun_with_those_that_they_stand_on(self):
+        folder = self.room / "own"
+        status, said, _ = ran(TOOLS / "begin.py", "--crates", "named_set,interner_table", folder)
+        self.assertEqual((status, said.decode()), (0, f"{folder} has text_forms, interner_table, counted_cell, named_set\n"))
+        lines = (folder / "crates.txt").read_text(encoding="utf-8").splitlines()
+        self.assertEqual([line.partition(":")[0].split()[0] for line in lines], ["text_forms", "interner_table", "counted_cell", "named_set"])
+        self.assertEqual({path.name for path in (folder / "crates").iterdir()}, {"text_forms", "interner_table", "counted_cell", "named_set"})
+        self.assertEqual((folder / "HANDLES").read_text(encoding="utf-8"), "Handles allowed: Threads, Wait.\n")
+        self.assertEqual(ran(TOOLS / "begin.py", "--crates", "interner_table", self.room / "one")[0], 0)
+        self.assertEqual((self.room / "one" / "HANDLES").read_text(encoding="utf-8"), "Handles allowed: none.\n")
+
+    def test_crates_without_a_name_here_are_refused(self):
+        for words in (["--crates", "nothing"], ["--crates", "named_set,"], [], ["table", "--crates", "named_set"]):
+            self.assertNotEqual(ran(TOOLS / "begin.py", *words, self.room / "none")[0], 0, words)
+            self.assertFalse((self.room / "none").exists())
 
     def test_what_is_there_stays(self):
         own = self.room / "mine"

@@ -6,7 +6,10 @@ commands. What serves the tests of this repository alone, as wrong bodies, isn't
 - named:  the same with sets that have a name, and `example_hello_named`, whose two threads are given one word for one text
 - table:  tables for one thread, and `example_scopes`, which counts the names of a program in C, block by block
 
+With --crates it takes the crates of these names, parted by commas, those that they stand on, and no example.
+
 usage: tools/begin.py set|named|table FOLDER     FOLDER is new, or empty
+       tools/begin.py --crates NAME[,NAME..] FOLDER
 """
 
 import argparse
@@ -22,11 +25,14 @@ KINDS = {
     "named": ("example_hello_named", "Threads, Wait.", "has two threads intern one word in a set with a name, and prints that it is one word"),
     "table": ("example_scopes", "none.", "counts the names of a program in C with a table, block by block"),
 }
-PAGE = """# A repository over interned strings
+HEAD = """# A repository over interned strings
 
-`crates/{example}` {does}.
+"""
+WITH_EXAMPLE = """`crates/{example}` {does}.
 
-Change its `src/main.rt`, or begin a crate beside it: a folder in `crates`, and a line in `crates.txt` with its name, how many of its functions may
+Change its `src/main.rt`, or begin a crate beside it: """
+BEGIN_ONE = "Begin a crate beside those that are here: "
+HOW = """a folder in `crates`, and a line in `crates.txt` with its name, how many of its functions may
 wait (`may_wait=N`), and the crates that it uses. `HANDLES` says what all crates may use of threads and locks.
 
 | Command | Where | What it does |
@@ -51,39 +57,63 @@ def copy_crate(name, folder):
             shutil.copy(own, folder / "crates" / name / part)
 
 
-def begin(kind, folder):
-    """Makes the repository of this kind in a new folder, and gives the folder of its example."""
-    example, handles, does = KINDS[kind]
-    listed = crates_listed()
-    crates = stands_on(listed, example)
+def line_of(name):
+    """The line of a crate in crates.txt."""
     lines = (TOP / "crates.txt").read_text(encoding="utf-8").splitlines()
-    own = [line for line in lines if line.split(":")[0].split(" ")[0] in crates]
+    return next(line for line in lines if line.partition(":")[0].split()[:1] == [name])
+
+
+def begin(crates, handles, page, folder):
+    """Makes a repository of these crates in a new folder."""
     folder.mkdir(parents=True, exist_ok=True)
     for name in crates:
         copy_crate(name, folder)
     for name in ("LICENSE-MIT", "LICENSE-APACHE"):
         shutil.copy(TOP / name, folder / name)
-    (folder / "crates.txt").write_text("".join(f"{line}\n" for line in own), encoding="utf-8")
+    (folder / "crates.txt").write_text("".join(f"{line_of(name)}\n" for name in crates), encoding="utf-8")
     (folder / "HANDLES").write_text(f"Handles allowed: {handles}\n", encoding="utf-8")
     (folder / ".gitignore").write_text("out/\n", encoding="utf-8")
-    (folder / "README.md").write_text(PAGE.format(example=example, does=does, stdin=stdin_of(folder / "crates" / example)), encoding="utf-8")
-    return folder / "crates" / example
+    (folder / "README.md").write_text(page, encoding="utf-8")
 
 
-def stdin_of(crate):
-    """What a command line needs behind it so that a program gets the input that is stored with it."""
-    return " < stdin" if (crate / "stdin").is_file() else ""
+def in_order(listed, names):
+    """These crates and those that they stand on, in the order of crates.txt."""
+    wanted = set().union(*(stands_on(listed, name) for name in names))
+    return [name for name in listed if name in wanted]
+
+
+def begin_kind(kind, folder):
+    """Makes the repository of this kind, and says how its example is run."""
+    example, handles, does = KINDS[kind]
+    stdin = " < stdin" if (TOP / "crates" / example / "stdin").is_file() else ""
+    page = (HEAD + WITH_EXAMPLE + HOW).format(example=example, does=does, stdin=stdin)
+    begin(in_order(crates_listed(), [example]), handles, page, folder)
+    return f"cd {folder / 'crates' / example} && rt try{stdin}     runs the example without proofs; rt run proves all first"
+
+
+def begin_crates(names, folder):
+    """Makes a repository of the crates of these names, and says which crates it has."""
+    listed = crates_listed()
+    for name in names:
+        if name not in listed:
+            sys.exit(f"begin: {name} is no crate of crates.txt")
+    crates = in_order(listed, names)
+    handles = "Threads, Wait." if any("may_wait=" in line_of(name) for name in crates) else "none."
+    begin(crates, handles, (HEAD + BEGIN_ONE + HOW).format(example="NAME", stdin=""), folder)
+    return f"{folder} has {', '.join(crates)}"
 
 
 def main():
     parser = argparse.ArgumentParser(description=__doc__, formatter_class=argparse.RawDescriptionHelpFormatter)
-    parser.add_argument("kind", choices=KINDS)
+    parser.add_argument("--crates", metavar="NAME[,NAME..]")
+    parser.add_argument("kind", choices=KINDS, nargs="?")
     parser.add_argument("folder", type=Path)
     given = parser.parse_args()
+    if (given.crates is None) == (given.kind is None):
+        parser.error("either a kind or --crates")
     if given.folder.exists() and (not given.folder.is_dir() or any(given.folder.iterdir())):
         sys.exit(f"begin: {given.folder} isn't empty")
-    example = begin(given.kind, given.folder)
-    print(f"cd {example} && rt try{stdin_of(example)}     runs the example without proofs; rt run proves all first")
+    print(begin_kind(given.kind, given.folder) if given.kind else begin_crates(given.crates.split(","), given.folder))
 
 
 if __name__ == "__main__":

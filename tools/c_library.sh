@@ -26,12 +26,27 @@ part() {
     sed -n "s/^#define SC_VERSION_$1 //p" "$C/string_cache.h"
 }
 
-# How many functions were proved so far, every ten seconds, while the process runs.
+# Ends with a line that says why.
+fault() {
+    echo "c_library: $1" >&2
+    exit 1
+}
+
+# Which crate is being proved, after this many seconds, and how much of it was checked: with several jobs lines `so far: ..` tell that, with one
+# lines `checked ..` do.
+how_far() {
+    awk -v seconds="$1" '
+        /^rt: chose --jobs [0-9]+ for / { crate = " " $NF; far = one = "" }
+        /^so far: [0-9]+ of [0-9]+ functions checked/ { far = $3 " of " $5 " functions checked" }
+        /^checked .*, [0-9]+ of [0-9]+$/ { one = $(NF - 2) " of " $NF " checked" }
+        END { print "c_library: proving" crate ", " seconds " seconds; " (far ? far : one ? one : "nothing checked so far") }
+    ' "$room/said"
+}
+
+# Tells how far the proof is, every ten seconds, while the process runs.
 progress() {
-    local said=''
     while sleep 10 > "$room/alive" 2>&1 && kill -0 "$1" 2> "$room/alive"; do
-        said=$(grep -c '^fn .*: proved$\|^checked ' "$room/said" || true)
-        echo "c_library: proving, ${SECONDS} seconds; ${said} functions so far" >&2
+        how_far "$SECONDS" >&2
     done
 }
 
@@ -46,8 +61,7 @@ prove() {
     { kill -KILL "$shown" && wait "$shown"; } 2> "$room/alive" || true # with no chance to run the trap
     if [[ $status != 0 ]]; then
         tail -n 40 "$room/said" >&2
-        echo "c_library: crates/string_cache_c isn't proved, so no library was built" >&2
-        exit 1
+        fault "crates/string_cache_c isn't proved, so no library was built"
     fi
     grep '^logic=proved ' "$room/said" | tail -n 1
     archive=$top/crates/string_cache_c/out/libstring_cache_c.a
@@ -59,6 +73,12 @@ compile() {
     ${CC:-cc} -std=c11 -Wall -Wextra -Wpedantic -O2 -fPIC -fvisibility=hidden ${CFLAGS:-} -c "$C/$1.c" -o "$room/$1.o"
 }
 
+# Sees that the archive is one.
+see_archive() {
+    [[ -f $archive ]] || fault "there is no archive $archive"
+    ${AR:-ar} t "$archive" > "$room/parts" 2> "$room/ar" || fault "$archive is no archive: $(tail -n 1 "$room/ar")"
+}
+
 # Builds both libraries in the room. The shared one has this name for the loader. The program's own allocator serves it too, and only what
 # string_cache.h declares can be called.
 build() {
@@ -66,10 +86,10 @@ build() {
     compile heap
     cp "$archive" "$room/libstring_cache.a"
     chmod u+w "$room/libstring_cache.a"
-    ${AR:-ar} rs "$room/libstring_cache.a" "$room/string_cache.o" "$room/heap.o" 2> "$room/ar"
+    ${AR:-ar} rs "$room/libstring_cache.a" "$room/string_cache.o" "$room/heap.o" 2> "$room/ar" || fault "$(cat "$room/ar")"
     # shellcheck disable=SC2086
     ${CC:-cc} -shared ${CFLAGS:-} -Wl,-soname,"$1" -Wl,--exclude-libs,ALL -Wl,-z,defs -Wl,--gc-sections \
-        -o "$room/libstring_cache.so" "$room/string_cache.o" "$room/heap.o" "$archive"
+        -o "$room/libstring_cache.so" "$room/string_cache.o" "$room/heap.o" "$archive" || fault "the exports can't be linked from $archive"
 }
 
 # Writes the file by which pkg-config finds the library: where the folders are, as seen from the file.
@@ -163,6 +183,7 @@ archive=${2:-}
 major=$(part MAJOR)
 version=$major.$(part MINOR).$(part PATCH)
 if [[ -n $archive ]]; then
+    see_archive
     echo "c_library: nothing was proved: the archive is $archive"
 else
     prove

@@ -7,22 +7,26 @@ prints exactly what `cat FILE.. | PROGRAM count N` prints, or ends with a status
 
     0  all is counted
     1  the text is one that `atoms count` refuses (its own line is printed), or a piece is missing, unreadable, failed or cut short
-    2  the arguments weren't understood, or GNU parallel isn't here
+    2  the arguments weren't understood, or the program or GNU parallel isn't here
 
 parallel cuts each file at line feeds into pieces of about --block bytes (--pipepart), sends each piece to a machine that has room, and
-keeps a log. A job tells how many bytes it read, and how many it wrote: what is merged has to be whole, and all pieces together have to be
-as long as the files. A file whose last line has no line feed goes on in the next one, as under `cat`; such files are put together in a
-copy first.
+keeps a log. A job tells how many bytes it read and wrote, and a sum of what it wrote: what is merged has to be whole and as the job left
+it, and all pieces together have to be as long as the files. A file whose last line has no line feed goes on in the next one, as under
+`cat`; such files are put together in a copy first.
 
 What failed is tried again in a further run, without the machines whose line broke. With --keep the folder keeps the results and the log
 of each run, and --resume counts only what is missing there. A further run cuts the same files into the same pieces, and a job whose piece
 is there already ends at once. (parallel's own --retries and --resume are of no use here: with --pipepart, as of version 20221122, a job
 that is tried again gets another piece, and its own is lost.)
 
-The program has to be at the same path on each machine. MACHINE is as parallel has it: `host`, `4/user@host`, `:` for this one.
+`tools/try_atoms.py bin` builds the program, unproved, for --atoms bin/atoms; `rt run -- check < /dev/null`, in crates/atoms, proves it and
+leaves it where it is looked for if --atoms isn't given. It has to be at the same path on each machine. No path of it, or of FOLDER, may have
+braces. MACHINE is as parallel has it: `host`, `4/user@host`, `:` for this one.
 """
 
 import argparse
+import functools
+import hashlib
 import json
 import os
 import re
@@ -39,8 +43,12 @@ import merge_counts
 TOP = Path(__file__).resolve().parent.parent
 COPY = 1 << 20  # bytes that are copied at a time
 
+NOTE = "plan.json"  # of a folder: what its pieces are of
+BRACES = re.compile(r"\{.*\}", re.DOTALL)  # what parallel may put something else in the place of
+
 # What a job does with its piece, which comes on standard input: on standard output the counts, and as the last line on standard error
-# `end READ WROTE`, both in bytes, or `refused` for a piece that isn't UTF-8, which no second try mends.
+# `end READ WROTE SUM`, or `refused` for a piece that isn't UTF-8, which no second try mends. The first two are in bytes; the sum is of the counts,
+# behind a line that has the mark of the text and the number of the piece.
 JOB = """
 case " DONE " in *" $PIECE "*) exit 0;; esac
 room=$(mktemp -d) || exit 3
@@ -48,7 +56,8 @@ trap 'rm -rf "$room"' EXIT
 cat > "$room/piece" || exit 3
 if ATOMS count WORKERS < "$room/piece" > "$room/counts" 2> "$room/fault"; then
     cat "$room/counts" || exit 3
-    echo "end $(($(wc -c < "$room/piece"))) $(($(wc -c < "$room/counts")))" >&2
+    sum=$( (echo "MARK $PIECE" && cat "$room/counts") | sha256sum | cut -c 1-64)
+    echo "end $(($(wc -c < "$room/piece"))) $(($(wc -c < "$room/counts"))) $sum" >&2
 else
     status=$?
     cat "$room/fault" >&2
@@ -66,9 +75,10 @@ class Failed(Exception):
 
 @dataclass
 class Piece:
-    """What a run left of the piece of this number: its counts, and what its job said."""
+    """What a run left of the piece of this number of the text with this mark: its counts, and what its job said."""
 
     number: int
+    mark: str
     counts: Path
 
     def said(self):
@@ -76,14 +86,28 @@ class Piece:
         return said.read_text(encoding="utf-8", errors="replace").splitlines() if said.is_file() else []
 
     def read(self):
-        """How many bytes of text the job read, where its counts are whole; else None."""
+        """How many bytes of text the job read, if its counts are whole, and as it left them; else None."""
         said = self.said()
-        end = re.fullmatch(r"end ([1-9]\d*) (\d+)", said[-1]) if said else None
-        whole = end and self.counts.is_file() and self.counts.stat().st_size == int(end[2])
+        end = re.fullmatch(r"end ([1-9]\d*) (\d+) ([0-9a-f]{64})", said[-1]) if said else None
+        whole = end and self.counts.is_file() and self.counts.stat().st_size == int(end[2]) and self.sum() == end[3]
         return int(end[1]) if whole else None
+
+    def sum(self):
+        """The sum that the job told of, over the counts that are there now."""
+        return sum_of(f"{self.mark} {self.number}\n", self.counts, self.counts.stat().st_mtime_ns)
 
     def is_refused(self):
         return self.said()[-1:] == ["refused"]
+
+
+@functools.lru_cache(maxsize=None)
+def sum_of(head, path, _):
+    """The sum of a line and a file behind it, reckoned once for each time at which the file was written."""
+    found = hashlib.sha256(head.encode())
+    with open(path, "rb") as file:
+        while part := file.read(COPY):
+            found.update(part)
+    return found.hexdigest()
 
 
 def ends_a_line(path):
@@ -118,24 +142,30 @@ def plan_of(given):
     return {"files": [list(stat) for stat in stats], "block": given.block}
 
 
+def mark_of(folder):
+    """What tells the pieces of the folder's text from those of another one, or of one that was cut otherwise."""
+    return hashlib.sha256((folder / NOTE).read_bytes()).hexdigest()[:16]
+
+
 def pieces_in(folder):
-    """The pieces that the runs in the folder left, whole ones first where a piece was tried in several runs."""
-    found = {}
+    """The pieces that the runs in the folder left: if a piece was tried in several runs, a whole one."""
+    found, mark = {}, mark_of(folder)
     for counts in sorted(folder.glob("run.*/*.counts")):
-        piece = Piece(int(counts.name.partition(".")[0]), counts)
+        piece = Piece(int(counts.name.partition(".")[0]), mark, counts)
         if piece.number not in found or found[piece.number].read() is None:
             found[piece.number] = piece
     return [found[number] for number in sorted(found)]
 
 
-def job(given, done):
+def job(given, folder, done):
     words = {
         "DONE": " ".join(map(str, done)),
-        "ATOMS": shlex.quote(os.fspath(given.atoms)),
+        "MARK": mark_of(folder),
+        "ATOMS": shlex.quote(given.atoms),
         "WORKERS": str(given.workers),
         "NOT_TEXT": NOT_TEXT,
     }
-    script = re.sub(r"\b(DONE|ATOMS|WORKERS|NOT_TEXT)\b", lambda found: words[found[1]], JOB)
+    script = re.sub(r"\b(DONE|MARK|ATOMS|WORKERS|NOT_TEXT)\b", lambda found: words[found[1]], JOB)
     return f"env PIECE={{#}} sh -c {shlex.quote(script)}"
 
 
@@ -151,8 +181,13 @@ def run_parallel(given, texts, folder, machines):
     command += [word for machine in machines for word in ("--sshlogin", machine)]
     command += [word for text in texts for word in ("-a", os.fspath(text))]
     said = None if sys.stderr.isatty() else subprocess.DEVNULL  # what a job says lies in the folder
-    subprocess.run([*command, job(given, done)], stdin=subprocess.DEVNULL, stdout=subprocess.DEVNULL, stderr=said)
+    subprocess.run([*command, job(given, folder, done)], stdin=subprocess.DEVNULL, stdout=subprocess.DEVNULL, stderr=said)
     return run
+
+
+def host_of(machine):
+    """The machine without the number of jobs that may stand before it."""
+    return re.sub(r"^\d+/", "", machine)
 
 
 def answering(machines, run):
@@ -160,7 +195,7 @@ def answering(machines, run):
     with open(run / "joblog", encoding="utf-8", errors="replace") as log:
         jobs = [line.split("\t") for line in log][1:]
     broken = {job[1] for job in jobs if len(job) > 6 and job[6] == BROKEN_LINE}
-    return [machine for machine in machines if re.sub(r"^\d+/", "", machine) not in broken] or machines
+    return [machine for machine in machines if host_of(machine) not in broken] or machines
 
 
 def is_settled(pieces, size):
@@ -186,6 +221,7 @@ def see_whole(pieces, size):
             raise Failed(NOT_TEXT)
         if piece.read() is None:
             why = " ".join(piece.said()[-1:]) or "it left no word"
+            why = "its counts aren't what its job told of" if why.startswith("end ") else why
             raise Failed(f"count_many: piece {piece.number} wasn't counted: {why}")
     read = sum(piece.read() for piece in pieces)
     if read != size:
@@ -194,7 +230,7 @@ def see_whole(pieces, size):
 
 def begin(folder, plan, resume):
     """Notes what the folder's runs are of; a run that goes on has to be of the same."""
-    note = folder / "plan.json"
+    note = folder / NOTE
     if resume:
         if not note.is_file():
             raise Failed(f"count_many: there is nothing to go on with in {folder}")
@@ -221,9 +257,22 @@ def count(given, folder, out):
     merge_counts.merge([piece.counts for piece in pieces], out)
 
 
+def wrong_program(given):
+    """Why no run can begin: parallel isn't here, or the program on this machine, or parallel would change a path. None if one can."""
+    for path in (given.atoms, os.fspath(given.keep or tempfile.gettempdir())):
+        if BRACES.search(path):
+            return f"{path} has braces, in whose place parallel would put something else"
+    if not shutil.which("parallel"):
+        return "GNU parallel isn't here"
+    counts_here = not given.sshlogin or ":" in map(host_of, given.sshlogin)
+    if counts_here and not shutil.which(given.atoms):
+        return f"there is no program {given.atoms}: `tools/try_atoms.py bin` builds one, for --atoms bin/atoms"
+    return None
+
+
 def arguments():
     parser = argparse.ArgumentParser(description=__doc__, formatter_class=argparse.RawDescriptionHelpFormatter)
-    parser.add_argument("--atoms", type=Path, default=TOP / "crates/atoms/out/atoms", metavar="PROGRAM")
+    parser.add_argument("--atoms", default=os.fspath(TOP / "crates/atoms/out/atoms"), metavar="PROGRAM")
     parser.add_argument("--workers", type=int, default=1, metavar="N", help="of each job, 1 to 64 (1)")
     parser.add_argument("--block", default="64M", metavar="SIZE", help="of a piece, as parallel has it (64M)")
     parser.add_argument("--jobs", metavar="N", help="on each machine, as parallel has it (one a processor)")
@@ -237,8 +286,8 @@ def arguments():
         parser.error("--workers is from 1 to 64")
     if given.resume and not given.keep:
         parser.error("--resume goes on with the results in --keep FOLDER")
-    if not shutil.which("parallel"):
-        parser.error("GNU parallel isn't here")
+    if why := wrong_program(given):
+        parser.error(why)
     return given
 
 

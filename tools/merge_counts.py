@@ -8,8 +8,8 @@
 Each file is in the order of its words' bytes already, so `sort -m` puts them together in one pass, in memory for the number of files
 and not for that of the words, and the numbers of equal words are added up on the way.
 
-The status is 0 where all was merged. It is 1, with a line on standard error, where a file or the input can't be read, was cut off in a
-line, has a line that isn't a number and a word, or isn't in order, and where the output can't be written; what was printed until then is
+The status is 0 if all was merged. It is 1, with a line on standard error, if a file or the input can't be read, was cut off in a
+line, has a line that isn't a number and a word, or isn't in order, and if the output can't be written; what was printed until then is
 to be thrown away. A file that was cut off between two lines can't be told from a whole one: tools/count_many.py knows how long each is.
 """
 
@@ -21,6 +21,7 @@ import sys
 from pathlib import Path
 
 BUFFER = 1 << 20
+MOST_DIGITS = 100  # of a number: one that `atoms count` prints has 20 at most, and sums of such have few more
 
 
 class BadCounts(Exception):
@@ -58,6 +59,8 @@ def added(lines, parts):
         word, number = parts(line)
         if not (word and number.isdigit()):
             raise BadCounts(f"no line of a word and its number: {line[:80]!r}")
+        if len(number) > MOST_DIGITS:
+            raise BadCounts(f"a number of {len(number)} digits, which nothing counts up to: {word[:80]!r} has it")
         if word == last:
             total += int(number)
         elif word > last:

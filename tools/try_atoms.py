@@ -5,6 +5,7 @@ once. `rt run`, in crates/atoms, proves it first.
 usage: tools/try_atoms.py FOLDER     then FOLDER/atoms words < TEXT
 """
 
+import argparse
 import subprocess
 import sys
 import tempfile
@@ -17,9 +18,9 @@ LEVEL = "-O1"  # of the optimiser: without it, ten megabytes of words take a min
 
 
 def main():
-    if len(sys.argv) != 2:
-        sys.exit(f"usage: {sys.argv[0]} FOLDER")
-    folder = Path(sys.argv[1])
+    parser = argparse.ArgumentParser(description=__doc__, formatter_class=argparse.RawDescriptionHelpFormatter)
+    parser.add_argument("folder", type=Path, metavar="FOLDER")
+    folder = parser.parse_args().folder
     program = folder / "atoms"
     try:
         folder.mkdir(parents=True, exist_ok=True)
