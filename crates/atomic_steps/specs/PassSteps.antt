@@ -14,7 +14,7 @@ use Rattle.atomic_steps.specs.Runs.{Event, Leads}
 use Rattle.atomic_steps.specs.Theorem.{text_taken, bucket_taken}
 use Rattle.text_forms.specs.Pass.{PassReply, added, full, died, gone, stays, Asked, Outcome, absent, outcome, kept}
 
--- An entry as its bucket's list has it: what of it stays the same.
+-- An entry as its bucket's list has it: the part of it that stays the same.
 pub record Item : Type 0 where
   pub number : ℕ
   pub ticket : ℕ
@@ -29,7 +29,7 @@ list_of w bucket = reverse (map item (filter (λ numbered. is_linked_in bucket n
 
 -- ---- a pass, as the steps that it is
 
--- A step of a pass, and the replies to it that the pass goes on from.
+-- A step of a pass, and the replies to it after which the pass goes on.
 pub record Planned : Type 0 where
   pub does : Step
   pub fits : StepReply → Bool
@@ -60,7 +60,7 @@ abbrev pub is_kept : StepReply → Bool
 is_kept reply.Kept = true
 is_kept r = false
 
--- The steps of entry e, by what was answered of it. One that died to `add` is unlinked next.
+-- The steps of entry e, by what was answered about it. One that `add` found dying is unlinked next.
 abbrev pub steps_of : {S : Type 0} → ℕ → PassReply S → List Planned
 steps_of e (added share) = planned (Add e) is_added ∷ []
 steps_of e full = planned (Add e) is_full ∷ []
@@ -74,7 +74,7 @@ steps_of_all [] replies = []
 steps_of_all (e ∷ entries) [] = []
 steps_of_all (e ∷ entries) (r ∷ replies) = steps_of e.number r ++ steps_of_all entries replies
 
--- How a pass ends: with Link where its text is absent, and always with Leave.
+-- How a pass ends: with Link if its text is absent, and always with Leave.
 abbrev pub end_of : {S : Type 0} → Bool → Option (List ℕ) → Outcome S → List Planned
 end_of room (Some text) absent = planned (Link room) any_reply ∷ planned Leave any_reply ∷ []
 end_of room wanted other = planned Leave any_reply ∷ []
@@ -95,7 +95,7 @@ AsPlanned [] [] = ⊤
 AsPlanned (next ∷ plan) (event ∷ events) = (event.does ≡ next.does) × (next.fits event.reply ≡ true) × AsPlanned plan events
 AsPlanned plan events = ⊥
 
--- the new entry that a reply tells of, linked with the text that is wanted
+-- the new entry that a reply reports, linked with the text that is wanted
 abbrev pub linked_by : Option (List ℕ) → StepReply → List Item
 linked_by (Some text) (reply.Linked number ticket) = record { number = number; ticket = ticket; text = text } ∷ []
 linked_by wanted r = []
@@ -105,14 +105,13 @@ abbrev pub new_by : Option (List ℕ) → List Event → List Item
 new_by wanted [] = []
 new_by wanted (event ∷ events) = new_by wanted events ++ linked_by wanted event.reply
 
--- A party that has just taken the bucket goes over its list as a pass with these replies does, and others' steps stand
--- between.
+-- A party that has just taken the bucket goes over its list as a pass with these replies does, with others' steps in between.
 pub record GoesAsPass {S : Type 0} (t : Tables) (taken : World) (party bucket : ℕ) (wanted : Option (List ℕ)) (replies : List (PassReply S)) (room : Bool) : Type 0 where
   -- Once the first steps of the plan were made, and replied to as planned, the next one is enabled.
   pub enabled : (events : List Event) (w : World) (before after : List Planned) (next : Planned) → Leads t taken events w
       → plan_of room wanted (list_of taken bucket) replies ≡ before ++ next ∷ after → AsPlanned before (own party events) → IsSome (step_if t w party next.does)
-  -- Right after the last one, which is Leave, the bucket's list is the one that the pass leaves: what it kept, in order, and
-  -- in front of it the new entry, where one was linked.
+  -- Right after the last one, which is Leave, the bucket's list is the one that the pass leaves: what it kept, in order, and in front of it the new
+  -- entry, if one was linked.
   pub left : (events : List Event) (last : Event) (w : World) → Leads t taken (events ++ last ∷ []) w → last.party ≡ party
       → AsPlanned (plan_of room wanted (list_of taken bucket) replies) (own party events ++ last ∷ [])
       → list_of w bucket ≡ new_by wanted (own party events ++ last ∷ []) ++ kept (list_of taken bucket) replies

@@ -1,4 +1,4 @@
--- Words of private contracts of steps: where the code finds a party's pass, and an entry, and what stands for the bag.
+-- Terms of the private contracts of steps: where the code finds a party's pass and an entry, and what stands for the bag.
 use Rattle.std.specs.Prelude.{◌≡◌, ◌<◌, ℕ, suc, List, [], ◌∷◌, ◌++◌, length, replicate, Some, slice_get, slice_set}
 use Rattle.std.specs.List.{remove}
 use Rattle.atomic_steps.specs.World.{WorldEntry, PartyPass, World}
@@ -19,7 +19,7 @@ pub record EntryAt (w : World) (number k : ℕ) : Type 0 where
   pub within : k < length w.entries
   pub there : slice_get w.entries k ≡ Some entry
 
--- each entry's ticket, as often as it counts
+-- each entry's ticket, as often as the entry's count says
 abbrev pub held_places : List WorldEntry → List ℕ
 held_places [] = []
 held_places (entry ∷ entries) = replicate entry.count entry.ticket ++ held_places entries

@@ -23,7 +23,7 @@ pub record Event : Type 0 where
   pub does : Step
   pub reply : StepReply
 
--- From old these events lead to new: each reply and each new world is the table's.
+-- These events lead from old to new: each reply and each new world is the table's.
 abbrev pub Leads : Tables → World → List Event → World → Type 0
 Leads t old [] new = new ≡ old
 Leads t old (e ∷ events) new = (mid : World) × IsStep t old e.party e.does e.reply mid × Leads t mid events new
@@ -40,7 +40,7 @@ events_of (s ∷ script) (r ∷ replies) = record { party = s.0; does = s.1; rep
 
 -- ---- reading a run as calls
 
--- of a text the ticket and the holders of its living entry
+-- for a text, the ticket and the holders of its living entry
 unfoldable pub living_at : List WorldEntry → List ℕ → Option Holding
 living_at entries text = option_map (λ entry. record { ticket = entry.ticket; holders = entry.count }) (find (λ entry. is_living entry && bytes_eq entry.text text) entries)
 
@@ -48,11 +48,11 @@ living_at entries text = option_map (λ entry. record { ticket = entry.ticket; h
 abbrev pub live_map : World → InternMap
 live_map w = record { buckets = length w.lasts; held = living_at w.entries; last = last_of w }
 
--- The text that the party is to intern. (It has one at each step that is read so.)
+-- The text that the party is to intern. (It has one at each step that is read this way.)
 abbrev pub wanted_by : World → ℕ → List ℕ
 wanted_by w party = unwrap_or (pass_of w party >>= λ pass. pass.wanted) []
 
--- The ticket of entry e. (There is one at each step that is read so.)
+-- The ticket of entry e. (There is one at each step that is read this way.)
 abbrev pub ticket_at : World → ℕ → ℕ
 ticket_at w e = unwrap_or (option_map (λ entry. entry.ticket) (entry_at w.entries e)) 0
 
@@ -85,7 +85,7 @@ abbrev pub history_of : Tables → World → List Event → List Made
 history_of t w [] = []
 history_of t w (e ∷ events) = call_of w e.party e.does e.reply ++ history_of t (step t w e.party e.does).1 events
 
--- From m the calls, one after another, may be replied to so, and leave new.
+-- From m the calls, one after another, may get these replies and leave new.
 abbrev pub ReplaysHistory : Tables → Bounds → InternMap → List Made → InternMap → Type 0
 ReplaysHistory t limits m [] new = new ≡ m
 ReplaysHistory t limits m (made ∷ calls) new = (mid : InternMap) × MayReply t limits m made.call made.reply mid × ReplaysHistory t limits mid calls new

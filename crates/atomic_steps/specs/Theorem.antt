@@ -29,7 +29,7 @@ pub record Part (t : Tables) (old : World) (events : List Event) (w : World) (pa
   pub came : Leads t old before w
   pub leads : Leads t w part v
 
--- ---- an entry is freed by who unlinked it, without a holder, and never again
+-- ---- an entry is freed by the party that unlinked it, without a holder, and only once
 
 pub record FreesSoundly (w : World) (party e : ℕ) (later : List Event) : Type 0 where
   pub entry : WorldEntry
@@ -111,19 +111,20 @@ OnlyHeldLinked w = (e : ℕ) (entry : WorldEntry) → entry_at w.entries e ≡ S
 
 -- ---- all together
 
+-- the theorem, clause by clause: what holds of a run from the opening world to the world that is left
 pub record IsSoundRun (t : Tables) (old : World) (events : List Event) (new : World) : Type 0 where
   -- Each reply and each new world is the table's.
   pub steps : Leads t old events new
   -- The calls that the replies are read as are those of one map, from the empty map to what the last world shows.
   pub one_map : ReplaysHistory t old.limits (empty_map (length old.lasts)) (history_of t old events) (live_map new)
-  -- No two entries that were ever linked have one ticket, and no two living ones one text.
+  -- No two entries that were ever linked have the same ticket, and no two living ones the same text.
   pub distinct_tickets : (j k : ℕ) (x y : WorldEntry) → entry_at new.entries j ≡ Some x → entry_at new.entries k ≡ Some y → x.ticket ≡ y.ticket → j ≡ k
   pub distinct_texts : (j k : ℕ) (x y : WorldEntry) → entry_at new.entries j ≡ Some x → entry_at new.entries k ≡ Some y → is_living x ≡ true → is_living y ≡ true → x.text ≡ y.text → j ≡ k
-  -- Counts are places in the bag. An entry is freed by who unlinked it and without a holder, and at one place of the run.
+  -- Counts are places in the bag. An entry is freed by the party that unlinked it, without a holder, and at one place of the run.
   pub counts : (e : ℕ) (entry : WorldEntry) → entry_at new.entries e ≡ Some entry → entry.count ≡ times entry.ticket new.bag
   pub frees : (w v : World) (party e : ℕ) (later : List Event) → Part t old events w (event party (Free e) reply.Freed ∷ later) v → FreesSoundly w party e later
   pub freed_once : (i j p q e : ℕ) → slice_get events i ≡ Some (event p (Free e) reply.Freed) → slice_get events j ≡ Some (event q (Free e) reply.Freed) → i ≡ j
-  -- Each party's calls stand in its own order, and a pass interns its text exactly once until it has left, before that at most once.
+  -- Each party's calls are in its own order, and a pass interns its text exactly once by the time it has left, and before that at most once.
   pub in_order : (party : ℕ) → made_by party (history_of t old events) ≡ own_calls t party old events
   pub interns : (w v : World) (party : ℕ) (take : Step) (since : List Event) (text : List ℕ)
       → Part t old events w (event party take reply.Taken ∷ since) v → text_taken take ≡ Some text → Stays party since
@@ -138,12 +139,12 @@ pub record IsSoundRun (t : Tables) (old : World) (events : List Event) (new : Wo
   pub swept : (w v : World) (party : ℕ) (part : List Event) → Part t old events w part v → IsAlone party part
       → ((bucket : ℕ) → bucket < length w.lasts → Sweeps party part bucket) → OnlyHeldLinked v
 
--- From old the steps of the script were made, as many as replies were appended, and new is the world left.
+-- From old, as many steps of the script were made as replies were appended, and new is the world that is left.
 pub record HasRun (t : Tables) (old : World) (script : Script) (before after : List StepReply) (new : World) : Type 0 where
   pub appended : List StepReply
   pub is : after ≡ before ++ appended
   pub one_each : length appended ≤ length script
   pub leads : Leads t old (events_of script appended) new
-  -- Where old is the opening world, or one that steps led to from there: every interleaving is one map's.
+  -- If old is the opening world, or one that steps led to from there: every interleaving is one map's.
   pub sound : (limits : Bounds) (buckets : ℕ) (earlier : List Event) → 0 < buckets → buckets ≤ most_buckets → Leads t (opening limits buckets) earlier old
       → IsSoundRun t (opening limits buckets) (earlier ++ events_of script appended) new

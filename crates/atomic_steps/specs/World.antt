@@ -12,7 +12,7 @@ pub record WorldEntry : Type 0 where
   pub count : ℕ
   pub place : Place
 
--- What a party does that isn't idle: it holds a bucket.
+-- What a party that isn't idle does: it holds a bucket.
 pub record PartyPass : Type 0 where
   pub party : ℕ
   pub bucket : ℕ
@@ -20,6 +20,7 @@ pub record PartyPass : Type 0 where
   pub dying : List ℕ  -- the entries that it found dying
   pub looked : List ℕ  -- the entries that it looked at or linked
 
+-- the limits, each bucket's last serial, all entries that were ever linked, the passes of parties that aren't idle, and the bag of held tickets
 pub record World : Type 0 where
   pub limits : Bounds
   pub lasts : List ℕ  -- each bucket's last serial: there are as many buckets
@@ -27,7 +28,7 @@ pub record World : Type 0 where
   pub passes : List PartyPass  -- of all parties that aren't idle
   pub bag : List ℕ  -- the held tickets, each as often as it is held
 
--- the entry stands in its bucket's list
+-- the entry is in its bucket's list
 abbrev pub is_linked : Place → Bool
 is_linked place.Linked = true
 is_linked (place.UnlinkedBy party) = false

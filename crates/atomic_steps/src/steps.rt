@@ -45,14 +45,14 @@ pub enum Step {
     Leave,
 }
 
-/// What a step is replied to.
+/// The reply to a step.
 #[derive(Clone, Copy, Debug, PartialEq, Eq)]
 pub enum StepReply {
     /// The step isn't enabled, and nothing changed.
     No,
     /// The party holds the bucket.
     Taken,
-    /// The entry has one holder more: its ticket, and how many hold it now.
+    /// The entry has one more holder: its ticket, and how many hold it now.
     Added {
         /// The entry's ticket.
         ticket: u64,
@@ -74,14 +74,14 @@ pub enum StepReply {
     Spent,
     /// There was no room for a new entry.
     Memory,
-    /// The entry has one holder more.
+    /// The entry has one more holder.
     Cloned {
         /// How many hold it now.
         holders: u64,
     },
-    /// The entry has one holder less.
+    /// The entry has one holder fewer.
     Given {
-        /// How many hold it still.
+        /// How many still hold it.
         left: u64,
     },
     /// The entry left the bucket's list.
@@ -136,7 +136,7 @@ impl<S: StaticTables> World<S> {
         })
     }
 
-    /// Does one step of a party, and tells its reply.
+    /// Makes one step of a party, and returns its reply.
     fn apply(&mut self, party: u32, step: &Step) -> Result<StepReply, Fault>
         ensures ok { IfOk result (λ reply. IsStep S.tables self.old party step.now reply self.new) }
         ensures err { RefusesUnchanged self.old result self.new }
@@ -145,8 +145,8 @@ impl<S: StaticTables> World<S> {
         Ok(reply)
     }
 
-    /// One step of a party: its reply. An `Err` is a refusal of the memory that the world itself grows by, and changes
-    /// nothing.
+    /// Makes one step of a party, and returns its reply. An `Err` is a refusal of the memory that the world itself needs to grow; then nothing has
+    /// changed.
     pub fn step(&mut self, party: u32, step: Step) -> Result<StepReply, Fault>
         ensures ok { IfOk result (λ reply. IsStep S.tables self.old party step reply self.new) }
         ensures err { RefusesUnchanged self.old result self.new }
@@ -154,8 +154,8 @@ impl<S: StaticTables> World<S> {
         self.apply(party, &step)
     }
 
-    /// Makes the steps in order, and appends each reply. After an `Err`, for want of memory, the world stands after the
-    /// steps whose replies were appended.
+    /// Makes the steps in order, and appends each reply. After an `Err`, for lack of memory, the world is as it was after the steps whose replies
+    /// were appended.
     pub fn run(&mut self, steps: &[(u32, Step)], out: &mut Vec<StepReply>) -> Result<(), Fault>
         ensures done { HasRun S.tables self.old steps.now out.old.items out.new.items self.new }
         ensures all { OnOk result (length out.new.items ≡ length out.old.items + length steps.now) }
@@ -170,7 +170,7 @@ impl<S: StaticTables> World<S> {
         Ok(())
     }
 
-    /// How many hold the entry, 0 once it is unlinked or freed. `None` where no entry has the number.
+    /// How many hold the entry: 0 once it is unlinked or freed. `None` if no entry has the number.
     pub fn count(&self, entry: u64) -> Option<u64>
         ensures value { result ≡ option_map (λ entry. entry.count) (entry_at self.now.entries entry) }
         ensures unlinked { (gone : world.WorldEntry) → entry_at self.now.entries entry ≡ Some gone → is_linked gone.place ≡ false → result ≡ Some 0 }
@@ -179,8 +179,8 @@ impl<S: StaticTables> World<S> {
     }
 }
 
-/// Does nothing. Its contract is that any pass over a bucket's list is steps that are all enabled, and that the list which
-/// they leave is the one that the pass leaves. `S` is what a pass may find, a share: any type.
+/// Does nothing. Its contract is that any pass over a bucket's list is a sequence of steps that are all enabled, and that the list which they leave
+/// is the one that the pass leaves. `S` is what a pass may find, a share: any type.
 pub fn pass_is_steps<S>()
     ensures { PassIsSteps S }
 {}

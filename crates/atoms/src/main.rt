@@ -1,5 +1,4 @@
-//! Words of the standard input: listed with how often each came before, or counted by several workers; scripts of steps; and static
-//! tables.
+//! Words of the standard input, listed with how often each occurred before or counted by several workers; scripts of steps; and static tables.
 #![tactic(auto)]
 
 use commands::program::{arguments, random_keys, run};

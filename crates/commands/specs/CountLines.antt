@@ -8,7 +8,7 @@ use Rattle.word_counts.specs.Words.{words}
 abbrev pub count_line : List ℕ × ℕ → List ℕ
 count_line pair = decimal pair.1 ++ (codes " " ++ (pair.0 ++ codes "\n"))
 
--- what `count` writes of a text
+-- what `count` writes of a text: a line for each distinct word
 abbrev pub count_lines : List ℕ → List ℕ
 count_lines text = flat_map count_line (word_counts (words text))
 

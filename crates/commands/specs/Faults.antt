@@ -1,4 +1,4 @@
--- Which faults of the commands may come, and when.
+-- Which faults the commands may return, and when.
 use Rattle.std.specs.Prelude.{◌≢◌}
 use Rattle.string_cache.specs.Faults.{IsInternFault}
 use Rattle.table_generator.specs.declared.tables.GenFault.{GenFault}
@@ -6,15 +6,15 @@ use Rattle.text_streams.specs.declared.faults.AppFault.{AppFault}
 use Rattle.text_streams.specs.declared.faults.AppFault.TheVariants.{Write}
 use Rattle.text_streams.specs.Faults.{IsOf, memory, streams}
 
--- once all is read and before anything is written: want of memory, or a fault of the tables of which P holds
+-- once all is read and before anything is written: lack of memory, or a fault of the tables of which P holds
 abbrev pub IsMakingFault : (GenFault → Type 0) → AppFault → Type 0
 IsMakingFault P fault = IsOf (record memory { tables = P }) fault
 
--- from the words of a text at all
+-- from the words of a text at any point
 abbrev pub IsWordsFault : AppFault → Type 0
 IsWordsFault fault = IsOf (record streams { interns = IsInternFault }) fault
 
--- from a script at all
+-- from a script at any point
 abbrev pub IsReplayFault : AppFault → Type 0
 IsReplayFault fault = IsOf (record streams { scripts = Unit {0} }) fault
 
@@ -34,7 +34,7 @@ IsWritingFault fault = IsOf (record memory { writes = Unit {0}; interns = IsInte
 abbrev pub IsUnwrittenFault : AppFault → Type 0
 IsUnwrittenFault fault = IsOf (record memory { reads = Unit {0}; texts = Unit {0}; scripts = Unit {0}; interns = λ fault. ⊥ }) fault
 
--- of anything but a write
+-- from anything but a write
 abbrev pub IsNotWrite : AppFault → Type 0
 IsNotWrite fault = fault ≢ Write
 

@@ -1,4 +1,4 @@
--- What the program writes and answers, by its arguments.
+-- What the program writes and returns, by its arguments.
 use Rattle.std.specs.Prelude.{◌≡◌, ℕ, ◌≤◌, List, Option, Result, String, IfSome, OnOk, OnErr}
 use Rattle.std.specs.Str.{IsUtf8}
 use Rattle.string_cache.specs.Tables.{empty_tables}
@@ -29,22 +29,22 @@ NeedsKeys (Generate key bound) = ⊥
 NeedsKeys Check = ⊥
 
 module _ {S K : Type 0}
-    (remaining : S → Option (List ℕ))  -- the bytes that reads give from here on, where they are known
-    (contents : K → Option (List ℕ)) where  -- the bytes that the writer holds, where they are known
-  -- What a command's result says of the output that it is to make of the input: one was written, or after a fault at most a beginning of one.
+    (remaining : S → Option (List ℕ))  -- the bytes that reads give from here on, if they are known
+    (contents : K → Option (List ℕ)) where  -- the bytes that the writer holds, if they are known
+  -- What a command's result says about the output that it is to make of the input: one was written, or after a fault at most a beginning of one.
   pub record Yields {T : Type 0} (IsOutput : List ℕ → List ℕ → Type 0) (input : S) (output output' : K) (result : Result T AppFault) : Type 0 where
     pub utf8 : OnOk result (IfSome (remaining input) IsUtf8)
     pub all : OnOk result (IfSome (remaining input) (λ bytes. Writes (IsOutput bytes) (contents output) (contents output')))
     pub beginning : OnErr result (IfSome (remaining input) (λ bytes. Begins (IsOutput bytes) (contents output) (contents output')))
 
-  -- What a command's status says of the output that it is to make of the input: 0, that one was written; 1, that at most a beginning of one was; and
-  -- it is no other.
+  -- What a command's status says about the output that it is to make of the input: 0, that one was written; 1, that at most a beginning of one was.
+  -- There is no other status.
   pub record Makes (IsOutput : List ℕ → List ℕ → Type 0) (input : S) (output output' : K) (status : ℕ) : Type 0 where
     pub all : status ≡ 0 → IfSome (remaining input) (λ bytes. Writes (IsOutput bytes) (contents output) (contents output'))
     pub beginning : status ≡ 1 → IfSome (remaining input) (λ bytes. Begins (IsOutput bytes) (contents output) (contents output'))
     pub no_other : status ≤ 1
 
-  -- The status is that of the command that the arguments ask for. It is 2 where they ask for none, and nothing was read or written.
+  -- The status is that of the command that the arguments ask for. It is 2 if they ask for none, and nothing was read or written.
   pub record Runs {Y : Type 0} (args : List (String Y)) (input input' : S) (output output' : K) (status : ℕ) : Type 0 where
     pub utf8 : status ≡ 0 → IfSome (remaining input) IsUtf8
     pub words : AreWords args → Makes AreWordLines input output output' status

@@ -2,7 +2,7 @@
 use Rattle.std.specs.Prelude.{◌≡◌, ℕ, List, [], ◌∷◌, ◌++◌, nat_lt, codes, decimal, if◌then◌else◌}
 use Rattle.word_counts.specs.Words.{times_seen, words}
 
--- the line of a word with n equal words before it
+-- the line of a word with n equal words before it: `Seen the word "w" n times`, or `Not seen the word "w" before`
 abbrev pub seen_line : List ℕ → ℕ → List ℕ
 seen_line word n = if nat_lt 0 n then codes "Seen the word \"" ++ (word ++ (codes "\" " ++ (decimal n ++ codes " times\n")))
     else codes "Not seen the word \"" ++ (word ++ codes "\" before\n")

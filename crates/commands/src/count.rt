@@ -49,7 +49,7 @@ fn write_lines<Static: StaticTables, K: Sink>(
     write_whole(writer, pending.as_bytes())
 }
 
-/// Lets the atoms go, where they are many, in at most `threads` threads: each is the last of its text, and so asks its bucket.
+/// Lets the atoms go, in at most `threads` threads if they are many: each is the last of its text, and so asks its bucket.
 fn let_go<R: Threads + Sync, Static: StaticTables + Send + Sync>(
     rt: &R,
     counts: &mut [(Atom<'_, Static>, u64)],
@@ -68,7 +68,7 @@ fn let_go<R: Threads + Sync, Static: StaticTables + Send + Sync>(
     );
 }
 
-/// Writes a line for each word, in order, and lets the atoms go, where they are many, in at most `threads` threads.
+/// Writes a line for each word, in order, and lets the atoms go, in at most `threads` threads if they are many.
 fn write_all<R: Threads + Sync, Static: StaticTables + Send + Sync, K: Sink>(
     rt: &R,
     alloc: Global,
@@ -88,8 +88,8 @@ fn write_all<R: Threads + Sync, Static: StaticTables + Send + Sync, K: Sink>(
     outcome
 }
 
-/// Counts the words of the text by `n` workers, and writes a line for each distinct one. They are interned in a set of this
-/// call's own, whose number of buckets fits the text.
+/// Counts the words of the text by `n` workers, and writes a line for each distinct one. They are interned in this call's own set, whose number of
+/// buckets fits the text.
 fn write_counts<R: Threads + Wait + Sync, K: Sink>(
     rt: &R,
     alloc: Global,
@@ -112,12 +112,12 @@ fn write_counts<R: Threads + Wait + Sync, K: Sink>(
     write_all(rt, alloc, &mut counts, n, writer)
 }
 
-/// Reads all, counts its words by `n` workers, and writes a line for each distinct one. They are interned in a set of this
-/// call's own, whose number of buckets fits the input. While they are counted, words are hashed under these keys, on which nothing depends
-/// but the time it takes: under random ones nobody can choose words that collide there.
+/// Reads all the input, counts its words by `n` workers, and writes a line for each distinct one. They are interned in this call's own set, whose
+/// number of buckets fits the input. While they are counted, words are hashed under these keys, which affect only the time that it takes: under
+/// random ones nobody can choose words that collide there.
 ///
-/// `Read` and `Text`, input that isn't UTF-8, come before anything is written, and so does `Intern(Memory)` while the
-/// input is read. After another fault a beginning of the lines is written.
+/// `Read` and `Text` (the input isn't UTF-8) are returned before anything is written, and so is `Intern(Memory)` while the input is read. After
+/// another fault, a beginning of the lines may have been written.
 pub fn count_command<R: Threads + Wait + Sync, S: Source, K: Sink>(
     rt: &R,
     alloc: Global,

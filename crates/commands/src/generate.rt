@@ -16,7 +16,7 @@ pub use table_generator::tables::{GenFault, Tables};
 use text_streams::faults::AppFault;
 use text_streams::streams::{Sink, Source, read_text, write_whole};
 
-/// The lines of a text, of which the last may lack its line feed.
+/// The lines of a text, the last of which may lack its line feed.
 fn lines_in(alloc: Global, text: &str) -> Result<Vec<&str>, AllocError>
     ensures { IfOk result (λ list. texts_of list.items ≡ script_lines text.now) }
 {
@@ -39,10 +39,10 @@ fn output_of(alloc: Global, key: u64, bound: u32, text: &str) -> Result<String, 
     Ok(format!(in alloc; "{tables}")?)
 }
 
-/// Reads one text a line, and writes the printed form of tables of them: a key, displacements below the bound, and the texts.
+/// Reads texts, one per line, and writes the printed form of tables of them: the key, displacements below the bound, and the texts.
 ///
-/// `Read`, `Text`, input that isn't UTF-8, `Intern(Memory)` and `Gen` come before anything is written. After `Write` a beginning
-/// of the tables is.
+/// `Read`, `Text` (the input isn't UTF-8), `Intern(Memory)` and `Gen` are returned before anything is written. After `Write`, a beginning of the
+/// tables may have been written.
 pub fn generate_command<S: Source, K: Sink>(
     alloc: Global,
     key: u64,
@@ -76,8 +76,8 @@ fn answer_of(alloc: Global, text: &str) -> Result<&'static str, AppFault>
 
 /// Reads a table text, and writes `yes` or `no`.
 ///
-/// `Read`, `Text`, input that isn't UTF-8, and `Intern(Memory)` come before anything is written. After `Write` a beginning of the
-/// answer is.
+/// `Read`, `Text` (the input isn't UTF-8) and `Intern(Memory)` are returned before anything is written. After `Write`, a beginning of the answer may
+/// have been written.
 pub fn check_command<S: Source, K: Sink>(
     alloc: Global,
     reader: &mut S,

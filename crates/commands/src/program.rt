@@ -1,4 +1,4 @@
-//! All that the program does, over any reader and writers.
+//! Everything the program does, over any reader and writers.
 
 ghost use Rattle.std.specs.Prelude.{◌≡◌, ◌≢◌, ℕ, ◌≤◌, codes, false, IfOk, IfSome, IsErr, IfErr, MatchOption, MatchResult, OnOk, OnErr};
 ghost use Rattle.commands.specs.Commands.{AreCheck, AreCount, AreGenerate, AreWords, AreReplay, IsRequest, IsWorkers, NeedKeys};
@@ -24,7 +24,7 @@ use text_streams::streams::{Sink, Source, write_whole};
 
 const USAGE: &str = "usage: atoms words | count N | replay | generate KEY BOUND | check\n";
 
-/// The arguments without the program's name. `None` where one isn't UTF-8, and `Intern(Memory)` where they found no room.
+/// The arguments without the program's name. `None` if one isn't UTF-8, and `Intern(Memory)` if there is no room for them.
 pub fn arguments(rt: &(impl Env + AllocGlobal)) -> Result<Option<Vec<String>>, AppFault>
     ensures { IfErr result (λ fault. fault ≡ AppFault.Intern Fault.Memory) }
 {
@@ -62,7 +62,7 @@ enum Command {
 /// The most workers that count.
 const MOST_WORKERS: u64 = 64;
 
-/// The number of workers that a text spells. `None` where it spells none from 1 to 64.
+/// The number of workers that a text spells. `None` if it spells none from 1 to 64.
 fn workers_of(text: &str) -> Option<u32>
     ensures { MatchOption result ((n : ℕ) → ¬ (IsWorkers text.now n))
         (λ n. IsWorkers text.now n × ((m : ℕ) → IsWorkers text.now m → m ≡ n)) }
@@ -76,7 +76,7 @@ fn workers_of(text: &str) -> Option<u32>
     Some(n as u32)
 }
 
-/// The key and the bound that two texts spell. `None` where they spell none.
+/// The key and the bound that two texts spell. `None` if they spell none.
 fn request_of(key: &str, bound: &str) -> Option<(u64, u32)>
     ensures { MatchOption result ((k b : ℕ) → IsRequest key.now bound.now k b → ⊥)
         (λ found. IsRequest key.now bound.now found.0 found.1
@@ -137,7 +137,7 @@ fn making(word: &str, key: &str, bound: &str) -> Option<Command>
     Some(Command::Generate(key, bound))
 }
 
-/// `None` where the arguments aren't those of a command.
+/// `None` if the arguments aren't those of a command.
 fn command_of(args: &[String]) -> Option<Command>
     ensures words { AreWords args.now → result ≡ Some Command.Words }
     ensures count { (n : ℕ) → AreCount args.now n → result ≡ Some (Command.Count n) }
@@ -156,7 +156,7 @@ fn command_of(args: &[String]) -> Option<Command>
     }
 }
 
-/// Prints to a sink, without memory.
+/// Prints to a sink, without taking memory.
 #[derive(Drop)]
 struct Printer<'a, K: Sink> {
     sink: &'a mut K,
@@ -174,7 +174,7 @@ impl<K: Sink> fmt::Write for Printer<'_, K> {
     }
 }
 
-/// Writes a fault's line, and answers the exit status 1. A failure to write it changes nothing.
+/// Writes a fault's line, and returns the exit status 1. A failure to write it changes nothing.
 pub fn refuse<F: Sink>(faults: &mut F, fault: AppFault) -> u8
     ensures { result ≡ 1 }
 {
@@ -183,7 +183,7 @@ pub fn refuse<F: Sink>(faults: &mut F, fault: AppFault) -> u8
     1
 }
 
-/// Writes the usage line, and answers the exit status 2. A failure to write it changes nothing.
+/// Writes the usage line, and returns the exit status 2. A failure to write it changes nothing.
 pub fn usage<F: Sink>(faults: &mut F) -> u8
     ensures { result ≡ 2 }
 {
@@ -192,7 +192,7 @@ pub fn usage<F: Sink>(faults: &mut F) -> u8
     2
 }
 
-/// Carries a command out. `Keys` comes if it needs keys and there are none, before anything is read or written.
+/// Carries out a command. `Keys` if it needs keys and there are none, before anything is read or written.
 fn carry_out<R: Threads + Wait + Sync, S: Source, K: Sink>(
     rt: &R,
     alloc: Global,
@@ -233,9 +233,9 @@ fn status_of<F: Sink>(faults: &mut F, outcome: Result<(), AppFault>) -> u8
     }
 }
 
-/// Runs the command that the arguments, without the program's name, ask for, and answers the exit status: 0, or 1 after
-/// a fault's line, or 2 after the usage line, where nothing was read or written. `words` and `count` need keys, under which they hash words;
-/// without them they are refused before anything is read. What is written doesn't depend on the keys.
+/// Runs the command that the arguments, without the program's name, ask for, and returns the exit status: 0, or 1 after a fault's line, or 2 after
+/// the usage line, and then nothing was read or written. `words` and `count` need keys, under which they hash words; without keys they are refused
+/// before anything is read. What is written doesn't depend on the keys.
 pub fn program<R: Threads + Wait + Sync, S: Source, K: Sink, F: Sink>(
     rt: &R,
     alloc: Global,
@@ -258,8 +258,8 @@ pub fn program<R: Threads + Wait + Sync, S: Source, K: Sink, F: Sink>(
     status_of(faults, outcome)
 }
 
-/// All that main does once its arguments are read, with the exit status as its answer: it runs the program on them, and
-/// where they aren't UTF-8 it writes the usage line. That they found no room is a fault. `keys` are what `random_keys` gave.
+/// Everything main does once its arguments are read; returns the exit status. It runs the program on them, and if they aren't UTF-8 it writes the
+/// usage line. If there was no room for them, that is a fault. `keys` are what `random_keys` gave.
 pub fn run<R: Threads + Wait + Sync, S: Source, K: Sink, F: Sink>(
     rt: &R,
     alloc: Global,

@@ -1,4 +1,4 @@
-//! A script of interleaved steps that is read, and the replies to them that are written.
+//! Reads a script of interleaved steps, and writes the replies to them.
 
 ghost use Rattle.std.specs.Prelude.{◌≡◌, ℕ, List, false, true, string_bytes, IfSome};
 ghost use Rattle.string_cache.specs.Tables.{empty_tables};
@@ -12,12 +12,10 @@ use std::alloc::Global;
 use text_streams::faults::AppFault;
 use text_streams::streams::{Sink, Source, read_text, write_whole};
 
-/// Runs the script that the reader gives, over a table that nothing was interned in: a line for each step's reply, and
-/// then one for each entry that is held.
+/// Runs the script that the reader gives, over a new table: a line for each step's reply, and then one for each entry that is held.
 ///
-/// Nothing is written before the whole script is run. `Read`, `Text`, input that isn't UTF-8, `Script`, the first line
-/// that isn't of the grammar, and `Intern(Memory)` therefore leave the writer as it was; after `Write` it has a beginning
-/// of the output.
+/// Nothing is written before the whole script was run. So `Read`, `Text` (the input isn't UTF-8), `Script` (the first line that isn't of the grammar)
+/// and `Intern(Memory)` leave the writer as it was; after `Write` it may have a beginning of the output.
 pub fn replay<S: Source, K: Sink>(
     alloc: Global,
     reader: &mut S,

@@ -1,4 +1,4 @@
-//! For each word of a text, a line that tells how often it came before.
+//! Writes, for each word of a text, a line that tells how often it occurred before.
 
 ghost use Rattle.std.specs.HashMap.{hasher_of, IsEmpty};
 ghost use Rattle.std.specs.Prelude.{◌≡◌, ◌↔◌, ◌+◌, ◌^◌, ◌<◌, ◌++◌, IfOk, IfSome, OnOk, OnErr, IfErr, false, true, string_bytes};
@@ -23,7 +23,7 @@ use string_cache::{AtomList, EmptyStaticAtomSet, Fault, StaticTables};
 use text_streams::faults::AppFault;
 use text_streams::streams::{Sink, Source, read_text, write_full, write_whole};
 
-/// What words are interned in, and kept by until its end.
+/// What words are interned in, and what keeps them until its end.
 trait Interner {
     fn intern(&mut self, word: &str) -> Result<(), Fault>
         ensures { IfErr result IsInternFault };
@@ -36,8 +36,7 @@ impl Interner for Table<EmptyStaticAtomSet> {
     }
 }
 
-/// Interns words in a set, and holds the atom of each place of a word. That of an inline one would hold nothing of the set, so it
-/// isn't kept.
+/// Interns words in a set, and holds the atom of each place of a word. That of an inline word would hold nothing of the set, so it isn't kept.
 #[derive(Drop)]
 struct Holder<'r, 's, R: Wait, Static: StaticTables> {
     rt: &'r R,
@@ -62,11 +61,11 @@ impl<R: Wait, Static: StaticTables> Interner for Holder<'_, '_, R, Static> {
     }
 }
 
-/// How often each word came, found by the word where it lies in the text. Words are hashed under random keys, so that nobody can choose
-/// words that collide.
+/// How often each word occurred, found by the word as it is in the text. Words are hashed under random keys, so that nobody can choose words that
+/// collide.
 type TimesSeen<'t> = HashMap<&'t str, u64, RandomState>;
 
-/// No word was seen yet. Words will be hashed under these keys.
+/// No words seen yet. Words will be hashed under these keys.
 fn none_seen<'t>(alloc: Global, keys: RandomState) -> TimesSeen<'t>
     ensures empty { IsEmpty result }
     ensures keys { hasher_of result ≡ keys }
@@ -74,7 +73,7 @@ fn none_seen<'t>(alloc: Global, keys: RandomState) -> TimesSeen<'t>
     HashMap::with_hasher(alloc, keys)
 }
 
-/// Counts the word once more, and tells how often it was counted before.
+/// Counts the word once more, and returns how often it was counted before.
 fn count_word<'t>(counts: &mut TimesSeen<'t>, word: &'t str) -> Result<u64, AllocError>
     requires { count_of counts.old word.now + 1 < 2 ^ 64 }
     ensures before { IfOk result (λ n. n ≡ count_of counts.old word.now) }
@@ -111,7 +110,7 @@ fn tell_word<'t>(
     append_line(out, word, n)
 }
 
-/// Interns the words of the text in order, and writes a line for each, once it is interned.
+/// Interns the words of the text in order, and writes a line for each once it is interned.
 fn write_words<I: Interner, K: Sink>(
     alloc: Global,
     keys: RandomState,
@@ -135,7 +134,7 @@ fn write_words<I: Interner, K: Sink>(
     write_whole(writer, pending.as_bytes())
 }
 
-/// Reads all, interns its words in order, and writes a line for each.
+/// Reads all the input, interns its words in order, and writes a line for each.
 fn list_words<I: Interner, S: Source, K: Sink>(
     alloc: Global,
     keys: RandomState,
@@ -152,13 +151,13 @@ fn list_words<I: Interner, S: Source, K: Sink>(
     write_words(alloc, keys, interner, &text, writer)
 }
 
-/// For each word that the reader gives, a line that tells how often it came before. The words are interned in the set,
-/// repeated ones again, and the atom of each place is held to the end of the call; inline ones hold nothing of the set. To tell how often
-/// they came, words are hashed under these keys, on which nothing depends but the time it takes: under random ones, as `RandomState::new`
-/// draws them, nobody can choose words that collide there.
+/// Writes, for each word that the reader gives, a line that tells how often it occurred before. The words are interned in the set, repeated ones
+/// again, and the atom of each place is held until the end of the call; inline ones hold nothing of the set. To tell how often they occurred, words
+/// are hashed under these keys, which affect only the time that it takes: under random ones, as `RandomState::new` draws them, nobody can choose
+/// words that collide there.
 ///
-/// `Read` and `Text`, input that isn't UTF-8, come before anything is written, and so does `Intern(Memory)` while the
-/// input is read. After another fault a beginning of the lines is written.
+/// `Read` and `Text` (the input isn't UTF-8) are returned before anything is written, and so is `Intern(Memory)` while the input is read. After
+/// another fault, a beginning of the lines may have been written.
 pub fn words<R: Wait, Static: StaticTables, S: Source, K: Sink>(
     rt: &R,
     set: &Set<Static>,
@@ -175,7 +174,7 @@ pub fn words<R: Wait, Static: StaticTables, S: Source, K: Sink>(
     list_words(alloc, keys, &mut Holder::new(rt, set), reader, writer)
 }
 
-/// As `words`, over a set of this call's own, whose number of buckets fits the input.
+/// As `words`, over this call's own set, whose number of buckets fits the input.
 pub fn words_command<R: Wait, S: Source, K: Sink>(
     rt: &R,
     alloc: Global,
@@ -194,8 +193,7 @@ pub fn words_command<R: Wait, S: Source, K: Sink>(
     write_words(alloc, keys, &mut Holder::new(rt, &set), &text, writer)
 }
 
-/// The same lines and faults as those of `words`. The words are interned in a table of this call's own, which ends with it,
-/// so that no lock is taken.
+/// The same lines and faults as those of `words`. The words are interned in this call's own table, which ends with it, so that no lock is taken.
 pub fn words_alone<S: Source, K: Sink>(
     alloc: Global,
     keys: RandomState,

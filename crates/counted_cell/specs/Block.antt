@@ -1,4 +1,4 @@
--- One block: a header, and bytes behind it.
+-- One block: a header, and bytes after it.
 use Rattle.std.specs.Prelude.{◌≡◌, ℕ, ◌+◌, ◌^◌, ◌<◌}
 use Rattle.std.specs.Mem.{type_size}
 use mir.Syntax.{Ty, w8, ty_int, ty_array, ty_struct, tcons, tnil}
@@ -26,10 +26,11 @@ module _ (R : RattleType) where
   abbrev pub rooms : ℕ → ℕ → ℕ → Fml
   rooms n b o = fsep (froom header b o) (fsep (froom (ty_array (ty_int w8) n) b (o + type_size R)) ftrue)
 
-  -- both together are the block again
+  -- together they are the block again
   abbrev pub way_back : ℕ → ℕ → ℕ → Fml
   way_back n b o = fwand (rooms n b o) (froom (whole_type n) b o)
 
+  -- room for a header, at p
   abbrev pub room_owns : Ptr → Fml
   room_owns p = room_for header p
 

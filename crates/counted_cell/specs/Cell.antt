@@ -1,4 +1,4 @@
--- What contracts see of a cell: through its owner, and through each of its shares.
+-- What contracts see of a cell, through its owner and through each of its shares.
 use Rattle.std.specs.Prelude.{◌≡◌, ℕ, ◌+◌, ◌-◌, ◌%◌, ◌^◌, List}
 use denote.RawPtr.{◌+ₚ◌}
 use Rattle.counted_cell.specs.Counting.{CellName}
@@ -7,39 +7,41 @@ use Rattle.counted_cell.specs.declared.label.Label.{Label}
 use Rattle.counted_cell.specs.declared.content.Content.{Content}
 use Rattle.counted_cell.specs.declared.cell_ref.CellRef.{CellRef}
 
--- its name, which no other cell has, and what never changes in it; the note is a number that its maker chose, for clauses alone
+-- its name, which no other cell has, and what never changes in it; the note is a number that its maker chose, for clauses only
 pub record Cell : Type 0 where
   pub name : CellName
   pub label : Label
   pub note : ℕ
   pub text : List ℕ
 
+-- the cell to which a reference leads
 abbrev pub cell_of : CellRef Content → Cell
 cell_of r = record { name = r.name; label = r.value.label; note = r.value.note.number; text = somes r.value.text.places.slots }
 
--- a share: of which cell, and its number, which no other share of that cell ever has
+-- a share: its cell, and its number, which no other share of that cell ever has
 pub record OneShare : Type 0 where
   pub cell : Cell
   pub number : ℕ
 
+-- the share that a reference is
 abbrev pub share_of : CellRef Content → OneShare
 share_of r = record { cell = cell_of r; number = r.number }
 
--- how many bytes lie before the text
+-- the bytes before the text
 abbrev pub header_size : ℕ
 header_size = 40
 
--- the bytes of the text lie right behind what stands before them, so nothing keeps where (for private contracts)
+-- the bytes of the text come right after what is before them, so nothing keeps where they are (for private contracts)
 abbrev pub IsBehind : CellRef Content → Type 0
 IsBehind r = r.value.text.places.at ≡ r.ptr +ₚ header_size
 
 abbrev pub header_align : ℕ
 header_align = 8
 
--- how many bytes a text may have
+-- the most bytes that a text may have
 abbrev pub most_bytes : ℕ
 most_bytes = 2 ^ 62 - 1
 
--- how many bytes a block has whose text has n
+-- the bytes of a block whose text has n bytes
 abbrev pub block_size : ℕ → ℕ
 block_size n = header_size + n + (header_align - (header_size + n) % header_align) % header_align

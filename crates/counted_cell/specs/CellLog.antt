@@ -12,6 +12,7 @@ pub record Entry : Type 0 where
   pub ticket : ℕ
   pub name : CellName
 
+-- entries are coded as plain data
 abbrev pub entry_coded : Coded Entry
 entry_coded = code_by (List ℕ × (ℕ × CellName)) (coded× (coded_list coded_ℕ) (coded× coded_ℕ cell_name_coded)) (λ e. (e.text, (e.ticket, e.name))) (λ p. record { text = p.0; ticket = p.1.0; name = p.1.1 }) (λ _. refl)
 
@@ -19,12 +20,12 @@ entry_coded = code_by (List ℕ × (ℕ × CellName)) (coded× (coded_list coded
 abbrev pub rows : Order (List Entry)
 rows = prefixes entry_coded
 
--- no share of these cells is left, and none will ever be
+-- no share of these cells is left, and none ever will be
 abbrev pub all_gone : List CellName → Fml
 all_gone [] = ftrue
 all_gone (t ∷ ts) = fsep (fdead (t.share_life ∷ [])) (all_gone ts)
 
--- the right to add to a log of this name: what it is now, and which of its cells are gone
+-- the right to add to the log with this name: what it is now, and which of its cells are gone
 abbrev pub log_owns : ℕ → List Entry → List CellName → Fml
 log_owns γ es gone = fsep (latest rows full_share γ es) (all_gone gone)
 

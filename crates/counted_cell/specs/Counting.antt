@@ -1,14 +1,12 @@
--- The count of a cell's shares: what holds between any two steps on it, and what the owner and each share own.
--- A cell has two lifetimes. While the first lives its value may be read: the owner and each share has one part in 2 ^ 64 of its token.
--- While the second lives there is a share: each share has one part in 2 ^ 64 of that token too.
--- Each share that a cell ever gets has a number, from 0 up, and no two have the same. To each number belong a claim and a receipt, and there
--- is one of either. The share has the claim, and the count has a seat for each number: while the share is out, the receipt lies there. A
--- subtraction puts the share's claim into its seat, and hands its receipt out. So how many seats have a receipt is how many shares are
--- out, and whoever has a receipt knows that the share of its number was taken off the count.
--- Whether a cell gets more shares is part of its name, which nothing reads when it runs. All that are made do. But whoever may add shares
--- could, in these books alone, add one, take the receipt of his own and forget the new one, with no step on the word. So what a
--- subtraction does is said of cells that get no more shares as well. There are as many receipts there as shares, and none is to be had
--- but by taking one share off (proofs/KnownCount.antt).
+-- The count of a cell's shares: what holds between any two steps on it, and what the owner and each share own. A cell has two lifetimes. While the
+-- first lives its value may be read: the owner and each share has one part in 2 ^ 64 of its token. While the second lives there is a share: each
+-- share has one part in 2 ^ 64 of that token too. Each share that a cell ever gets has a number, from 0 up, and no two have the same. To each number
+-- belong a claim and a receipt, and there is one of each. The share has the claim, and the count has a seat for each number: while the share is out,
+-- the receipt is there. A subtraction puts the share's claim into its seat, and hands out its receipt. So as many seats have a receipt as shares are
+-- out, and whoever has a receipt knows that the share of its number was taken off the count. Whether a cell gets more shares is part of its name,
+-- which nothing reads when a program runs. All cells that are made do. But whoever may add shares could, in these books alone, add one, take the
+-- receipt of their own and forget the new one, without a step on the word. So what a subtraction does is stated for cells that get no more shares as
+-- well. There, there are as many receipts as shares, and the only way to get one is to take one share off (proofs/KnownCount.antt).
 use Rattle.std.specs.Prelude.{◌≡◌, ◌⊎◌, refl, ℕ, suc, ◌+◌, ◌≤◌, Bool, true, false, cond, ◌==◌, List, [], ◌∷◌, Option, Some, None}
 use Rattle.std.specs.Coded.{Coded, code_by, coded×, coded_ℕ, coded_bool}
 use base.Fml.{Lft, Fml, ftrue, ffalse, fsep, fex, fall, flft, fdead, finv}
@@ -35,6 +33,7 @@ pub record CellName : Type 0 where
   pub limit : ℕ
   pub grows : Bool
 
+-- names are coded as plain data
 abbrev pub cell_name_coded : Coded CellName
 cell_name_coded = code_by (ℕ × (ℕ × (ℕ × (ℕ × (ℕ × Bool))))) (coded× coded_ℕ (coded× coded_ℕ (coded× coded_ℕ (coded× coded_ℕ (coded× coded_ℕ coded_bool)))))
     (λ t. (t.value_life, (t.share_life, (t.claims, (t.receipts, (t.limit, t.grows))))))
@@ -45,23 +44,23 @@ pub record Count : Type 0 where
   pub name : CellName
   pub count : ℕ
 
--- what giving a share back shows: of which cell and of which number it was, and the count that it left
+-- what giving a share back shows: its cell and its number, and the count that it left
 pub record Giving : Type 0 where
   pub name : CellName
   pub number : ℕ
   pub count : ℕ
 
--- the cell's name where the count is 0
+-- the cell's name if the count is 0
 abbrev pub if_none_left : Giving → Option CellName
 if_none_left g = cond (g.count == 0) (Some g.name) None
 
--- how many shares are out, where a list says of each number whether its share is
+-- how many shares are out, if a list says for each number whether its share is
 abbrev pub number_out : List Bool → ℕ
 number_out [] = 0
 number_out (out ∷ outs) = cond out 1 0 + number_out outs
 
--- what a reference to a cell may do: nothing; read, and end the cell; read, and count as a share; have the cell to itself; or add one share,
--- by the permit that it keeps
+-- what a reference to a cell may do: nothing; read, and end the cell; read, and count as a share; have the cell to itself; or add one share, by the
+-- permit that it holds
 pub data Right : Type 0 where
   no_right : Right
   owner_right : Right
@@ -86,6 +85,7 @@ right_of-right_number share_right = refl
 right_of-right_number sole_right = refl
 right_of-right_number permit_right = refl
 
+-- rights are coded as numbers
 abbrev pub right_coded : Coded Right
 right_coded = code_by ℕ coded_ℕ right_number right_of right_of-right_number
 
@@ -93,12 +93,12 @@ right_coded = code_by ℕ coded_ℕ right_number right_of right_of-right_number
 abbrev pub CanRead : Right → Type 0
 CanRead r = (r ≡ owner_right) ⊎ (r ≡ share_right)
 
--- where the value lies in the block
+-- where the value is in the block
 abbrev pub offset : RattleType → ℕ
 offset R = up (align (lone R.mir)) 8
 
 module _ (t : CellName) where
-  -- no share is left, and none will ever be
+  -- no share is left, and none ever will be
   abbrev pub none_left : Fml
   none_left = fdead (t.share_life ∷ [])
 
@@ -111,38 +111,40 @@ module _ (t : CellName) where
   abbrev pub tally : ℕ → Fml
   tally n = fsep (rest 64 t.value_life (n + 1)) (fex Bool (shares_out n))
 
-  -- the claim of a number, and its receipt: there is one of either
+  -- the claim of a number, of which there is one, as of its receipt
   abbrev pub claim : ℕ → Fml
   claim number = ticket t.claims number
 
+  -- the receipt of a number: whoever has it knows that the share of this number was taken off the count
   abbrev pub receipt_owns : ℕ → Fml
   receipt_owns number = ticket t.receipts number
 
-  -- What an addition spends. Where the cell gets more shares it is nothing. Else it is the receipt of some number: that lies in no seat, so
-  -- its seat has the claim, or the number is yet to come. The addition puts the receipt in and takes the claim out, as a subtraction turned
-  -- round. So nobody has it again who doesn't give a share back.
+  -- What an addition spends. If the cell gets more shares, it is nothing. Otherwise it is the receipt of some number: it is in no seat, so its seat
+  -- has the claim, or the number is yet to come. The addition puts the receipt in and takes the claim out, like a subtraction in reverse. So the only
+  -- way to get it again is to give a share back.
   abbrev pub permit_by : Bool → ℕ → Fml
   permit_by true number = ftrue
   permit_by false number = receipt_owns number
 
+  -- what an addition to this cell spends
   abbrev pub permit_owns : ℕ → Fml
   permit_owns number = permit_by t.grows number
 
-  -- what a share has beside what it reads
+  -- what a share has besides what it reads
   abbrev pub share_owns : ℕ → Fml
   share_owns number = fsep (part 64 t.share_life) (claim number)
 
-  -- what lies in the seat of a number: the receipt while the share is out, and the claim once it was given back
+  -- what is in the seat of a number: the receipt while the share is out, and the claim once it was given back
   abbrev pub seat : ℕ → Bool → Fml
   seat number true = receipt_owns number
   seat number false = claim number
 
-  -- the receipts of the numbers to come, where the cell gets more shares
+  -- the receipts of the numbers to come, if the cell gets more shares
   abbrev pub spare : Bool → ℕ → Fml
   spare true next = tickets_from t.receipts next
   spare false next = ftrue
 
-  -- the seats of the numbers from this one on; behind them the claims and the receipts of the numbers to come
+  -- the seats of the numbers from this one on; after them the claims and the receipts of the numbers to come
   abbrev pub seats : ℕ → List Bool → Fml
   seats next [] = fsep (tickets_from t.claims next) (spare t.grows next)
   seats number (out ∷ outs) = fsep (seat number out) (seats (suc number) outs)
@@ -176,7 +178,7 @@ module _ (R : RattleType) (b o : ℕ) (x : R.Denot) (t : CellName) where
   abbrev pub shown : Lft → Fml
   shown = lent_at R (block_ptr b (o + offset R)) x
 
-  -- what the owner and each share has
+  -- what the owner and each share have
   abbrev pub reads : Fml
   reads = fsep (part 64 t.value_life) (fsep (finv (Inv t b (o + 0))) (shown (t.value_life ∷ [])))
 
@@ -199,10 +201,12 @@ module _ (R : RattleType) (b o : ℕ) (x : R.Denot) (t : CellName) where
   seen_with sole_right = nothing
   seen_with permit_right = nothing
 
+-- what a reference with this right has at p
 abbrev pub ref_owns : (R : RattleType) → Ptr → R.Denot → CellName → ℕ → Right → Fml
 ref_owns R (block_ptr b o) x t number right = right_to R b o x t number right
 ref_owns R null_ptr x t number right = ffalse
 
+-- what a `&` to a reference with this right has
 abbrev pub ref_shares : (R : RattleType) → Ptr → R.Denot → CellName → Right → Lft → Fml
 ref_shares R (block_ptr b o) x t right = seen_with R b o x t right
 ref_shares R null_ptr x t right = said ffalse

@@ -36,10 +36,12 @@ module _ (R : RattleType) where
   abbrev pub fit : List (Option R.Denot) → Fml
   fit cs = flt (length cs * type_size R) (2 ^ 63)
 
+  -- what the owner of the row at p has: its places, side by side
   abbrev pub places_own : Ptr → List (Option R.Denot) → Fml
   places_own (block_ptr b o) cs = fsep (fit cs) (slots b o cs)
   places_own null_ptr cs = ffalse
 
+  -- what a `&` to it shows: the values of the places that have one
   abbrev pub places_lent : Ptr → List (Option R.Denot) → Lft → Fml
   places_lent (block_ptr b o) cs = beside (said (fit cs)) (slots_lent b o cs)
   places_lent null_ptr cs = said ffalse

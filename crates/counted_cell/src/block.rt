@@ -1,4 +1,4 @@
-//! One block on the heap: a header, and bytes behind it.
+//! One block on the heap: a header, and bytes after it.
 ghost use Rattle.std.specs.Prelude.{◌≡◌, ℕ, length, replicate, None, IfOk};
 ghost use Rattle.std.specs.Mem.{type_size};
 ghost use denote.RawPtr.{Ptr, ◌+ₚ◌};
@@ -10,7 +10,7 @@ use std::alloc::{AllocError, Allocator};
 use std::marker::{Model, PhantomData};
 use std::mem::size_of;
 
-/// The right to give the block back, whose header lies at `at` and has `len` bytes behind it. It takes no space.
+/// The right to give back the block whose header is at `at` with `len` bytes after it. It takes no space.
 #[derive(Drop)]
 pub struct FreeRight<B, A: Allocator> {
     mark: PhantomData<*const (B, A)>,
@@ -25,7 +25,7 @@ impl<B, A: Allocator> Model for FreeRight<B, A> {
 
 unsafe impl<B, A: Allocator + Send> Send for FreeRight<B, A> {}
 
-/// A block of `size` bytes: room for a header, and `len` empty places for bytes behind it.
+/// A block of `size` bytes: room for a header, and `len` empty places for bytes after it.
 pub(crate) fn allocate<B, A: Allocator>(
     alloc: &A,
     len: usize,

@@ -1,4 +1,4 @@
-//! The right to have a cell's block back.
+//! The right to get a cell's block back.
 ghost use Rattle.std.specs.Prelude.{◌≡◌, ◌≤◌, Bool, ℕ};
 ghost use denote.RawPtr.{Ptr};
 ghost use Rattle.counted_cell.specs.Counting.{CellName, cell_name_coded, owner_right, share_right, sole_right};
@@ -9,8 +9,7 @@ use crate::header::Header;
 use crate::placed::PlacedValue;
 use std::marker::{Model, PhantomData};
 
-/// The right to have the block of a cell back, which lies at `ptr`, once nobody reads it any more. It takes no space. Its drop
-/// forgets it.
+/// The right to get back the block of a cell, which is at `ptr`, once nobody reads it any more. It takes no space. Its drop forgets it.
 #[derive(Drop)]
 pub struct BlockRight<T> {
     mark: PhantomData<*const T>,
@@ -23,8 +22,8 @@ impl<T> Model for BlockRight<T> {
     ghost also_owns = { λ d. block_right_owns T.row d.ptr d.value d.name };
 }
 
-/// Makes a cell of a block whose count is 1: the right to have the block back, the owner's reference, and the first share's. From
-/// here on there are at most as many shares as its kind says, and more come freely if the kind says so.
+/// Turns a block whose count is 1 into a cell. Returns the right to get the block back, the owner's reference, and the first share's. From here on
+/// its `kind` limits how many shares there may be at a time, and says whether more can be added freely.
 pub fn begin<T>(whole: PlacedValue<Header<T>>) -> (BlockRight<T>, CellRef<T>, CellRef<T>)
     ghost kind: { ℕ × Bool }
     requires { (whole.value.count ≡ 1) × (1 ≤ kind.0) }
@@ -38,7 +37,7 @@ pub fn begin<T>(whole: PlacedValue<Header<T>>) -> (BlockRight<T>, CellRef<T>, Ce
     )
 }
 
-/// The block, at the owner's end, which has the cell to itself.
+/// The block again, at the end of an owner that has the cell to itself.
 pub fn reclaim<T>(block: BlockRight<T>, sole: CellRef<T>) -> PlacedValue<Header<T>>
     requires { (sole.right ≡ sole_right) × (sole.name ≡ block.name) × (sole.ptr ≡ block.ptr) }
     ensures { (result.ptr ≡ block.ptr) × (result.value.value ≡ block.value) }

@@ -1,6 +1,6 @@
 //! A log of cells, which only grows and takes no memory: who may add to it, and what was seen of it.
 //!
-//! Nothing of it is there when a program runs. A function that enters a cell, or looks at a log, does nothing but let clauses know of it.
+//! None of it exists when a program runs. A function that enters a cell, or looks at a log, only lets clauses know about it.
 ghost use Rattle.std.specs.Prelude.{◌≡◌, ◌≢◌, ℕ, List, [], ◌∷◌, ◌++◌};
 ghost use Rattle.std.specs.Coded.{coded_list};
 ghost use Rattle.std.specs.List.{AllByRecursion};
@@ -13,8 +13,8 @@ use crate::cell_ref::{CellRef, Reading};
 use crate::content::Content;
 use std::marker::{Model, PhantomData};
 
-/// The right to add to a log, some of whose cells are known to have no share left. There is one to each log. It takes no space. In a clause it
-/// is the log's name, its entries in the order in which they were added, and the names of the cells that are gone.
+/// The right to add to a log, some of whose cells are known to have no share left. There is one for each log. It takes no space. In a clause it is
+/// the log's name, its entries in the order in which they were added, and the names of the cells that are gone.
 #[derive(Drop)]
 pub struct CellLog {
     mark: PhantomData<()>,
@@ -29,8 +29,8 @@ impl Model for CellLog {
 
 unsafe impl Send for CellLog {}
 
-/// Shows that a log begins with these entries, and that the cells that are gone have no share left. It stays true, whatever is added. It takes
-/// no space.
+/// Shows that a log begins with these entries, and that the cells that are gone have no share left. That stays true, whatever is added. It takes no
+/// space.
 #[derive(Drop)]
 pub struct LogSeen {
     mark: PhantomData<()>,
@@ -60,14 +60,14 @@ impl CellLog {
         CellLog { mark: PhantomData }
     }
 
-    /// One entry more, behind the others: the cell of the share.
+    /// Adds an entry after the others: the cell of the share.
     pub(crate) fn add(&mut self, share: &CellRef<Content>)
         ensures { (self.new.name ≡ self.old.name) × (self.new.entries ≡ self.old.entries ++ entry_of (cell_of share.now) ∷ []) × (self.new.gone ≡ self.old.gone) }
     {
         let _ = share;
     }
 
-    /// Keeps that a cell has no share left, and never will.
+    /// Records that a cell has no share left, and never will.
     pub(crate) fn bury(&mut self, reading: Reading)
         requires { reading.count ≡ 0 }
         ensures { (self.new.name ≡ self.old.name) × (self.new.entries ≡ self.old.entries) × (self.new.gone ≡ reading.name ∷ self.old.gone) }
@@ -84,14 +84,14 @@ impl CellLog {
 }
 
 impl LogSeen {
-    /// The same once more.
+    /// The same again.
     pub fn again(&self) -> LogSeen
         ensures { result ≡ self.now }
     {
         LogSeen { mark: PhantomData }
     }
 
-    /// A law: what was seen of one log, at two times, are beginnings of one list of entries.
+    /// A law: what was seen of one log at two times are beginnings of one list of entries.
     pub fn meet(&self, other: &LogSeen)
         ensures { other.now.name ≡ self.now.name → (all : List Entry) × IsPrefix self.now.entries all × IsPrefix other.now.entries all }
     {
@@ -99,7 +99,7 @@ impl LogSeen {
     }
 }
 
-/// A law: a cell of which there is a share is none of those that are gone.
+/// A law: a cell that has a share is none of those that are gone.
 pub(crate) fn lives<T>(seen: &LogSeen, share: &CellRef<T>)
     requires { share.now.right ≡ share_right }
     ensures { AllByRecursion (λ t. t ≢ share.now.name) seen.now.gone }

@@ -1,7 +1,7 @@
 //! References to a cell, each with what it may do there, and the steps on its count. Nothing else reads or writes the count.
 //!
-//! A step is one atomic operation: a load, a compare-and-exchange upwards, or a subtraction. All are sequentially consistent, and the
-//! proofs are of that ordering alone: they say nothing of a weaker one.
+//! A step is one atomic operation: a load, a compare-and-exchange upwards, or a subtraction. All are sequentially consistent, and the proofs are for
+//! that ordering alone: they say nothing about a weaker one.
 ghost use Rattle.std.specs.Prelude.{◌≡◌, ◌≢◌, true, ℕ, ◌+◌, ◌^◌, ◌<◌};
 ghost use Rattle.counted_cell.specs.Counting.{CellName, cell_name_coded, Right, right_coded, CanRead, no_right, owner_right, share_right, sole_right, permit_right, ref_owns, ref_shares, reading_owns, receipt_owns, permit_owns};
 ghost use Rattle.counted_cell.specs.BlockRight.{header_bytes};
@@ -15,9 +15,9 @@ use std::mem::size_of;
 use std::sync::atomic::Ordering::SeqCst;
 use std::sync::atomic::raw;
 
-/// A pointer to a cell, with the right that its holder has there. It has no drop, so no right ends unseen: a share's is spent by
-/// `decrement` alone, the owner's by `close`, what `close` gained by `reclaim`, and none at all by `done`. What can be forgotten is
-/// a struct with a drop of its own that holds one: its right is then never spent. A share's number is its own in its cell.
+/// A pointer to a cell, with the right that its holder has there. It has no drop, so no right ends unseen: a share's is spent only by `decrement`,
+/// the owner's by `close`, what `close` gained by `reclaim`, and none at all by `done`. A struct that holds one and has a drop of its own can be
+/// forgotten: then the right is never spent. No two shares of a cell have the same number.
 pub struct CellRef<T> {
     pub(crate) ptr: *const Header<T>,
     pub ghost value: { T },
@@ -32,7 +32,7 @@ impl<T> Model for CellRef<T> {
     ghost also_shares = { λ h _ κ. ref_shares T.row h.ptr h.value h.name h.right κ };
 }
 
-/// What a step on the count found there, or left. Where that is 0, no share is left and none will ever be. The steps alone make one.
+/// What a step on the count found there, or left. If that is 0, no share is left and none ever will be. Only the steps make one.
 #[derive(Drop)]
 pub struct Reading {
     pub(crate) marker: PhantomData<()>,
@@ -44,7 +44,7 @@ impl Model for Reading {
     ghost also_owns = { λ s. reading_owns s.name s.count };
 }
 
-/// Shows that the share of this number was taken off the count. The subtraction alone makes one. It takes no space.
+/// Shows that the share with this number was taken off the count. Only the subtraction makes one. It takes no space.
 #[derive(Drop)]
 pub struct Receipt {
     marker: PhantomData<()>,
@@ -56,10 +56,10 @@ impl Model for Receipt {
     ghost also_owns = { λ r. receipt_owns r.name r.number };
 }
 
-/// Leave to add one share to a cell. An addition spends it, and one that adds nothing hands it back. It takes no space.
+/// Permission to add one share to a cell. An addition spends it, and one that adds nothing hands it back. It takes no space.
 ///
-/// For a cell that gets more shares, as each that is made, it is nothing, and `CellRef::free` makes one. But nothing that runs can tell such a
-/// cell from one that gets none of itself, and there each permit is one of a row that nobody can add to. So a body that adds a share has no
+/// For a cell that gets more shares, as every cell that is made does, it is nothing, and `CellRef::free` makes one. But nothing that runs can tell
+/// such a cell from one that gets none by itself, and there each permit is one of a row that nobody can add to. So a body that adds a share has no
 /// permit to hand back.
 #[derive(Drop)]
 pub struct Permit {
@@ -73,7 +73,7 @@ impl Model for Permit {
 }
 
 impl<T> CellRef<T> {
-    /// A permit, where the cell gets more shares. It does nothing when it runs.
+    /// A permit for a cell that gets more shares. It does nothing when it runs.
     #[inline]
     pub fn free(&self) -> Permit
         requires { self.now.name.grows ≡ true }
@@ -92,7 +92,7 @@ impl<T> CellRef<T> {
         unsafe { &(*self.ptr).value }
     }
 
-    /// Where the bytes behind the header begin.
+    /// Where the bytes after the header begin.
     pub fn end(&self) -> PlacesPtr<u8>
         requires reads { CanRead self.now.right }
         requires fits { header_bytes T.row < 2 ^ 63 }
@@ -119,8 +119,8 @@ impl<T> CellRef<T> {
         )
     }
 
-    /// One share more, where the count is still `seen`, which is above 0 and below the limit: one exchange. Returns the count that
-    /// was found, and the right to the share where that is `seen`. The permit is spent then, and else `unspent` hands it back.
+    /// Adds a share if the count is still `seen`, which is above 0 and below the limit: one exchange. Returns the count that was found, and the right
+    /// to the share if that is `seen`. Then the permit is spent; otherwise `unspent` hands it back.
     pub fn increment(&self, seen: u64, permit: Permit) -> (u64, Reading, CellRef<T>)
         requires reads { CanRead self.now.right }
         requires permit { permit.name ≡ self.now.name }
@@ -141,10 +141,10 @@ impl<T> CellRef<T> {
         )
     }
 
-    /// One share less: one subtraction. Returns the count that it found, a reading of what is left, and the share's receipt.
+    /// Takes off one share: one subtraction. Returns the count that it found, a reading of what is left, and the share's receipt.
     ///
-    /// It doesn't ask that the cell gets more shares. In one that gets none there is no receipt to spare, and nothing that runs can tell
-    /// such a cell from another. So a body that lets the share go without a step has no receipt to give.
+    /// It doesn't require that the cell gets more shares. In one that gets none there is no receipt to spare, and nothing that runs can tell such a
+    /// cell from another. So a body that lets the share go without a step has no receipt to return.
     pub fn decrement(self) -> (u64, Reading, Receipt)
         requires { self.right ≡ share_right }
         ensures left { (0 < result.0) × (result.1.name ≡ self.name) × (result.1.count + 1 ≡ result.0) }
@@ -163,7 +163,7 @@ impl<T> CellRef<T> {
         )
     }
 
-    /// The end of a reference that gained no share: the permit again.
+    /// Ends a reference that gained no share. Returns the permit.
     #[inline]
     pub fn unspent(self) -> Permit
         requires { self.right ≡ permit_right }
@@ -175,14 +175,14 @@ impl<T> CellRef<T> {
         }
     }
 
-    /// The end of a reference that gained nothing.
+    /// Ends a reference that gained nothing.
     pub fn done(self)
         requires { self.right ≡ no_right }
     {
         let CellRef { ptr: _ } = self;
     }
 
-    /// The owner's end, by one load. Where it found 0, what is left has the cell to itself.
+    /// Ends the owner, by one load. If that found 0, the reference that is returned has the cell to itself.
     pub fn close(self) -> (u64, Reading, CellRef<T>)
         requires { self.right ≡ owner_right }
         ensures found { (result.1.name ≡ self.name) × (result.1.count ≡ result.0) × (result.2.value ≡ self.value) × (result.2.name ≡ self.name) × (result.2.ptr ≡ self.ptr) }
@@ -200,7 +200,7 @@ impl<T> CellRef<T> {
     }
 }
 
-/// A law: a reading of 0 is never together with a share of the same cell.
+/// A law: a reading of 0 never exists together with a share of the same cell.
 pub fn exclude<T>(reading: Reading, share: &CellRef<T>)
     requires zero { (reading.count ≡ 0) × (reading.name ≡ share.now.name) }
     requires share { share.now.right ≡ share_right }

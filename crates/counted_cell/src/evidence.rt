@@ -1,11 +1,10 @@
-//! What was read off a cell's count, as values that only a step on the count makes.
+//! What was read from a cell's count, as values that only a step on the count makes.
 use crate::cell_log::CellLog;
 use crate::cell_ref::{Reading, exclude};
 use crate::share::CellShare;
 use std::marker::Model;
 
-/// Shows that the count of a cell was read as 0: no share of the cell is left, and none will ever be.
-/// In a clause it is the cell's name.
+/// Shows that the count of a cell was read as 0: no share of the cell is left, and none ever will be. In a clause it is the cell's name.
 #[derive(Drop)]
 pub struct NoShares {
     pub(crate) reading: Reading,
@@ -33,7 +32,7 @@ impl NoShares {
         reading
     }
 
-    /// Keeps in a log that no share of the cell is left.
+    /// Records in a log that no share of the cell is left.
     pub fn bury(self, log: &mut CellLog)
         ensures { (log.new.name ≡ log.old.name) × (log.new.entries ≡ log.old.entries) × (log.new.gone ≡ self ∷ log.old.gone) }
     {
@@ -41,7 +40,7 @@ impl NoShares {
         log.bury(reading)
     }
 
-    /// A law: it is never together with a share of the same cell.
+    /// A law: it never exists together with a share of the same cell.
     pub fn excludes(self, share: &CellShare)
         requires { share.now.cell.name ≡ self }
         ensures { ⊥ }
@@ -80,7 +79,7 @@ impl AtLimit {
     }
 }
 
-/// What was read off the count of a cell. Nothing else makes one. In a clause it is the cell's name and the count.
+/// What was read from the count of a cell. Nothing else makes one. In a clause it is the cell's name and the count.
 #[derive(Drop)]
 pub struct CountSeen {
     pub(crate) seen: u64,
@@ -101,7 +100,7 @@ impl Model for CountSeen {
 impl CountSeen {
     ghost use Rattle.std.specs.Prelude.{◌≡◌};
 
-    /// How many shares the cell had.
+    /// The number of shares that the cell had.
     pub fn shares(&self) -> u64
         ensures { result ≡ self.now.count }
     {

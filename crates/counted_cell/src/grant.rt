@@ -1,4 +1,4 @@
-//! Grants: leave to add one share to whichever of some cells it turns out to be.
+//! Grants: permission to add one share to whichever of some cells it turns out to be.
 ghost use Rattle.std.specs.Prelude.{◌≡◌, Bool, true, ℕ};
 ghost use Rattle.counted_cell.specs.Counting.{CellName};
 
@@ -6,18 +6,18 @@ use crate::cell_ref::Permit;
 use crate::owner::Owner;
 use std::alloc::Global;
 
-/// Leave to add one share to one of some cells, for who can't tell beforehand which cell it will be, as a pass over a bucket.
+/// Permission to add one share to one of some cells, for callers that can't tell beforehand which cell it will be, such as a pass over a bucket.
 ///
-/// A call that is generic over it takes one, and either gives a share or hands it back. It can't make one itself, nor turn one into two, so
-/// what it answers is all that it added.
+/// A call that is generic over it takes one, and either gives a share or hands it back. It can't make one itself or turn one into two, so what it
+/// answers is all that it added.
 pub trait Grant: Drop {
     /// The cells that it is good for.
     ghost may: { CellName → Type 0 };
 
-    /// Whether those get more shares freely that are made for it.
+    /// Whether the cells that are made for it get more shares freely.
     ghost grows: { Bool };
 
-    /// The permits that are made of one.
+    /// The permits that are made from one.
     ghost permits: { CellName → ℕ → Type 0 };
 
     /// The permit for a cell.
@@ -26,7 +26,7 @@ pub trait Grant: Drop {
         ensures name { result.name ≡ owner.now.name }
         ensures permits { permits result.name result.number };
 
-    /// What an unspent permit was made of.
+    /// What an unspent permit was made from.
     fn of_permit(permit: Permit) -> Self
         requires { permits permit.name permit.number };
 
@@ -34,7 +34,7 @@ pub trait Grant: Drop {
     ghost covers: { (t : CellName) → t.grows ≡ grows → may t };
 }
 
-/// A grant for cells that get more shares, as all that are made. It costs nothing, and anybody has as many as he likes.
+/// A grant for cells that get more shares, as every cell that is made does. It costs nothing, and anyone can have as many as they like.
 #[derive(Drop)]
 pub struct FreeGrant;
 

@@ -1,4 +1,4 @@
-//! What stands in a cell's block before the bytes of its text.
+//! What is in a cell's block before the bytes of its text.
 
 /// The count of the shares, and what they read.
 #[derive(Drop)]

@@ -1,11 +1,10 @@
-//! A text on the heap, in one block with its hash, its ticket and a count, which one owner and counted shares read.
+//! A text on the heap, in one block with its hash, its ticket and a count, read by one owner and by counted shares.
 //!
-//! The count is the number of shares that weren't given back. It goes up only from one or more and below the cell's limit, by
-//! one, and down only where a share is given back. At 0 no share is left and none will ever be, so the owner's end, which reads
-//! the count, frees the block where it is 0 and leaves it otherwise. Each step on the count is one atomic operation, and all are
-//! sequentially consistent.
+//! The count is the number of shares that weren't given back. It goes up only from one or more and below the cell's limit, by one, and down only when
+//! a share is given back. At 0 no share is left and none ever will be, so the owner's end, which reads the count, frees the block if it is 0 and
+//! leaves it otherwise. Each step on the count is one atomic operation, and all are sequentially consistent.
 //!
-//! All that follows pointers stands in `cell_ref`, `block_right`, `block`, `places` and `placed`, a few lines a function.
+//! All code that follows pointers is in `cell_ref`, `block_right`, `block`, `places` and `placed`, a few lines per function.
 #![tactic(auto)]
 
 mod block;

@@ -1,10 +1,10 @@
-//! A number that is there for clauses alone.
+//! A number that is there for clauses only.
 ghost use Rattle.std.specs.Prelude.{◌≡◌, ℕ};
 ghost use base.Fml.{ftrue};
 
 use std::marker::{Model, PhantomData};
 
-/// A number that only clauses read. It takes no space and owns nothing, so that only clauses tie it to what lies beside it.
+/// A number that only clauses read. It takes no space and owns nothing, so that only clauses tie it to what is beside it.
 #[derive(Drop)]
 pub struct Note {
     mark: PhantomData<()>,

@@ -21,8 +21,7 @@ use std::marker::Model;
 use std::mem::{align_of, size_of};
 use std::sync::Wait;
 
-/// What owns a cell. Its end frees the block where the count is 0, and leaves it otherwise, for the shares that are left.
-/// In a clause it is its cell.
+/// The owner of a cell. Its end frees the block if the count is 0, and leaves it otherwise, for the shares that are left. In a clause it is its cell.
 pub struct Owner<A: Allocator> {
     cell: CellRef<Content>,
     block: BlockRight<Content>,
@@ -55,7 +54,7 @@ const MOST_BYTES: usize = (1 << 62) - 1;
 
 const ALIGN: usize = align_of::<Header<Content>>();
 
-/// How many bytes a block has whose text has `len`: the header, the text, and what fills up to the alignment.
+/// The bytes of a block whose text has `len` bytes: the header, the text, and padding up to the alignment.
 fn size_for(len: usize) -> usize
     requires { len ≤ most_bytes }
     ensures exact { result ≡ block_size len }
@@ -70,8 +69,8 @@ impl<A: Allocator> Owner<A> {
     ghost use Rattle.counted_cell.specs.Reply.{IsReply};
     ghost use Rattle.counted_cell.specs.Ending.{IsEnding};
 
-    /// A cell with a copy of the text, and its first share. Without memory nothing is made. The note is for clauses alone, and
-    /// takes no memory. The grant says whether the cell gets more shares freely: a caller to whom that is a parameter can add none here.
+    /// A cell with a copy of the text, and its first share. Without memory, nothing is made. The note is for clauses only, and takes no memory. The
+    /// grant says whether the cell gets more shares freely: a caller that is generic over it can add none here.
     pub fn new<G: Grant>(
         alloc: A,
         label: Label,
@@ -116,7 +115,7 @@ impl<A: Allocator> Owner<A> {
         self.cell.get().text.as_str(self.cell.end())
     }
 
-    /// How many bytes its block has: those before the text, the text, and what fills up to the alignment.
+    /// The bytes of its block: those before the text, the text, and padding up to the alignment.
     pub fn block_size(&self) -> usize
         ensures exact { result ≡ block_size (length self.now.text) }
         ensures few { result < 2 ^ 63 }
@@ -132,7 +131,7 @@ impl<A: Allocator> Owner<A> {
         CountSeen { seen, reading }
     }
 
-    /// A permit, where the cell gets more shares, as each that `new` makes for free grants. It does nothing when it runs.
+    /// A permit. The cell must get more shares, as each that `new` makes for free grants does. It does nothing when it runs.
     #[inline]
     pub fn permit(&self) -> Permit
         requires { self.now.name.grows ≡ true }
@@ -141,7 +140,7 @@ impl<A: Allocator> Owner<A> {
         self.cell.free()
     }
 
-    /// One share more of the cell, for the permit.
+    /// Adds a share of the cell, for the permit.
     #[inline]
     pub fn add<R: Wait>(&self, rt: &R, permit: Permit) -> ShareReply
         requires { permit.name ≡ self.now.name }
@@ -150,8 +149,8 @@ impl<A: Allocator> Owner<A> {
         ShareReply::one_more(rt, &self.cell, permit)
     }
 
-    /// One share more of the cell, for the permit, by a single try that waits for nothing. The permit is there again where another step on the
-    /// count came between, or the cell has no share, or as many as it may have. `add` tries on, and tells which.
+    /// Adds a share of the cell, for the permit, by a single try that waits for nothing. The permit is handed back if another step on the count came
+    /// between, or the cell has no share, or as many as it may have. `add` keeps trying, and tells which.
     #[inline]
     pub fn try_add(&self, permit: Permit) -> Result<CellShare, Permit>
         requires { permit.name ≡ self.now.name }
@@ -161,7 +160,7 @@ impl<A: Allocator> Owner<A> {
         CellShare::tried(&self.cell, permit)
     }
 
-    /// Where the count reads 0: that no share is left. Where it reads 1 or more: that one was.
+    /// If the count reads 0, what shows that no share is left. If it reads 1 or more, what shows that one was.
     pub fn dying(&self) -> Result<NoShares, SharesLeft>
         ensures dying { IfOk result (λ none. none ≡ self.now.name) }
         ensures held { IfErr result (λ some. some ≡ self.now.name) }
@@ -174,7 +173,7 @@ impl<A: Allocator> Owner<A> {
         }
     }
 
-    /// Ends the cell, by one load of the count: the block is freed where that is 0, and stays otherwise. It waits for nothing.
+    /// Ends the cell, by one load of the count: the block is freed if that is 0, and stays otherwise. It waits for nothing.
     pub fn finish(self) -> Ending
         ensures { IsEnding self.name result }
     {

@@ -35,7 +35,7 @@ pub(crate) fn fill<B>(room: Room<B>, value: B) -> PlacedValue<B>
     PlacedValue { ptr }
 }
 
-/// Moves the value out of its place, which is room then.
+/// Moves the value out of its place, which is then room.
 pub(crate) fn take<B>(placed: PlacedValue<B>) -> (Room<B>, B)
     ensures { (result.0.ptr ≡ placed.ptr) × (result.1 ≡ placed.value) }
 {

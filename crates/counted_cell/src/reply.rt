@@ -1,4 +1,4 @@
-//! What an addition of a share answers.
+//! What adding a share returns.
 ghost use Rattle.std.specs.Prelude.{◌≡◌, ◌<◌, ◌^◌};
 ghost use Rattle.counted_cell.specs.Counting.{CanRead};
 ghost use Rattle.counted_cell.specs.Cell.{IsBehind, cell_of};
@@ -9,20 +9,20 @@ use crate::evidence::{AtLimit, NoShares};
 use crate::share::CellShare;
 use std::sync::Wait;
 
-/// What an addition answers. It has no drop, since it may hold a share.
+/// What adding a share returns. It has no drop, since it may hold a share.
 pub enum ShareReply {
-    /// The count is one more, for this share, and this is what it was.
+    /// The count went up by one, for this share, and this is what it was before.
     Added(CellShare, Reading),
-    /// The count was read as 0, so there are no shares any more. Nothing was added: the permit is there.
+    /// The count was read as 0, so there are no shares any more. Nothing was added: the permit is handed back.
     Dying(NoShares, Permit),
-    /// The count was read as the limit. Nothing was added: the permit is there.
+    /// The count was read as the limit. Nothing was added: the permit is handed back.
     Full(AtLimit, Permit),
 }
 
 impl ShareReply {
     ghost use Rattle.counted_cell.specs.Reply.{IsReply};
 
-    /// One share more of the cell. Where another step came between, it tries again from the count that it found.
+    /// Adds a share of the cell. If another step came between, it tries again from the count that it found.
     #[inline]
     pub(crate) fn one_more<R: Wait>(rt: &R, cell: &CellRef<Content>, permit: Permit) -> ShareReply
         requires reads { CanRead cell.now.right }

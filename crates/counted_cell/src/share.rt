@@ -11,9 +11,9 @@ use crate::reply::ShareReply;
 use std::marker::Model;
 use std::sync::Wait;
 
-/// One of the shares that the count counts. It has no drop, so that it can be neither dropped nor forgotten by itself: `give`
-/// alone spends it. A struct of a caller's that holds one, with a drop of its own, can be forgotten, and the share with it: then the
-/// count never comes to 0 and the cell's block is never freed, which is a leak and no more. In a clause it is its cell, and its number.
+/// One of the shares that the count counts. It has no drop, so that it can be neither dropped nor forgotten by itself: only `give` spends it. A
+/// caller's struct that holds one and has a drop of its own can be forgotten, and the share with it: then the count never gets to 0 and the cell's
+/// block is never freed, which is a leak and no more. In a clause it is its cell and its number.
 pub struct CellShare {
     cell: CellRef<Content>,
 }
@@ -35,7 +35,7 @@ impl CellShare {
     ghost use Rattle.counted_cell.specs.Cell.{IsBehind, cell_of, share_of};
     ghost use Rattle.counted_cell.specs.CellEntry.{entry_of};
 
-    /// The share whose right it is.
+    /// The share whose right this is.
     pub(crate) fn of_ref(cell: CellRef<Content>) -> CellShare
         requires { (cell.right ≡ share_right) × (cell.value.label.limit ≡ cell.name.limit) × (cell.name.limit < 2 ^ 63) × IsBehind cell }
         ensures { result ≡ share_of cell }
@@ -64,7 +64,7 @@ impl CellShare {
         self.cell.get().text.as_str(self.cell.end())
     }
 
-    /// A permit, where the cell gets more shares, as each that `Owner::new` makes for free grants. It does nothing when it runs.
+    /// A permit. The cell must get more shares, as each that `Owner::new` makes for free grants does. It does nothing when it runs.
     #[inline]
     pub fn permit(&self) -> Permit
         requires { self.now.cell.name.grows ≡ true }
@@ -73,7 +73,7 @@ impl CellShare {
         self.cell.free()
     }
 
-    /// One share more of the same cell, for the permit. Where the cell has as many as it may have, the permit is there again.
+    /// Adds a share of the same cell, for the permit. If the cell has as many as it may have, the permit is handed back.
     #[inline]
     pub fn add<R: Wait>(&self, rt: &R, permit: Permit) -> Result<CellShare, (AtLimit, Permit)>
         requires { permit.name ≡ self.now.cell.name }
@@ -90,8 +90,8 @@ impl CellShare {
         }
     }
 
-    /// One share more of the same cell, for the permit, by a single try that waits for nothing. The permit is there again where another step on
-    /// the count came between, or the cell has as many as it may have. `add` tries on, and tells a full count.
+    /// Adds a share of the same cell, for the permit, by a single try that waits for nothing. The permit is handed back if another step on the count
+    /// came between, or the cell has as many as it may have. `add` keeps trying, and reports a full count.
     #[inline]
     pub fn try_add(&self, permit: Permit) -> Result<CellShare, Permit>
         requires { permit.name ≡ self.now.cell.name }
@@ -101,7 +101,7 @@ impl CellShare {
         CellShare::tried(&self.cell, permit)
     }
 
-    /// One share more of the cell, by a load and an exchange, where the count stands between 0 and the limit and no step comes between.
+    /// Adds a share of the cell, by a load and an exchange, if the count is between 0 and the limit and no step comes between.
     #[inline]
     pub(crate) fn tried(cell: &CellRef<Content>, permit: Permit) -> Result<CellShare, Permit>
         requires reads { CanRead cell.now.right }
@@ -137,7 +137,7 @@ impl CellShare {
         lives(seen, &self.cell)
     }
 
-    /// Takes the share off the count, and tells what that left.
+    /// Takes the share off the count, and returns what that left.
     #[inline]
     pub fn give(self) -> Given
         ensures receipt { (result.name ≡ self.cell.name) × (result.number ≡ self.number) }
@@ -176,7 +176,7 @@ impl Given {
     ghost use Rattle.std.specs.Prelude.{◌≡◌};
     ghost use Rattle.counted_cell.specs.Counting.{if_none_left};
 
-    /// The share's receipt. Where the share was the last one, also that no share is left.
+    /// The share's receipt and, if the share was the last one, what shows that no share is left.
     #[inline]
     pub fn parts(self) -> (Receipt, Option<NoShares>)
         ensures receipt { (result.0.name ≡ self.name) × (result.0.number ≡ self.number) }
@@ -194,7 +194,7 @@ impl Given {
         }
     }
 
-    /// Where the share was the last one: that no share is left.
+    /// If the share was the last one, what shows that no share is left. `None` otherwise.
     pub fn last(self) -> Option<NoShares>
         ensures { result ≡ if_none_left self }
     {

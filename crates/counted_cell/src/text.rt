@@ -5,8 +5,8 @@ ghost use Rattle.std.proofs.Props.{props};
 
 use crate::places::{Places, PlacesPtr};
 
-/// The owner of the bytes of a text, and how many they are. Where they lie is for its holder to know, since they stand at one
-/// distance behind a header. Its drop gives nothing back: the block's end does.
+/// The owner of the bytes of a text, and their number. Its holder knows where they are, at a fixed distance after a header. Its drop gives nothing
+/// back: the block's end does.
 #[derive(Drop)]
 pub struct Text {
     len: usize,
@@ -35,7 +35,7 @@ impl Text {
         }
     }
 
-    /// The text, as it lies in the block from `start` on. Nothing is copied or checked.
+    /// The text, as it is in the block from `start` on. Nothing is copied or checked.
     pub(crate) fn as_str(&self, start: PlacesPtr<u8>) -> &str
         requires { start.ptr ≡ self.now.places.at }
         ensures { result.now ≡ somes self.now.places.slots }
@@ -43,7 +43,7 @@ impl Text {
         unsafe { std::str::from_utf8_unchecked(self.places.slice(start, 0, self.len)) }
     }
 
-    /// How many bytes it has.
+    /// The number of its bytes.
     pub(crate) fn len(&self) -> usize
         ensures places { result ≡ length self.now.places.slots }
         ensures text { result ≡ length (somes self.now.places.slots) }
@@ -51,7 +51,7 @@ impl Text {
         self.len
     }
 
-    /// The bytes, and how many they are.
+    /// The number of the bytes, and the bytes.
     pub(crate) fn into_bytes(self) -> (usize, Places<u8>)
         ensures { (result.1 ≡ self.places) × (result.0 ≡ length self.places.slots) }
     {

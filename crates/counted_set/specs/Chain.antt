@@ -6,8 +6,8 @@ use Rattle.text_forms.specs.Tables.{Tables, entry_hash}
 use Rattle.text_forms.specs.Word.{ticket_of, IsTicket}
 use Rattle.counted_cell.specs.Counting.{CellName}
 
--- an entry: its ticket, its text, the hash of the text, the bits of the number of buckets that its bucket is one of, the
--- limit of its holders: how many shares of it there may be at a time, and the name of its cell, which no other entry has
+-- an entry: its ticket, its text, the hash of the text, the bits of the number of buckets that its bucket is one of, the limit of its holders (how
+-- many shares of it there may be at a time), and the name of its cell, which no other entry has
 pub record Linked : Type 0 where
   pub ticket : ℕ
   pub text : List ℕ
@@ -16,8 +16,7 @@ pub record Linked : Type 0 where
   pub limit : ℕ
   pub name : CellName
 
--- a bucket: the bits of the number of buckets that it is one of, its entries, newest first, and the serial that it gave last,
--- at first 0
+-- a bucket: the bits of the number of buckets that it is one of, its entries, newest first, and the last serial that it gave, at first 0
 pub record Chain : Type 0 where
   pub bits : ℕ
   pub entries : List Linked
@@ -27,8 +26,7 @@ pub record Chain : Type 0 where
 abbrev pub serial_of : ℕ → ℕ
 serial_of ticket = ticket / ticket_unit
 
--- the hash is that of the text under the tables, and the ticket is that of its serial in the bucket of the hash, the hash
--- modulo 2 ^ bits
+-- the hash is that of the text under the tables, and the ticket is that of its serial in the bucket of the hash, which is the hash modulo 2 ^ bits
 pub record IsRight (t : Tables) (e : Linked) : Type 0 where
   pub few : e.bits ≤ most_bits
   pub hash : e.hash ≡ entry_hash t e.text
@@ -43,12 +41,12 @@ IsRightOf t may bits e = (e.bits ≡ bits) × IsRight t e × may e.name
 abbrev pub IsNew : ℕ → List Linked → Type 0
 IsNew serial es = AllByRecursion (λ e. serial_of e.ticket ≢ serial) es
 
--- no two entries have one serial
+-- no two entries have the same serial
 abbrev pub SerialsDiffer : List Linked → Type 0
 SerialsDiffer [] = Unit {0}
 SerialsDiffer (e ∷ es) = IsNew (serial_of e.ticket) es × SerialsDiffer es
 
--- what a bucket keeps under a static type with these tables, where shares may be added to these cells
+-- what a bucket keeps under a static type with these tables, if shares may be added to these cells
 pub record IsKept (t : Tables) (may : CellName → Type 0) (c : Chain) : Type 0 where
   pub few : c.bits ≤ most_bits
   pub right : AllByRecursion (IsRightOf t may c.bits) c.entries

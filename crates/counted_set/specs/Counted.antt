@@ -13,6 +13,7 @@ reply_of (Added s) = added s
 reply_of (Dying shown grant) = died
 reply_of (Full shown grant) = full
 
+-- what `dying` answers, as a reply of a pass: with what shows it that the entry is gone, without that it stays
 abbrev pub reply_by : {S D : Type 0} → Option D → PassReply S
 reply_by (Some shown) = gone
 reply_by None = stays
@@ -25,12 +26,13 @@ IfAdded died P = ⊤
 IfAdded gone P = ⊤
 IfAdded stays P = ⊤
 
--- P holds of what shows that an entry has no share left, and of what shows that it has as many as it may have
+-- P holds of what shows that an entry has no share left
 abbrev pub IfDying : {S D F G : Type 0} → CountReply S D F G → (D → Type 0) → Type 0
 IfDying (Added s) P = ⊤
 IfDying (Dying shown grant) P = P shown
 IfDying (Full shown grant) P = ⊤
 
+-- P holds of what shows that the limit was told
 abbrev pub IfFull : {S D F G : Type 0} → CountReply S D F G → (F → Type 0) → Type 0
 IfFull (Added s) P = ⊤
 IfFull (Dying shown grant) P = ⊤
@@ -53,13 +55,12 @@ IfFound (found s) P = P s
 IfFound found_full P = ⊤
 IfFound absent P = ⊤
 
--- By which replies about an entry one state of the counts is left for another is given by a relation.
--- What is added is a share of the entry that is asked about.
+-- A relation says which replies about an entry take one state of the counts to another. What is added is a share of the entry that is asked about.
 abbrev pub GivesShares : {C : Type 0} → (C → Linked → PassReply Linked → C → Type 0) → Type 0
 GivesShares {C} gives = (c : C) (e : Linked) (r : PassReply Linked) (d : C) → gives c e r d → IfAdded r (λ share. share ≡ e)
 
 module _ {C S : Type 0} (gives : C → Linked → PassReply S → C → Type 0) where
-  -- calls about these entries, one after another, may give these replies, and leave d of c
+  -- calls about these entries, one after another, may give these replies, and turn c into d
   abbrev pub Replied : C → List Linked → List (PassReply S) → C → Type 0
   Replied c [] [] d = c ≡ d
   Replied c [] (r ∷ rs) d = ⊥

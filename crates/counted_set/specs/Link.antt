@@ -9,7 +9,7 @@ use Rattle.counted_cell.specs.Counting.{CellName}
 use Rattle.counted_set.specs.Chain.{Linked, Chain}
 use Rattle.counted_set.specs.Counted.{IsPass}
 
--- what was answered, beside the grant that an answer without a share hands back
+-- what was answered, apart from the grant that an answer without a share hands back
 abbrev pub answer_of : {S G : Type 0} → Result S (Fault × G) → Result S Fault
 answer_of (Ok s) = Ok s
 answer_of (Err refused) = Err refused.0
@@ -18,12 +18,12 @@ answer_of (Err refused) = Err refused.0
 abbrev pub next_entry : Chain → List ℕ → ℕ → ℕ → CellName → Linked
 next_entry c text hash holders name = record { ticket = ticket_of (c.last + 1) (hash % 2 ^ c.bits); text = text; hash = hash; bits = c.bits; limit = holders; name = name }
 
--- the bucket with that entry as its head, and the serial given
+-- the bucket with that entry as its head, and with the serial given
 abbrev pub with_next : Chain → List ℕ → ℕ → ℕ → CellName → Chain
 with_next c text hash holders name = record { bits = c.bits; entries = next_entry c text hash holders name ∷ c.entries; last = c.last + 1 }
 
--- Linking answers a share of the new head, which has the limit of holders. The tickets are spent exactly where the last serial
--- is at the limit of serials; any other refusal is for want of memory. A refusal leaves the bucket.
+-- Linking answers a share of the new head, which has the limit of holders. The tickets are spent exactly if the last serial
+-- is at the limit of serials; any other refusal is for lack of memory. A refusal leaves the bucket.
 abbrev pub IsLink : Bounds → List ℕ → ℕ → Chain → Result Linked Fault → Chain → Type 0
 IsLink limits text hash c (Ok s) d = (c.last < limits.serials) × (s ≡ next_entry c text hash limits.holders s.name) × (d ≡ with_next c text hash limits.holders s.name)
 IsLink limits text hash c (Err Memory) d = (c.last < limits.serials) × (d ≡ c)
@@ -31,13 +31,13 @@ IsLink limits text hash c (Err TicketsSpent) d = (limits.serials ≤ c.last) × 
 IsLink limits text hash c (Err FullCount) d = ⊥
 IsLink limits text hash c (Err NotText) d = ⊥
 
--- what interning answers and leaves after a pass that finds this
+-- what interning returns and leaves after a pass that finds this
 abbrev pub GoesOn : Bounds → List ℕ → ℕ → Chain → Outcome Linked → Result Linked Fault → Chain → Type 0
 GoesOn limits text hash c (found s) r d = (r ≡ Ok s) × (d ≡ c)
 GoesOn limits text hash c found_full r d = (r ≡ Err FullCount) × (d ≡ c)
 GoesOn limits text hash c absent r d = IsLink limits text hash c r d
 
--- interning is a pass for the text, and links where it is absent
+-- interning is a pass for the text, and links if it is absent
 pub record IsIntern {C : Type 0} (gives : C → Linked → PassReply Linked → C → Type 0)
     (limits : Bounds) (text : List ℕ) (hash : ℕ) (k : C) (c : Chain) (r : Result Linked Fault) (l : C) (d : Chain) : Type 0 where
   pub finds : Outcome Linked

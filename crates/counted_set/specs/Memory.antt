@@ -1,4 +1,4 @@
--- How many bytes the entries of a bucket take.
+-- The bytes that the entries of a bucket take.
 use Rattle.std.specs.Prelude.{◌≡◌, ℕ, ◌+◌, ◌*◌, ◌<◌, ◌≤◌, List, [], ◌∷◌, length}
 use Rattle.counted_cell.specs.Cell.{block_size}
 use Rattle.counted_set.specs.Chain.{Linked}
@@ -12,7 +12,7 @@ abbrev pub cells_size : List Linked → ℕ
 cells_size [] = 0
 cells_size (e ∷ es) = block_size (length e.text) + cells_size es
 
--- the bytes of the cells, and of some nodes: each has an entry, and there is one where there are entries
+-- the bytes of the cells, and of some nodes: each has an entry, and there is one if there are entries
 pub record IsMemory (es : List Linked) (bytes : ℕ) : Type 0 where
   pub nodes : ℕ
   pub few : nodes ≤ length es

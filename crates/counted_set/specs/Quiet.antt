@@ -12,17 +12,17 @@ IsMetAt place Nothing = ⊤
 IsMetAt place (Dying at shown) = at ≡ place
 IsMetAt place (Alike at) = at ≡ place
 
--- what was met is taken out where it is dying
+-- what was met is taken out if it is dying
 abbrev pub TakesOutDying : {D : Type 0} → Option (Met D) → Walked Linked → Walked Linked → Type 0
 TakesOutDying None w v = v ≡ w
 TakesOutDying (Some Nothing) w v = v ≡ w
 TakesOutDying (Some (Dying at shown)) w v = v ≡ taken_out w w.left
 TakesOutDying (Some (Alike at)) w v = v ≡ w
 
--- By which replies one state of the counts is left for another is given by a relation, and by another, what shows that an entry has no share
--- left. A hash is wanted, or none.
+-- One relation says which replies take one state of the counts to another, and a second one what shows that an entry has no share left. A hash is
+-- wanted, or none.
 module _ {C S D : Type 0} (gives : C → Linked → PassReply S → C → Type 0) (shows : Linked → D → Type 0) (wanted : Option ℕ) where
-  -- an entry, which hasn't the wanted hash, is asked and gives this reply
+  -- an entry that doesn't have the wanted hash is asked and gives this reply
   abbrev pub IsAsked : C → Linked → PassReply S → C → Type 0
   IsAsked c e reply d = (wanted ≢ Some e.hash) × gives c e reply d
 
@@ -39,7 +39,7 @@ module _ {C S D : Type 0} (gives : C → Linked → PassReply S → C → Type 0
   Ends c [] (Alike at) d = ⊥
   Ends c (e ∷ es) (Alike at) d = (wanted ≡ Some e.hash) × (c ≡ d)
 
-  -- entries that stand in a node from a place on are asked until one is met: those before it are quiet
+  -- the entries of a node from a place on are asked until one is met: those before it are quiet
   pub record Meets (place : ℕ) (c : C) (es : List Linked) (met : Met D) (d : C) : Type 0 where
     pub quiet : List Linked
     pub left : List Linked
@@ -49,7 +49,7 @@ module _ {C S D : Type 0} (gives : C → Linked → PassReply S → C → Type 0
     pub ends : Ends before left met d
     pub at : IsMetAt (place + length quiet) met
 
-  -- of the entries that are left, those of the first node are asked, and those that are quiet are passed by
+  -- of the entries that are left, those of the first node are asked, and those that are quiet are passed
   pub record MeetsInNode (c : C) (w : Walked Linked) (met : Met D) (d : C) (u : Walked Linked) : Type 0 where
     pub place : ℕ
     pub node : List Linked
@@ -65,7 +65,7 @@ module _ {C S D : Type 0} (gives : C → Linked → PassReply S → C → Type 0
   PassesQuiet c w None d u = (w.left ≡ []) × (u ≡ w) × (c ≡ d)
   PassesQuiet c w (Some met) d u = MeetsInNode c w met d u
 
-  -- and what is met then is taken out where it is dying
+  -- and what is then met is taken out if it is dying
   pub record PassesOthers (c : C) (w : Walked Linked) (d : C) (v : Walked Linked) : Type 0 where
     pub met : Option (Met D)
     pub before : Walked Linked

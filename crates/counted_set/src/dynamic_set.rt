@@ -1,6 +1,6 @@
 //! The set of dynamic texts, shared by threads: buckets of counted entries, each bucket behind a lock of its own.
 //!
-//! What is hidden here is public for proofs and tests alone: no user needs it.
+//! What is hidden here is public only for proofs and tests: no user needs it.
 
 mod bucket;
 mod counts;

@@ -1,5 +1,5 @@
-//! The set of dynamic texts: buckets of counted entries, each behind a lock, and the shares that keep entries. `string_cache`, whose
-//! atoms stand on it, gives the module `dynamic_set` again.
+//! The set of dynamic texts: buckets of counted entries, each behind a lock, and the shares that keep entries. `string_cache`, whose atoms build on
+//! it, re-exports the module `dynamic_set`.
 #![tactic(auto)]
 
 pub mod dynamic_set;

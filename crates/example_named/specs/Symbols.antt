@@ -20,10 +20,10 @@ IsUndeclared declared text = All (λ (name : HeldWord). name.text ≢ text) (key
 abbrev pub HasOnly : Declared → ℕ → Type 0
 HasOnly declared word = (other : ℕ) → other ≢ word → number_at declared other ≡ None
 
--- what is found of a text where one text alone was declared, and stands for this: the same exactly if the two are one text
+-- what is found for a text if only one text was declared, and stands for this: the same exactly if the two texts are the same
 abbrev pub IsFound : List ℕ → Option ℕ → List ℕ → Option ℕ → Type 0
 IsFound declared number asked found = (asked ≡ declared → found ≡ number) × (asked ≢ declared → found ≡ None)
 
--- What a reader of the map is told of a text: a word of it, and what that word stands for. If no name has the text, it stands for nothing.
+-- What a reader of the map is told about a text: a word of it, and what that word stands for. If no name has the text, it stands for nothing.
 abbrev pub IsTold : Declared → List ℕ → HeldWord → Option ℕ → Type 0
 IsTold declared text name number = (name.text ≡ text) × (number ≡ number_at declared name.word) × (IsUndeclared declared text → number ≡ None)

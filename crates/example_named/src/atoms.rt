@@ -6,7 +6,7 @@ use set_atoms::{SetAtom, TextSet};
 use std::sync::Wait;
 use text_forms::Fault;
 
-/// Whether two names are one, by atoms of a borrowed set of either kind. Once they are interned in one with a name, neither text is read.
+/// Whether two names are the same, by atoms of a borrowed set of either kind. Once they are interned in a set with a name, neither text is read.
 pub fn are_one_name<S: TextSet, R: Wait>(
     rt: &R,
     set: S,

@@ -12,9 +12,9 @@ use std::marker::Brand;
 use std::sync::Wait;
 use std::thread::{self, Threads};
 use text_forms::Fault;
-use text_forms::word::{Buckets, Limits};
+use text_forms::word::Limits;
 
-/// Whether the words are all equal that as many threads are given for these texts in one set: exactly if the texts are.
+/// Whether the words that as many threads get for these texts in one set are all equal: exactly if the texts are.
 pub fn crew_agrees<R: Threads + Wait + Sync>(
     rt: &R,
     alloc: Global,
@@ -22,7 +22,7 @@ pub fn crew_agrees<R: Threads + Wait + Sync>(
 ) -> Result<bool, Fault>
     ensures { IfOk result (λ same. IsTrue same ↔ AreOneText (map string_bytes texts.now.items)) }
 {
-    let name = FreshName::new(alloc, Buckets::usual())?;
+    let name = FreshName::usual(alloc)?;
     crew_agrees_named::<Brand, R>(rt, alloc, name, texts)
 }
 
@@ -67,7 +67,7 @@ fn intern_all<'s, N: SetName + Send + Sync, R: Threads + Wait + Sync>(
     Ok(words)
 }
 
-// What each of the threads gave.
+// What each of the threads returned.
 fn intern_each<'s, N: SetName + Send + Sync, R: Threads + Wait + Sync>(
     rt: &R,
     alloc: Global,

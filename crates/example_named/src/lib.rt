@@ -1,5 +1,5 @@
-//! Small programs over a set with a name, as its users write them. Each has a contract that is proved from the contracts of
-//! `named_set` and `set_atoms` alone. The tests that run them are in `crates/test_examples`.
+//! Small programs over a set with a name, as its users write them. Each has a contract that is proved only from the contracts of `named_set` and
+//! `set_atoms`. The tests that run them are in `crates/test_examples`.
 #![tactic(auto)]
 
 mod atoms;

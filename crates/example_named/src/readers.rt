@@ -15,9 +15,9 @@ use std::marker::Brand;
 use std::sync::Wait;
 use std::thread::{self, Threads};
 use text_forms::Fault;
-use text_forms::word::{Buckets, Limits};
+use text_forms::word::Limits;
 
-/// What a reader is told of a text.
+/// What a reader is told about a text.
 #[derive(Drop)]
 pub struct Told<'s, N: SetName> {
     /// A word of the text.
@@ -26,8 +26,7 @@ pub struct Told<'s, N: SetName> {
     pub number: Option<u32>,
 }
 
-/// What each of these texts stands for, as a thread of its own is told that interns the text and looks the word up. All threads read
-/// one map.
+/// What each of these texts stands for, as told to a thread of its own that interns the text and looks up the word. All threads read one map.
 pub fn look_up_all<'s, N: SetName + Send + Sync, R: Threads + Wait + Sync>(
     rt: &R,
     alloc: Global,
@@ -61,7 +60,7 @@ fn ask_each<'s, N: SetName + Send + Sync, R: Threads + Wait + Sync>(
     )
 }
 
-// What a thread does: it interns one of the texts, and looks its word up.
+// What a thread does: it interns one of the texts, and looks up its word.
 fn ask<'s, N: SetName, R: Wait>(
     rt: &R,
     set: &'s Texts<N>,
@@ -77,7 +76,7 @@ fn ask<'s, N: SetName, R: Wait>(
     Ok(Told { name, number })
 }
 
-/// Declares one text, and has each of the others looked up by a thread of its own, all in one map: those are found that are the one.
+/// Declares one text, and has each of the others looked up by a thread of its own, all in one map: those that are the same text are found.
 pub fn declare_and_look_up_all<R: Threads + Wait + Sync>(
     rt: &R,
     alloc: Global,
@@ -88,7 +87,7 @@ pub fn declare_and_look_up_all<R: Threads + Wait + Sync>(
 ) -> Result<Vec<Option<u32>>, Fault>
     ensures { IfOk result (λ all. AllZip (λ text found. IsFound (string_bytes declared.now) (Some number) (string_bytes text) found) texts.now.items all.items) }
 {
-    let name = FreshName::new(alloc, Buckets::usual())?;
+    let name = FreshName::usual(alloc)?;
     declare_and_look_up_all_named::<Brand, R>(rt, alloc, keys, name, declared, number, texts)
 }
 
@@ -150,7 +149,7 @@ fn find_each<N: SetName + Send + Sync, R: Threads + Wait + Sync>(
     )
 }
 
-// What a thread finds of one of the texts beside the one that is held.
+// What a thread finds for one of the texts, besides the one that is held.
 fn find<N: SetName, R: Wait>(
     rt: &R,
     set: &Texts<N>,

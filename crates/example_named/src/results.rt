@@ -1,4 +1,4 @@
-//! What many calls gave.
+//! What many calls returned.
 
 ghost use Rattle.std.specs.Prelude.{◌≡◌, IfOk};
 ghost use Rattle.example_named.specs.Results.{oks};

@@ -13,11 +13,10 @@ use std::marker::{Brand, Model};
 use std::sync::Wait;
 use std::thread::{self, Threads};
 use text_forms::Fault;
-use text_forms::word::{Buckets, Limits};
+use text_forms::word::Limits;
 
-/// What names stand for. It is a map by words: a call hashes one number and compares it, and reads no text. It hashes under random keys:
-/// under a fixed seed, names can be chosen whose words collide. In a clause it is what is declared: each name as a held word, with what it
-/// stands for.
+/// What names stand for. It is a map by words: a call hashes one number and compares it, and reads no text. It hashes under random keys: under a
+/// fixed seed, names whose words collide can be chosen. In a clause it is what is declared: each name as a held word, with what it stands for.
 #[derive(Drop)]
 pub struct Symbols<'s, N: SetName> {
     numbers: HashMap<Word<'s, N>, u32, RandomState>,
@@ -41,8 +40,8 @@ impl<'s, N: SetName> Symbols<'s, N> {
         }
     }
 
-    /// Declares a name, and holds its word. A name that is declared already stands for this number from now on. It is refused for
-    /// `Memory` alone, and then nothing changes.
+    /// Declares a name, and holds its word. A name that is already declared stands for this number from now on. The only error is `Memory`, and then
+    /// nothing changes.
     pub fn declare(&mut self, name: Word<'s, N>, number: u32) -> Result<(), Fault>
         ensures number { OnOk result (number_at self.new name.entry.word ≡ Some number) }
         ensures others { OnOk result ((word : ℕ) → word ≢ name.entry.word → number_at self.new word ≡ number_at self.old word) }
@@ -54,7 +53,7 @@ impl<'s, N: SetName> Symbols<'s, N> {
         Ok(())
     }
 
-    /// What a word stands for. It is nothing if no name has the word's text.
+    /// What a word stands for. `None` if no name has the word's text.
     pub fn look_up(&self, name: &Word<N>) -> Option<u32>
         ensures number { result ≡ number_at self.now name.now.word }
         ensures undeclared { IsUndeclared self.now name.now.text → result ≡ None }
@@ -69,7 +68,7 @@ impl<'s, N: SetName> Symbols<'s, N> {
     }
 }
 
-/// Declares one text in symbols without names, whose map is under these keys, and looks another up: it is found exactly if the two are one text.
+/// Declares one text in symbols without names, whose map is under these keys, and looks up another: it is found exactly if the two are the same text.
 pub fn declare_and_look_up<R: Wait>(
     rt: &R,
     alloc: Global,
@@ -80,7 +79,7 @@ pub fn declare_and_look_up<R: Wait>(
 ) -> Result<Option<u32>, Fault>
     ensures { IfOk result (λ found. IsFound (string_bytes declared.now) (Some number) (string_bytes asked.now) found) }
 {
-    let name = FreshName::new(alloc, Buckets::usual())?;
+    let name = FreshName::usual(alloc)?;
     declare_and_look_up_named::<Brand, R>(rt, alloc, keys, name, declared, number, asked)
 }
 
@@ -127,7 +126,7 @@ fn declare_and_look_up_in<N: SetName, R: Wait>(
     Ok(found)
 }
 
-/// The same, where two threads intern the two texts at once.
+/// The same, but two threads intern the two texts at once.
 pub fn declare_and_look_up_by_threads<R: Threads + Wait + Sync>(
     rt: &R,
     alloc: Global,
@@ -138,7 +137,7 @@ pub fn declare_and_look_up_by_threads<R: Threads + Wait + Sync>(
 ) -> Result<Option<u32>, Fault>
     ensures { IfOk result (λ found. IsFound (string_bytes declared.now) (Some number) (string_bytes asked.now) found) }
 {
-    let name = FreshName::new(alloc, Buckets::usual())?;
+    let name = FreshName::usual(alloc)?;
     declare_and_look_up_by_threads_named::<Brand, R>(rt, alloc, keys, name, declared, number, asked)
 }
 
@@ -186,7 +185,7 @@ fn declare_and_look_up_by_threads_in<N: SetName + Send + Sync, R: Threads + Wait
     Ok(found)
 }
 
-// Declares one word in symbols without names, and looks another up.
+// Declares one word in symbols without names, and looks up another.
 fn look_up_beside<N: SetName>(
     alloc: Global,
     keys: RandomState,

@@ -9,9 +9,9 @@ use std::sync::Wait;
 use std::thread::{self, Threads};
 use text_forms::Fault;
 use text_forms::static_sets::EmptyStaticAtomSet;
-use text_forms::word::{Buckets, Limits};
+use text_forms::word::Limits;
 
-/// Whether the words are equal that two threads are given for two texts in one set: exactly if the texts are.
+/// Whether the words that two threads get for two texts in one set are equal: exactly if the texts are.
 pub fn are_one_word<R: Threads + Wait + Sync>(
     rt: &R,
     alloc: Global,
@@ -20,7 +20,7 @@ pub fn are_one_word<R: Threads + Wait + Sync>(
 ) -> Result<bool, Fault>
     ensures { IfOk result (λ same. IsTrue same ↔ (string_bytes left.now ≡ string_bytes right.now)) }
 {
-    let name = FreshName::new(alloc, Buckets::usual())?;
+    let name = FreshName::usual(alloc)?;
     are_one_word_named::<Brand, R>(rt, alloc, name, left, right)
 }
 

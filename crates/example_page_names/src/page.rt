@@ -35,7 +35,7 @@ fn role_of(word: u64) -> Role {
     }
 }
 
-/// What stands before the mark, or all where it doesn't stand there.
+/// What comes before the mark, or everything if there is none.
 fn before(text: &str, mark: char) -> &str {
     match text.split_once(mark) {
         Some((first, _)) => first,
@@ -43,13 +43,13 @@ fn before(text: &str, mark: char) -> &str {
     }
 }
 
-/// The name that a token of a tag begins with, as `href=/menu` or `/form`.
+/// The name that a token of a tag begins with, such as `href=/menu` or `/form`.
 fn name_of(token: &str) -> &str {
     let name = before(token, '=');
     name.strip_prefix('/').unwrap_or(name)
 }
 
-/// How many names in a tag have this role.
+/// The number of names in a tag that have this role.
 fn count_in_tag<S: StaticTables>(
     table: &mut Table<S>,
     tag: &str,
@@ -65,8 +65,8 @@ fn count_in_tag<S: StaticTables>(
     Ok(count)
 }
 
-/// How many names in the page have this role, and how many of its names the table holds, since they aren't in the list. Who wrote the
-/// page chose those, so they are found under these keys.
+/// How many names in the page have this role, and how many of its names the table holds because they aren't in the list. Whoever wrote the page chose
+/// those, so they are found under these keys.
 fn count_of<S: StaticTables>(
     alloc: Global,
     keys: RandomState,
@@ -95,7 +95,7 @@ const ROLES: [(Role, usize); 5] = [
     (Role::Other, 18),
 ];
 
-/// Each name of the page has its role, and the two that aren't in the list are all that the table holds.
+/// Each name in the page has its role, and the table holds only the two that aren't in the list.
 #[test]
 fn names_of_a_page_have_roles(rt: HostRuntime) {
     let keys = RandomState::new(&rt).expect(&rt, "keys");

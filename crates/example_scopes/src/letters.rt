@@ -1,9 +1,9 @@
-//! What the letters of a program in C are part of.
+//! What the letters of a C program are part of.
 
 /// What was read last.
 #[derive(Clone, Copy)]
 pub enum State {
-    /// White space, a sign, or the end of a text or of a comment.
+    /// White space, a sign, or the end of a string or a comment.
     Between,
     /// A name, or a word of the language.
     Name,
@@ -17,14 +17,14 @@ pub enum State {
     Comment,
     /// A `*` in such a comment.
     Star,
-    /// A text or a letter in these quotes.
+    /// A string or a character in these quotes.
     Quoted(char),
     /// A backslash between these quotes.
     Escape(char),
 }
 
 impl State {
-    /// What is read once this letter is.
+    /// The state after this letter.
     pub fn after(self, letter: char) -> State {
         match (self, letter) {
             (State::Line, '\n') => State::Between,
@@ -55,7 +55,7 @@ impl State {
     }
 }
 
-/// Whether a name may have the letter behind its first one.
+/// Whether a name may have the letter after its first one.
 fn is_in_name(letter: char) -> bool {
     letter.is_alphanumeric() || letter == '_'
 }

@@ -1,7 +1,7 @@
-//! The names of a program in C, block by block: each with the line where it comes first, and how often it comes.
+//! The names of a C program, block by block: each with the line where it first occurs, and how often it occurs.
 //!
-//! A name belongs to the block that is open where it comes first. Where a block ends, a line tells its lines, and one each of its names, in the
-//! order in which they came. Then they are released: the table holds what is in sight, and nothing else.
+//! A name belongs to the block that is open where it first occurs. When a block ends, one line tells its lines, and one more for each of its names,
+//! in the order in which they occurred. Then they are released: the table holds the names in scope, and nothing else.
 #![tactic(auto)]
 
 mod letters;
@@ -13,7 +13,7 @@ use std::alloc::Global;
 use std::hash::RandomState;
 use std::io::{Print, Read};
 
-/// A text as far as it was read.
+/// A text, as far as it was read.
 #[derive(Drop)]
 struct Reader {
     scopes: Scopes,
@@ -46,14 +46,14 @@ impl Reader {
         Ok(())
     }
 
-    /// Reads the whole text, and prints what is told of its names.
+    /// Reads the whole text, and prints what is told about its names.
     fn print_names(&mut self, rt: &impl Print, text: &str) -> Result<(), anyhow::Error> {
         self.read(text)?;
         print!(rt; "{}", self.scopes.lines())?;
         Ok(())
     }
 
-    /// Comes to what is next at this place of the text: a name may begin there, and one that ends there is seen.
+    /// Goes on to the next state at this place in the text: a name may begin there, and one that ends there is seen.
     fn pass(&mut self, text: &str, at: usize, next: State) -> Result<(), anyhow::Error> {
         let was_name = matches!(self.state, State::Name);
         let is_name = matches!(next, State::Name);
@@ -80,7 +80,7 @@ impl Reader {
     }
 }
 
-/// Prints the lines that tell of a text's names.
+/// Prints the lines about a text's names.
 fn print_names(
     rt: &impl Print,
     alloc: Global,

@@ -1,4 +1,4 @@
-//! Names in blocks, one in the other.
+//! Names in nested blocks.
 
 use crate::letters::is_keyword;
 use indexmap::IndexMap;
@@ -10,26 +10,26 @@ use std::fmt;
 use std::fmt::Write;
 use std::hash::RandomState;
 
-/// What is known of a name.
+/// What is known about a name.
 #[derive(Clone, Copy)]
 struct Usage {
-    /// Where it came first.
+    /// Where it first occurred.
     line: u64,
-    /// How often it came.
+    /// How often it occurred.
     times: u64,
 }
 
-/// An open block, with the names that came first in it.
+/// An open block, with the names that first occurred in it.
 #[derive(Drop)]
 struct Scope {
     /// Where it begins.
     line: u64,
-    /// By their words, each of which the table holds once. The word of a short name is its letters, so the map is under keys as well.
+    /// By their words, each of which the table holds once. The word of a short name is its letters, so the map hashes under keys too.
     names: IndexMap<u64, Usage, RandomState>,
 }
 
 impl Scope {
-    /// Counts a name once more. `false` where this block doesn't have it.
+    /// Counts a name once more. `false` if this block doesn't have it.
     fn count(&mut self, word: u64) -> bool {
         let Some(usage) = self.names.get_mut(&word) else {
             return false;
@@ -39,7 +39,7 @@ impl Scope {
     }
 }
 
-/// The blocks that are open, and what is told of those that ended.
+/// The blocks that are open, and what is told about those that ended.
 #[derive(Drop)]
 pub struct Scopes {
     alloc: Global,
@@ -50,7 +50,7 @@ pub struct Scopes {
 }
 
 impl Scopes {
-    /// No block. Who wrote the program chose its names, so the table and the blocks find them under these keys.
+    /// No blocks. Whoever wrote the program chose its names, so the table and the blocks find them under these keys.
     pub fn new(alloc: Global, keys: RandomState) -> Result<Self, Fault> {
         Ok(Scopes {
             alloc,
@@ -61,7 +61,7 @@ impl Scopes {
         })
     }
 
-    /// What is told of the blocks that ended.
+    /// What is told about the blocks that ended.
     pub fn lines(&self) -> &str {
         self.lines.as_str()
     }
@@ -73,7 +73,7 @@ impl Scopes {
         Ok(())
     }
 
-    /// A name comes in this line: once more in the block that has it, or first in the innermost one.
+    /// A name occurs in this line: once more in the block that has it, or for the first time in the innermost one.
     pub fn see(&mut self, name: &str, line: u64) -> Result<(), anyhow::Error> {
         if is_keyword(name) {
             return Ok(());
@@ -90,7 +90,7 @@ impl Scopes {
         Ok(())
     }
 
-    /// Counts a name once more, in the innermost block that has it. `false` where none has.
+    /// Counts a name once more, in the innermost block that has it. `false` if none has.
     fn count(&mut self, word: u64) -> bool {
         for scope in self.open.iter_mut().rev() {
             if scope.count(word) {
@@ -100,7 +100,7 @@ impl Scopes {
         false
     }
 
-    /// The innermost block ends in this line. An end that no block has is overlooked.
+    /// The innermost block ends in this line. An end without a block is ignored.
     pub fn close(&mut self, line: u64) -> Result<(), anyhow::Error> {
         if self.open.len() > 1 {
             self.end_last(line)?;
@@ -116,7 +116,7 @@ impl Scopes {
         Ok(())
     }
 
-    /// Tells of the names of the innermost block, and gives them up.
+    /// Lists the names of the innermost block, and gives them up.
     fn end_last(&mut self, line: u64) -> fmt::Result {
         match self.open.pop() {
             Some(scope) => self.tell(&scope, line),
@@ -124,7 +124,7 @@ impl Scopes {
         }
     }
 
-    /// Tells of the names of a block that ends in this line, and gives them up.
+    /// Lists the names of a block that ends in this line, and gives them up.
     fn tell(&mut self, scope: &Scope, line: u64) -> fmt::Result {
         if !scope.names.is_empty() {
             writeln!(self.lines, "lines {} to {line}", scope.line)?;
@@ -135,7 +135,7 @@ impl Scopes {
         Ok(())
     }
 
-    /// Tells of a name, and gives it up.
+    /// Lists a name, and gives it up.
     fn tell_name(&mut self, word: u64, usage: &Usage) -> fmt::Result {
         if let Some(name) = self.table.text_of(word) {
             writeln!(self.lines, "  {name} {} {}", usage.line, usage.times)?;

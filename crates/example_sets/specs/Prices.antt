@@ -1,4 +1,4 @@
--- What a map says of a name.
+-- What a map says about a name.
 use Rattle.std.specs.Prelude.{ℕ, List, Option}
 use Rattle.std.specs.Map.{lookup}
 use Rattle.std.specs.Str.{bytes_eq}

@@ -6,8 +6,8 @@ use counted_cell::{Owner, ShareReply};
 use std::alloc::Global;
 use std::sync::Wait;
 
-/// How long the cell's text is, as one share more of it sees it. `None` where the cell is dying or full. The cell gets more shares, as each
-/// does that `Owner::new` makes for free grants.
+/// The length of the cell's text, as one more share of it sees it. `None` if the cell is dying or full. The cell gets more shares, as each that
+/// `Owner::new` makes for free grants does.
 pub fn length_by_share<R: Wait>(rt: &R, owner: &Owner<Global>) -> Option<usize>
     requires { owner.now.name.grows ≡ true }
     ensures { IfSome result (λ len. len ≡ length owner.now.text) }

@@ -4,7 +4,7 @@ ghost use Rattle.std.specs.Prelude.{◌≡◌, ◌∷◌, IfNone, IfSome};
 
 use node_chain::NodeChain;
 
-/// The next item, taken out, where one is left.
+/// Takes out and returns the next item, if one is left.
 pub fn take_next(chain: &mut NodeChain<u64>) -> Option<u64>
     ensures taken { IfSome result (λ item. chain.old.left ≡ item ∷ chain.new.left) }
     ensures none { IfNone result (chain.new ≡ chain.old) }

@@ -8,7 +8,7 @@ use table_generator::check::check_tables;
 use table_generator::generate::generate;
 use table_generator::tables::{GenFault, Tables};
 
-/// The tables of the names, under the first of a hundred keys that has some.
+/// Tables of the names, under the first of a hundred keys for which there are some.
 pub fn tables_of_names(alloc: Global, names: &[&str]) -> Result<Tables, GenFault>
     ensures { (key : ℕ) × (key < 100) × TellsTables (texts_of names.now) key 1024 result }
 {
@@ -21,7 +21,7 @@ pub fn tables_of_names(alloc: Global, names: &[&str]) -> Result<Tables, GenFault
     generate(alloc, names, 99, 1024)
 }
 
-/// Whether the printed tables of some names are accepted: where none wants memory, they are.
+/// Whether the printed tables of some names are accepted: they are, unless memory runs out.
 pub fn prints_well(alloc: Global, names: &[&str], key: u64) -> Result<bool, GenFault>
     ensures { IfOk result (λ yes. IsTrue yes) }
 {

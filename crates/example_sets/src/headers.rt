@@ -1,4 +1,4 @@
-//! Names in small letters.
+//! Names in lower case.
 
 ghost use Rattle.std.specs.Prelude.{◌≡◌, IfOk};
 ghost use Rattle.std.specs.Str.{str_to_ascii_lowercase};
@@ -7,7 +7,7 @@ use std::sync::Wait;
 use string_cache::dynamic_set::Set;
 use string_cache::{DefaultAtom, EmptyStaticAtomSet, Fault};
 
-/// The name of a header as it is looked up: in small letters.
+/// The name of a header as it is looked up: in lower case.
 pub fn header_name<'s, R: Wait>(
     rt: &R,
     set: &'s Set<EmptyStaticAtomSet>,

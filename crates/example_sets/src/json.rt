@@ -26,7 +26,7 @@ pub fn through_json<'s, R: Wait>(
     DefaultAtom::from_json_in(rt, set, &value)
 }
 
-/// The JSON text of an atom. What reads it gets the atom's text.
+/// The JSON text of an atom. Whoever reads it gets the atom's text.
 pub fn save(alloc: Global, atom: &DefaultAtom) -> Result<String, Fault>
     ensures { IfOk result (λ json. read (string_bytes json) ≡ Some (string atom.now.text)) }
 {
@@ -53,7 +53,7 @@ pub struct Priced<'s> {
     pub price: u32,
 }
 
-/// The JSON text of a price, as `{"name":"tea","price":3}`.
+/// The JSON text of a price, such as `{"name":"tea","price":3}`.
 pub fn priced_json(alloc: Global, priced: &Priced<'_>) -> Result<String, Error> {
     serde_json::to_string(alloc, priced)
 }

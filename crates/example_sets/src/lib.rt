@@ -1,5 +1,5 @@
-//! Small programs over `string_cache` and the crates that it stands on, as their users write them. Each has a contract that is
-//! proved from the contracts of the libraries alone. The tests that run them are `test_example_sets`.
+//! Small programs over `string_cache` and the crates that it builds on, as their users write them. Each has a contract that is proved only from the
+//! contracts of the libraries. The tests that run them are `test_example_sets`.
 #![tactic(auto)]
 
 ghost use Rattle.std.specs.Prelude.{◌≡◌, ◌≢◌, ◌↔◌, codes, IfOk, IsTrue, None, Some};
@@ -38,10 +38,10 @@ use string_cache::dynamic_set::Set;
 use string_cache::{DefaultAtom, Fault};
 pub use tags::{TAGS, Tag, Tags, finds_all, is_field};
 
-/// How one name stands to another.
+/// How one name compares to another.
 #[derive(Clone, Copy, PartialEq, Eq, Debug)]
 pub struct Compared {
-    /// They are one text.
+    /// They are the same text.
     pub is_same: bool,
     /// Which of them comes first.
     pub order: Ordering,

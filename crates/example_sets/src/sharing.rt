@@ -41,7 +41,7 @@ fn intern<'s, R: Wait>(
     Ok(second)
 }
 
-/// What a worker promises: where it isn't refused, an atom of this text.
+/// What a worker promises: an atom of this text, unless it is refused.
 #[derive(Clone, Copy)]
 struct AtomOf<'t>(&'t str);
 

@@ -1,4 +1,4 @@
-//! A static type of one's own.
+//! A static type of your own.
 
 ghost use Rattle.std.specs.Prelude.{◌≡◌, ◌<◌, ◌⊎◌, ◌↔◌, codes, length, IsTrue};
 ghost use Rattle.std.specs.List.{All, Contains};
@@ -7,7 +7,7 @@ ghost use Rattle.example_sets.specs.Tags.{tag_tables};
 
 use string_cache::{Atom, PhfStrSet, StaticAtomSet, StaticTables};
 
-/// The tags that are known when the program is built. Each stands at its place: `TAGS.check()` says so.
+/// The tags that are known when the program is built. Each is at its place: `TAGS.check()` says so.
 pub static TAGS: PhfStrSet = PhfStrSet {
     key: 0,
     disps: &[(1, 0), (0, 1)],

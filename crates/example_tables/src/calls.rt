@@ -11,7 +11,7 @@ use interner_table::Fault;
 use interner_table::static_sets::StaticTables;
 use interner_table::table::{Call, Table, TableReply};
 
-/// Makes some calls: whether each was done.
+/// Makes some calls, and returns whether each was done.
 pub fn all_done<S: StaticTables>(table: &mut Table<S>, calls: &[Call]) -> Result<bool, Fault>
     ensures done { IfOk result (λ done. (replies : List TableReply) × AnswersAll S.tables table.old.limits (map_of table.old) calls.now replies (map_of table.new) × (IsTrue done ↔ All IsDone replies)) }
     ensures refused { OnErr result (table.new ≡ table.old) }

@@ -1,4 +1,4 @@
-//! The names of a program, of kinds that aren't mixed up.
+//! The names of a program, of kinds that can't be mixed up.
 
 ghost use Rattle.std.specs.Prelude.{◌≡◌, ◌↔◌, ℕ, IfOk, IfSome, IsSome, IsTrue, MatchOption, OnErr, length};
 ghost use Rattle.interner_table.specs.Kept.{map_of};
@@ -14,7 +14,7 @@ use interner_table::table::{Name, Names, Table};
 use std::alloc::Global;
 use std::hash::RandomState;
 
-/// Where a function stands.
+/// Where a function is.
 pub enum File {}
 
 /// What is called.
@@ -28,7 +28,7 @@ pub struct Program {
 }
 
 impl Program {
-    /// One without names, whose texts an outsider may write: they are found under these keys.
+    /// A program without names. An outsider may write their texts, so they are found under these keys.
     pub fn new(alloc: Global, keys: RandomState) -> Result<Self, Fault>
         ensures files { IfOk result (λ program. map_of program.files.table ≡ empty_map usual_buckets) }
         ensures functions { IfOk result (λ program. map_of program.functions.table ≡ empty_map usual_buckets) }
@@ -39,7 +39,7 @@ impl Program {
         })
     }
 
-    /// One with the names that two tables hold.
+    /// A program with the names that two tables hold.
     pub fn of_tables(files: Table<EmptyStaticAtomSet>, functions: Table<EmptyStaticAtomSet>) -> Self
         ensures files { result.files.table ≡ files }
         ensures functions { result.functions.table ≡ functions }
@@ -50,7 +50,7 @@ impl Program {
         }
     }
 
-    /// The names of a function and of the file where it stands. They are no numbers that can be taken for each other.
+    /// The names of a function and of the file that it is in. They aren't numbers that can be mistaken for each other.
     pub fn declare(
         &mut self,
         file: &str,
@@ -62,14 +62,14 @@ impl Program {
         Ok((self.files.intern(file)?, self.functions.intern(function)?))
     }
 
-    /// The name of a function that was declared. `None` of a text that has none.
+    /// The name of a function that was declared. `None` for a text that has none.
     pub fn function(&self, text: &str) -> Option<Name<Function>>
         ensures { MatchOption result ((word : ℕ) → ¬ (HasWord empty_tables (map_of self.now.functions.table) text.now word)) (λ name. HasWord empty_tables (map_of self.now.functions.table) text.now name.word) }
     {
         self.functions.get(text)
     }
 
-    /// The name of a function, by its word as it was saved. `None` of any other number.
+    /// The name of a function, by its saved word. `None` for any other number.
     pub fn function_of_word(&self, word: u64) -> Option<Name<Function>>
         ensures held { IsSome result ↔ IsHeld empty_tables (map_of self.now.functions.table) word }
         ensures word { IfSome result (λ name. name.word ≡ word) }
@@ -77,14 +77,14 @@ impl Program {
         self.functions.name_of(word)
     }
 
-    /// The word of a function's name, to be saved.
+    /// The word of a function's name, for saving.
     pub fn word_of(function: Name<Function>) -> u64
         ensures { result ≡ function.word }
     {
         function.word()
     }
 
-    /// How many bytes the text of a function's name has. `None` where the function was forgotten.
+    /// The bytes of the text of a function's name. `None` if the function was forgotten.
     pub fn length_of(&self, function: Name<Function>) -> Option<usize>
         ensures { IsLengthOf empty_tables (map_of self.now.functions.table) function.word result }
     {
@@ -94,7 +94,7 @@ impl Program {
         }
     }
 
-    /// Declares a function once more: whether it was there. It then has to be forgotten once more.
+    /// Declares a function once more, and returns whether it was there. It then has to be forgotten once more.
     #[tactic(auto, unfolding(interner_table::specs::Table::IsHeld))]
     pub fn declare_again(&mut self, function: Name<Function>) -> Result<bool, Fault>
         ensures held { IfOk result (λ there. IsTrue there ↔ IsHeld empty_tables (map_of self.old.functions.table) function.word) }
@@ -103,7 +103,7 @@ impl Program {
         Ok(self.functions.clone_held(function)?.is_some())
     }
 
-    /// Forgets a function that was declared: whether it was there.
+    /// Forgets a function that was declared, and returns whether it was there.
     pub fn forget(&mut self, function: Name<Function>) -> bool
         ensures { IsTrue result ↔ IsHeld empty_tables (map_of self.old.functions.table) function.word }
     {
@@ -118,7 +118,7 @@ impl Program {
         self.functions.clear();
     }
 
-    /// How many functions there are with names of more than 7 bytes.
+    /// The number of functions with names of more than 7 bytes.
     pub fn functions(&self) -> usize
         ensures { result ≡ length self.now.functions.table.pairs }
     {

@@ -10,7 +10,7 @@ use interner_table::table::Table;
 use std::alloc::Global;
 use std::hash::RandomState;
 
-/// Whether two identifiers have one word: exactly if they are one text.
+/// Whether two identifiers have the same word: exactly if they are the same text.
 pub fn same_word(alloc: Global, keys: RandomState, left: &str, right: &str) -> Result<bool, Fault>
     ensures { IfOk result (λ same. IsTrue same ↔ (left.now ≡ right.now)) }
 {

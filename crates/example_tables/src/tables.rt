@@ -1,4 +1,4 @@
-//! The names of a program as a table keeps them: found without a holder more, and read by several threads.
+//! The names of a program as a table keeps them: found without adding a holder, and read by several threads.
 
 ghost use Rattle.std.specs.Prelude.{◌≡◌, ◌↔◌, ℕ, IfSome, IsTrue, Some};
 ghost use Rattle.interner_table.specs.Kept.{map_of};
@@ -19,7 +19,7 @@ pub fn is_known<Static: StaticAtomSet>(table: &Table<Static>, name: &str) -> boo
     table.get(name).is_some()
 }
 
-/// The first of the dynamic texts that are held, in the table's order. `None` where none is.
+/// The first of the dynamic texts that are held, in the table's order. `None` if there are none.
 pub fn first_text<Static: StaticAtomSet>(table: &Table<Static>) -> Option<&str>
     ensures held { IfSome result (λ text. (had : Holding) × ((map_of table.now).held text.now ≡ Some had)) }
 {
@@ -27,7 +27,7 @@ pub fn first_text<Static: StaticAtomSet>(table: &Table<Static>) -> Option<&str>
     Some(held.text)
 }
 
-/// How many bytes the text of a word has. `None` where nobody holds it.
+/// The bytes of the text of a word. `None` if nobody holds it.
 fn length_of<Static: StaticAtomSet>(table: &Table<Static>, word: u64) -> Option<usize>
     ensures { IsLengthOf Static.tables (map_of table.now) word result }
 {
@@ -37,7 +37,7 @@ fn length_of<Static: StaticAtomSet>(table: &Table<Static>, word: u64) -> Option<
     }
 }
 
-/// How many bytes the texts of two words have, read by two threads at once, once all names are interned.
+/// The bytes of the texts of two words, read by two threads at once after all names are interned.
 pub fn lengths_of_both<R: Threads + Sync>(
     rt: &R,
     table: &Table<EmptyStaticAtomSet>,

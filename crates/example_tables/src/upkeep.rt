@@ -33,7 +33,7 @@ pub fn table_of(
     Ok(table)
 }
 
-/// A table for a few hundred names that stand in the program itself, whose buckets take 128 bytes.
+/// A table for a few hundred names that are in the program itself, whose buckets take 128 bytes.
 pub fn small_table(alloc: Global) -> Result<Table<EmptyStaticAtomSet, TrustedTexts>, Fault>
     ensures { IfOk result (λ table. map_of table ≡ empty_map 16) }
 {
@@ -41,7 +41,7 @@ pub fn small_table(alloc: Global) -> Result<Table<EmptyStaticAtomSet, TrustedTex
     Table::with_buckets(alloc, TrustedTexts, Limits::greatest(), buckets)
 }
 
-/// A table where at most so many hold a text, found under these keys. `None` where nobody could.
+/// A table in which at most this many hold a text, found under these keys. `None` if nobody could.
 pub fn table_with_holders(
     alloc: Global,
     keys: RandomState,
@@ -63,7 +63,7 @@ pub fn make_room<S: StaticTables>(table: &mut Table<S>, names: &[&str]) -> Resul
     table.reserve(names.len())
 }
 
-/// Forgets all names. No ticket that was given comes again.
+/// Forgets all names. No ticket is given again.
 pub fn start_over<S: StaticTables>(table: &mut Table<S>)
     ensures none { (text : List ℕ) → (map_of table.new).held text ≡ None }
     ensures serials { (bucket : ℕ) → (map_of table.new).last bucket ≡ (map_of table.old).last bucket }
@@ -85,7 +85,7 @@ pub fn any_shared<S: StaticTables>(table: &Table<S>) -> bool
     table.iter().any(|held| held.holders > 1)
 }
 
-/// The last of the dynamic texts that are held, in the table's order. `None` where none is.
+/// The last of the dynamic texts that are held, in the table's order. `None` if there are none.
 pub fn last_text<S: StaticTables>(table: &Table<S>) -> Option<&str>
     ensures { MatchOption result (length table.now.pairs ≡ 0) (λ text. (pair : Pair) × (slice_get table.now.pairs (length table.now.pairs - 1) ≡ Some pair) × (pair.0 ≡ text.now)) }
 {
@@ -94,14 +94,14 @@ pub fn last_text<S: StaticTables>(table: &Table<S>) -> Option<&str>
     Some(held.text)
 }
 
-/// Whether a table takes at most so many bytes, whatever its hasher is.
+/// Whether a table takes at most this many bytes, whatever its hasher.
 pub fn takes_at_most<S: StaticTables, H: BuildHasher>(table: &Table<S, H>, most: u128) -> bool
     ensures { (bytes : ℕ) × IsMemory table.now bytes × (IsTrue result ↔ (bytes ≤ most)) }
 {
     table.memory() <= most
 }
 
-/// How many bytes a table takes for each text that it holds, rounded down. `None` where it holds none.
+/// The bytes that a table takes for each text that it holds, rounded down. `None` if it holds none.
 pub fn bytes_for_each<S: StaticTables>(table: &Table<S>) -> Option<u128>
     ensures { MatchOption result (length table.now.pairs ≡ 0) (λ each. (bytes : ℕ) × IsMemory table.now bytes × (0 < length table.now.pairs) × (each ≡ bytes / length table.now.pairs)) }
 {
@@ -111,7 +111,7 @@ pub fn bytes_for_each<S: StaticTables>(table: &Table<S>) -> Option<u128>
     }
 }
 
-/// How long the texts that are held are on average, in bytes, rounded down. `None` where none is.
+/// The average length of the texts that are held, in bytes, rounded down. `None` if there are none.
 pub fn usual_length<S: StaticTables>(table: &Table<S>) -> Option<u128>
     ensures { MatchOption result (length table.now.pairs ≡ 0) (λ usual. (0 < length table.now.pairs) × (usual ≡ sum_by (λ (pair : Pair). length pair.0) table.now.pairs / length table.now.pairs)) }
 {

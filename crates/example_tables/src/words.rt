@@ -1,4 +1,4 @@
-//! Words that come and go: interned, shared, handed on, read and given back. Two of these functions need a proof file, the others none.
+//! Words that come and go: interned, shared, handed on, read and given back. Two of these functions need a proof file, the others don't.
 
 ghost use Rattle.std.specs.Prelude.{◌≡◌, ◌↔◌, ℕ, List, IfOk, IsSome, IsTrue, MatchOption, OnErr, slice_get};
 ghost use Rattle.interner_table.specs.Kept.{map_of};
@@ -21,7 +21,7 @@ pub fn comes_and_goes<S: StaticTables>(table: &mut Table<S>, name: &str) -> Resu
     Ok(())
 }
 
-/// Whether two names are one text. Both words are given back, the first one first or last; a refusal gives back what was interned.
+/// Whether two names are the same text. Both words are given back, the first one first or last; a refusal gives back what was interned.
 pub fn two_come_and_go<S: StaticTables>(
     table: &mut Table<S>,
     first: &str,
@@ -49,7 +49,7 @@ pub fn two_come_and_go<S: StaticTables>(
     Ok(same)
 }
 
-/// Whether three names are one text. Unless it is refused, it gives back what it interned.
+/// Whether three names are the same text. Unless it is refused, it gives back what it interned.
 pub fn are_one_name<S: StaticTables>(
     table: &mut Table<S>,
     first: &str,
@@ -80,7 +80,7 @@ pub fn hand_on<S: StaticTables>(table: &mut Table<S>, word: u64) -> Result<u64, 
     Ok(next)
 }
 
-/// One holder more of a word, where somebody holds it: whether somebody does.
+/// Adds a holder to a word if somebody holds it, and returns whether somebody does.
 pub fn share<S: StaticTables>(table: &mut Table<S>, word: u64) -> Result<bool, Fault>
     ensures shared { IfOk result (λ shared. IsTrue shared ↔ IsHeld S.tables (map_of table.old) word) }
     ensures refused { OnErr result (table.new ≡ table.old) }
@@ -88,7 +88,7 @@ pub fn share<S: StaticTables>(table: &mut Table<S>, word: u64) -> Result<bool, F
     Ok(table.clone_held(word)?.is_some())
 }
 
-/// Whether more than one hold a ticket. Nobody counts who holds an inline or a static word.
+/// Whether a ticket has more than one holder. The holders of an inline or a static word aren't counted.
 pub fn is_shared<S: StaticTables>(table: &Table<S>, word: u64) -> bool
     ensures { TellsShared (map_of table.now) word result }
 {
@@ -98,7 +98,7 @@ pub fn is_shared<S: StaticTables>(table: &Table<S>, word: u64) -> bool
     }
 }
 
-/// The first byte of a word's text. `None` of the empty text, and where nobody holds the word.
+/// The first byte of a word's text. `None` for the empty text, and if nobody holds the word.
 pub fn first_byte<S: StaticTables>(table: &Table<S>, word: u64) -> Option<u8>
     ensures held { IsSome result → IsHeld S.tables (map_of table.now) word }
     ensures first { (text : List ℕ) → IsWordOf S.tables (map_of table.now) text word → IsHeld S.tables (map_of table.now) word → result ≡ slice_get text 0 }
@@ -109,14 +109,14 @@ pub fn first_byte<S: StaticTables>(table: &Table<S>, word: u64) -> Option<u8>
     }
 }
 
-/// The text of a static word or of a ticket, which the table lends. `None` of an inline word, which has it itself, and of what nobody holds.
+/// The text of a static word or of a ticket, which the table lends. `None` for an inline word, which has it itself, and for a word that nobody holds.
 pub fn lent_text<S: StaticTables>(table: &Table<S>, word: u64) -> Option<&str>
     ensures { MatchOption result ((text : List ℕ) → ¬ (IsTextOf S.tables (map_of table.now) word text)) (λ text. IsTextOf S.tables (map_of table.now) word text.now) }
 {
     table.text(word)
 }
 
-/// The price of a name, which is looked up and not interned. The map is by words; that of a short name is its letters, so it hashes under keys.
+/// The price of a name, which is looked up and not interned. The map is by words; that of a short name is its letters, so the map hashes under keys.
 pub fn price_of<S: StaticTables>(
     table: &Table<S>,
     prices: &HashMap<u64, u32, RandomState>,

@@ -19,7 +19,7 @@ reply_of (Err fault) = reply.Refused fault
 abbrev pub IsNotHeld : Tables → InternMap → ℕ → TableReply → InternMap → Type 0
 IsNotHeld t m word answer new = (¬ (IsHeld t m word)) × (answer ≡ reply.NotHeld) × (new ≡ m)
 
--- From m the call may be replied to so, and leave new.
+-- From m the call may get this reply and leave new.
 abbrev pub Answers : Tables → Bounds → InternMap → Call → TableReply → InternMap → Type 0
 Answers t limits m (call.Intern text) answer new = (result : Result ℕ Fault) × Interns t limits m (string_bytes text) result new × (answer ≡ reply_of result)
 Answers t limits m (call.Clone word) answer new =
@@ -27,7 +27,7 @@ Answers t limits m (call.Clone word) answer new =
 Answers t limits m (call.Give word) answer new =
     (Gives t limits m word new × (answer ≡ reply.Given)) ⊎ IsNotHeld t m word answer new
 
--- The calls, one after another, may be replied to so, and leave the map new.
+-- The calls, one after another, may get these replies and leave the map new.
 abbrev pub AnswersAll : Tables → Bounds → InternMap → List Call → List TableReply → InternMap → Type 0
 AnswersAll t limits m [] [] new = new ≡ m
 AnswersAll t limits m [] (answer ∷ answers) new = ⊥

@@ -13,11 +13,13 @@ use Rattle.text_forms.specs.Word.{ticket_of, IsTicket}
 abbrev pub Pair : Type 0
 Pair = List ℕ × Holding
 
+-- a table: its limits, each bucket's last serial, and the dynamic texts that are held, in the table's order
 pub record Kept : Type 0 where
   pub limits : Bounds
   pub lasts : List ℕ  -- each bucket's last serial
   pub pairs : List Pair  -- of each dynamic text that is held, in the table's order
 
+-- the map that a table is
 abbrev pub map_of : Kept → InternMap
 map_of kept = record { buckets = length kept.lasts; held = λ text. lookup (bytes_eq text) kept.pairs; last = λ bucket. slice_index kept.lasts bucket }
 
@@ -25,6 +27,7 @@ map_of kept = record { buckets = length kept.lasts; held = λ text. lookup (byte
 abbrev pub pairs_of : {Y : Type 0} → List (String Y × Holding) → List Pair
 pairs_of entries = map (λ entry. (string_bytes entry.0, entry.1)) entries
 
+-- the tickets of these pairs, in their order
 abbrev pub tickets_of : List Pair → List ℕ
 tickets_of pairs = map (λ pair. pair.1.ticket) pairs
 
@@ -39,7 +42,7 @@ pub record IsGiven (t : Tables) (buckets : ℕ) (last : ℕ → ℕ) (text : Lis
   pub is : had.ticket ≡ ticket_of serial (bucket_of t buckets text)
   pub held : 0 < had.holders
 
--- There are 2 ^ bits buckets. The tickets stand in a list of their own, each at the place of its text, and the bytes of the
+-- There are 2 ^ bits buckets. The tickets are in a list of their own, each at the place of its text, and the bytes of the
 -- texts are counted.
 pub record IsKeptTable (t : Tables) (bits : ℕ) (lasts : List ℕ) (pairs : List Pair) (tickets : List ℕ) (bytes : ℕ) : Type 0 where
   pub buckets : length lasts ≡ 2 ^ bits

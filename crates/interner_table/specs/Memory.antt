@@ -1,4 +1,4 @@
--- How many bytes a table takes.
+-- The bytes that a table takes.
 use Rattle.std.specs.Prelude.{◌≡◌, ℕ, ◌+◌, ◌*◌, ◌≤◌, length, min}
 use Rattle.std.specs.List.{sum_by}
 use Rattle.interner_table.specs.Kept.{Kept}
@@ -15,7 +15,7 @@ text_group_size = 64 + 9 * (8 + 24 + 16)
 abbrev pub ticket_group_size : ℕ
 ticket_group_size = 64 + 9 * (8 + 8)
 
--- Each bucket's last serial, the texts, and of each map some groups, which have a place for each text. Beside a ticket stands a value
+-- Each bucket's last serial, the texts, and of each map some groups, which have a place for each text. Beside a ticket is a value
 -- without bytes, and all of those are one block, for which a byte is asked.
 pub record IsMemory (kept : Kept) (bytes : ℕ) : Type 0 where
   pub texts : ℕ

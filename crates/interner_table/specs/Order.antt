@@ -3,16 +3,16 @@ use Rattle.std.specs.Prelude.{◌≡◌, ℕ, ◌⊎◌, [], ◌∷◌, ◌++◌
 use Rattle.std.specs.List.{swap_remove}
 use Rattle.interner_table.specs.Kept.{Kept, tickets_of}
 
--- the ticket stands at the place
+-- the ticket is at the place
 abbrev pub StandsAt : Kept → ℕ → ℕ → Type 0
 StandsAt kept ticket at = slice_get (tickets_of kept.pairs) at ≡ Some ticket
 
--- A ticket that is new comes last, and no other moves.
+-- A new ticket goes to the end, and no other moves.
 abbrev pub ComesLast : Kept → ℕ → Kept → Type 0
 ComesLast old ticket new =
     (tickets_of new.pairs ≡ tickets_of old.pairs) ⊎ (tickets_of new.pairs ≡ tickets_of old.pairs ++ ticket ∷ [])
 
--- Where the ticket goes, the last one comes in its place, and no other moves.
+-- If the ticket goes, the last one takes its place, and no other moves.
 abbrev pub GoesFrom : Kept → ℕ → Kept → Type 0
 GoesFrom old ticket new =
     (tickets_of new.pairs ≡ tickets_of old.pairs)

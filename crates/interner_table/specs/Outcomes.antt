@@ -7,7 +7,7 @@ use Rattle.text_forms.specs.declared.faults.Fault.{Fault}
 use Rattle.text_forms.specs.Tables.{Tables}
 use Rattle.text_forms.specs.Word.{inline_word}
 
--- The word of a text, with one holder more where it is a ticket.
+-- The word of a text, with one holder more if it is a ticket.
 pub record Interned (t : Tables) (old : Kept) (text : List ℕ) (reply : Result ℕ Fault) (new : Kept) : Type 0 where
   -- The limits stay.
   pub limits : new.limits ≡ old.limits
@@ -17,32 +17,32 @@ pub record Interned (t : Tables) (old : Kept) (text : List ℕ) (reply : Result 
   pub word : IfOk reply (λ word. HasWord t (map_of new) text word)
   -- That of a short text is its inline word.
   pub short : IfOk reply (λ word. length text ≤ 7 → word ≡ inline_word text)
-  -- A longer text is lent for it.
+  -- For a longer text, the word lends that text.
   pub lends : IfOk reply (λ word. 7 < length text → IsTextOf t (map_of new) word text)
   -- It is held.
   pub held : IfOk reply (λ word. IsHeld t (map_of new) word)
-  -- What a caller listed, it may still give, and this word once more.
+  -- A caller may still give what it listed, and this word once more.
   pub listed : (words : List ℕ) → AreHeld t (map_of old) words → IfOk reply (λ word. AreHeld t (map_of new) (word ∷ words))
   -- Each word keeps what it has.
   pub keeps : (other : ℕ) → KeepsWord t (map_of old) (map_of new) other
   -- No two texts have one word, and no text has two.
   pub apart : HasOneTextEach t (map_of new)
-  -- No ticket comes twice.
+  -- No ticket is given twice.
   pub once : GivesOnce (map_of old) (map_of new)
-  -- A ticket that is new comes last, and no other moves.
+  -- A new ticket goes to the end, and no other moves.
   pub order : IfOk reply (λ word. ComesLast old word new)
 
--- One holder more of a word, where it is held.
+-- One holder more of a word, if it is held.
 pub record Cloned (t : Tables) (old : Kept) (word : ℕ) (reply : Result (Option ℕ) Fault) (new : Kept) : Type 0 where
   -- The limits stay.
   pub limits : new.limits ≡ old.limits
-  -- Unless it is refused, a word comes back exactly if it was held.
+  -- Unless the call is refused, a word is returned exactly if it was held.
   pub held : IfOk reply (λ clone. IsSome clone ↔ IsHeld t (map_of old) word)
   -- It is the map's call, or nothing changes.
   pub clones : ClonesIfHeld t old.limits (map_of old) word reply (map_of new)
-  -- The word that comes back is the same.
+  -- The word that is returned is the same.
   pub same : IfOk reply (λ clone. IfSome clone (λ own. own ≡ word))
-  -- What a caller listed, it may still give, and this word once more.
+  -- A caller may still give what it listed, and this word once more.
   pub listed : (words : List ℕ) → AreHeld t (map_of old) words → IfOk reply (λ clone. IfSome clone (λ own. AreHeld t (map_of new) (own ∷ words)))
   -- Each word keeps what it has.
   pub keeps : (other : ℕ) → KeepsWord t (map_of old) (map_of new) other
@@ -51,7 +51,7 @@ pub record Cloned (t : Tables) (old : Kept) (word : ℕ) (reply : Result (Option
   -- The order stays.
   pub order : tickets_of new.pairs ≡ tickets_of old.pairs
 
--- One holder less of a word, where it is held.
+-- One holder less of a word, if it is held.
 pub record Given (t : Tables) (old : Kept) (word : ℕ) (given : Bool) (new : Kept) : Type 0 where
   -- The limits stay.
   pub limits : new.limits ≡ old.limits
@@ -59,11 +59,11 @@ pub record Given (t : Tables) (old : Kept) (word : ℕ) (given : Bool) (new : Ke
   pub held : IsTrue given ↔ IsHeld t (map_of old) word
   -- It is the map's call, or nothing changes.
   pub gives : GivesIfHeld t old.limits (map_of old) word given (map_of new)
-  -- What a caller listed, it may still give, this word once less.
+  -- A caller may still give what it listed, but this word once less.
   pub listed : (before after : List ℕ) → AreHeld t (map_of old) (before ++ word ∷ after) → AreHeld t (map_of new) (before ++ after)
-  -- Any other word keeps what it has, and so does this one where it is still held.
+  -- Any other word keeps what it has, and so does this one if it is still held.
   pub keeps : (other : ℕ) → (other ≢ word) ⊎ IsHeld t (map_of new) other → KeepsWord t (map_of old) (map_of new) other
   -- No two texts have one word, and no text has two.
   pub apart : HasOneTextEach t (map_of new)
-  -- The last ticket comes in the place of one that goes.
+  -- The last ticket takes the place of one that is taken out.
   pub order : GoesFrom old word new

@@ -14,7 +14,7 @@ abbrev pub as_word : MapReply → Result ℕ Fault
 as_word (Ok had) = Ok had.ticket
 as_word (Err fault) = Err fault
 
--- one holder more of a text that is held, or a refusal
+-- one more holder of a text that is held, or a refusal
 abbrev pub Adds : Bounds → InternMap → List ℕ → Holding → Result ℕ Fault → InternMap → Type 0
 Adds limits m text had result new = (reply : MapReply) × MayAdd limits m text had reply new × (result ≡ as_word reply)
 
@@ -23,6 +23,7 @@ abbrev pub InternsBy : Tables → Bounds → InternMap → List ℕ → Option �
 InternsBy t limits m text (Some word) result new = (result ≡ Ok word) × (new ≡ m)
 InternsBy t limits m text None result new = (reply : MapReply) × MayReply t limits m (Intern text) reply new × (result ≡ as_word reply)
 
+-- interning: if the text's form fixes its word, that is the reply and nothing changes; any other text is the map's call
 abbrev pub Interns : Tables → Bounds → InternMap → List ℕ → Result ℕ Fault → InternMap → Type 0
 Interns t limits m text result new = InternsBy t limits m text (fixed_word (form_of_text t text)) result new
 
@@ -48,11 +49,11 @@ IsHeldBy t m word n =
     (n ≡ 0) ⊎ IsFixedWord t word
     ⊎ ((text : List ℕ) × (holders : ℕ) × (m.held text ≡ Some (record { ticket = word; holders = holders })) × (n ≤ holders))
 
--- Each word can be given as often as it is listed. A caller lists what it interned and cloned, and has not given.
+-- Each word can be given as often as it is listed. A caller lists what it interned and cloned and hasn't given.
 abbrev pub AreHeld : Tables → InternMap → List ℕ → Type 0
 AreHeld t m words = (word : ℕ) → IsHeldBy t m word (times word words)
 
--- Each of two words can be given though the other is; one word twice, where they are one.
+-- Each of two words can be given back even after the other; one word twice, if they are one.
 unfoldable pub AreBothHeld : Tables → InternMap → ℕ → ℕ → Type 0
 AreBothHeld t m word other = AreHeld t m (word ∷ other ∷ [])
 
@@ -68,18 +69,18 @@ Gives t limits m word new =
     (IsFixedWord t word × (new ≡ m))
     ⊎ ((reply : MapReply) × MayReply t limits m (Give word) reply new)
 
--- the same word or refusal, where there might have been none
+-- the same word or refusal, as an answer that might have none
 abbrev pub in_some : Result ℕ Fault → Result (Option ℕ) Fault
 in_some (Ok word) = Ok (Some word)
 in_some (Err fault) = Err fault
 
--- cloning any number: where it is held as `Clones` says, and else None, and nothing changes
+-- cloning any number: as `Clones` says if it is held; otherwise None, and nothing changes
 abbrev pub ClonesIfHeld : Tables → Bounds → InternMap → ℕ → Result (Option ℕ) Fault → InternMap → Type 0
 ClonesIfHeld t limits m word result new =
     ((outcome : Result ℕ Fault) × Clones t limits m word outcome new × (result ≡ in_some outcome))
     ⊎ (¬ (IsHeld t m word) × (result ≡ Ok None) × (new ≡ m))
 
--- giving any number: where it is held as `Gives` says, and else false, and nothing changes
+-- giving any number: as `Gives` says if it is held; otherwise false, and nothing changes
 abbrev pub GivesIfHeld : Tables → Bounds → InternMap → ℕ → Bool → InternMap → Type 0
 GivesIfHeld t limits m word given new =
     (Gives t limits m word new × (given ≡ true)) ⊎ (¬ (IsHeld t m word) × (given ≡ false) × (new ≡ m))
@@ -98,7 +99,7 @@ HasWord t m text word = HasWordBy m text (fixed_word (form_of_text t text)) word
 unfoldable pub IsWordOf : Tables → InternMap → List ℕ → ℕ → Type 0
 IsWordOf t m text word = IsUtf8 text × HasWord t m text word
 
--- what a word has in m, it has in new
+-- what a word has in m, it has in new: being held, the text that it lends, whose word it is
 pub record KeepsWord (t : Tables) (m new : InternMap) (word : ℕ) : Type 0 where
   pub held : IsHeld t m word → IsHeld t new word
   pub text : (text : List ℕ) → IsTextOf t m word text → IsTextOf t new word text

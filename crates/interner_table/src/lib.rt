@@ -1,4 +1,4 @@
-//! The table for one thread. The words, hashes and static tables of `text_forms` stand here as well.
+//! The table for one thread. The words, hashes and static tables of `text_forms` are here as well.
 #![tactic(auto)]
 
 pub mod table;

@@ -42,18 +42,17 @@ use text_forms::word::{Buckets, Form, Limits, form_of, static_word, ticket_word}
 pub use trusted_texts::TrustedTexts;
 pub use word_text::WordText;
 
-/// The interned texts of one thread. Each dynamic text that is held has one ticket, and a number of holders.
+/// The interned texts of one thread. Each dynamic text that is held has one ticket and a number of holders.
 ///
-/// `H` makes the hashes by which texts are found. With `RandomState`, which is drawn by `RandomState::new(&rt)?`, no chosen texts cost
-/// more than random ones; `TrustedTexts` is quicker, and is for texts that no outsider writes. What a table promises is the same with
-/// both.
+/// `H` makes the hashes by which texts are found. With `RandomState`, which is drawn by `RandomState::new(&rt)?`, no chosen texts cost more than
+/// random ones; `TrustedTexts` is faster, and is for texts that no outsider writes. A table promises the same with either.
 #[derive(Drop)]
 pub struct Table<S: StaticTables, H: BuildHasher = RandomState> {
     limits: Limits,
     buckets: Buckets,
     lasts: Vec<u64>, // a bucket's last serial
     entries: IndexMap<String, Holding, H>,
-    // Each at the place of its entry. Who chooses the texts doesn't choose their tickets: each serial of a bucket is spent by a call.
+    // Each at the place of its entry. Whoever chooses the texts doesn't choose their tickets: each serial of a bucket is spent by a call.
     tickets: IndexSet<u64>,
     bytes: u128, // of all texts together
     room: Room,
@@ -74,8 +73,7 @@ impl<S: StaticTables, H: BuildHasher> Model for Table<S, H> {
 impl<S: StaticTables, H: BuildHasher + Drop> Table<S, H> {
     ghost use Rattle.interner_table.specs.Kept.{map_of};
 
-    /// A table in which nothing is held, with the greatest limits and the usual number of buckets, whose texts are found by this
-    /// hasher. `Memory` if its buckets find none.
+    /// An empty table with this hasher, the greatest limits and the usual number of buckets. `Memory` if there is no room for its buckets.
     pub fn new(alloc: Global, hasher: H) -> Result<Self, Fault>
         ensures empty { IfOk result (λ table. map_of table ≡ empty_map usual_buckets) }
         ensures limits { IfOk result (λ table. table.limits ≡ record { holders = holder_bound - 1; serials = serial_bound - 1 }) }
@@ -84,8 +82,7 @@ impl<S: StaticTables, H: BuildHasher + Drop> Table<S, H> {
         Table::with_limits(alloc, hasher, Limits::greatest())
     }
 
-    /// A table in which nothing is held, with this hasher, these limits and the usual number of buckets. `Memory` if its buckets
-    /// find none.
+    /// An empty table with this hasher, these limits and the usual number of buckets. `Memory` if there is no room for its buckets.
     pub fn with_limits(alloc: Global, hasher: H, limits: Limits) -> Result<Self, Fault>
         ensures empty { IfOk result (λ table. map_of table ≡ empty_map usual_buckets) }
         ensures limits { IfOk result (λ table. table.limits ≡ limits) }
@@ -94,7 +91,7 @@ impl<S: StaticTables, H: BuildHasher + Drop> Table<S, H> {
         Table::with_buckets(alloc, hasher, limits, Buckets::usual())
     }
 
-    /// A table in which nothing is held, with this hasher, these limits and these buckets. `Memory` if its buckets find none.
+    /// An empty table with this hasher, these limits and this many buckets. `Memory` if there is no room for its buckets.
     pub fn with_buckets(
         alloc: Global,
         hasher: H,
@@ -123,15 +120,15 @@ impl<S: StaticTables, H: BuildHasher> Table<S, H> {
     ghost use Rattle.interner_table.specs.Kept.{Kept, Pair, map_of, tickets_of, IsSoundMap};
     ghost use Rattle.interner_table.specs.Places.{IsPlace, IsFound};
 
-    /// The word of a text. A text of at most 7 bytes has its inline word and a static text its static word, which no limit
-    /// and no want of memory refuses. Any other has a ticket: one holder more where the text is held, and else its bucket's
-    /// next ticket, with one holder. No ticket comes twice.
+    /// The word of a text. A text of at most 7 bytes has its inline word and a static text its static word, which no limit and no lack of memory
+    /// refuses. Any other has a ticket: if the text is held, it gets one more holder; otherwise it gets its bucket's next ticket, and one holder. No
+    /// ticket is given twice.
     ///
-    /// `FullCount` where the text has as many holders as the limits allow, `TicketsSpent` where a text that isn't held finds
-    /// no serial left in its bucket, and `Memory` where it finds no memory. A refusal changes nothing.
+    /// `FullCount` if the text has as many holders as the limits allow, `TicketsSpent` if the text isn't held and its bucket has no serial left, and
+    /// `Memory` if there is no memory for it. A refusal changes nothing.
     pub fn intern(&mut self, text: &str) -> Result<u64, Fault>
         ensures interned { Interned S.tables self.old text.now result self.new }
-        // Some of it once more, as a caller's proof finds it by itself.
+        // Some of it again, in a form that a caller's proof finds by itself.
         ensures own { IfOk result (λ word. IsWordOf S.tables (map_of self.new) text.now word) }
         ensures same { IfOk result (λ word. (other : ℕ) (also : List ℕ) → IsWordOf S.tables (map_of self.old) also other → (word ≡ other) ↔ (text.now ≡ also)) }
         ensures owned { (other : ℕ) (also : List ℕ) → IsWordOf S.tables (map_of self.old) also other → IsWordOf S.tables (map_of self.new) also other }
@@ -145,8 +142,8 @@ impl<S: StaticTables, H: BuildHasher> Table<S, H> {
         outcome
     }
 
-    /// Makes the calls in order, with a reply for each. `Memory` where there is no place for the replies; then no call was
-    /// made.
+    /// Makes the calls in order, and returns a reply for each. A refused call changes nothing: its reply is `Refused` with the fault, and the calls
+    /// after it are still made. `Memory` if there is no room for the replies; then no call was made.
     pub fn run(&mut self, calls: &[Call]) -> Result<Vec<TableReply>, Fault>
         ensures limits { self.new.limits ≡ self.old.limits }
         ensures replays { IfOk result (λ replies. AnswersAll S.tables self.old.limits (map_of self.old) calls.now replies.items (map_of self.new)) }
@@ -168,15 +165,15 @@ impl<S: StaticTables, H: BuildHasher> Table<S, H> {
 
     // ---- places
 
-    /// Does nothing: its contract says what the invariant makes of every table's map, wherever a proof needs it. A body that opens no field
-    /// learns nothing of the invariant, and that each ticket stands once only a call of `tickets` says; hence its calls.
+    /// Does nothing: its contract says what the invariant makes of every table's map, wherever a proof needs it. A body that opens no field learns
+    /// nothing of the invariant, and only a call of `tickets` says that each ticket is there once; hence its calls.
     fn is_sound(&self)
         ensures { IsSoundMap S.tables (map_of self.now) }
     {
-        let _ = self.tickets.len(); // whose contract says that each ticket stands there once
+        let _ = self.tickets.len(); // its contract says that each ticket is there once
     }
 
-    /// Where the text stands. It isn't looked for where it is too short to be dynamic.
+    /// Where the text is. It isn't looked for if it is too short to be dynamic.
     fn find(&self, text: &str) -> Option<usize>
         ensures { MatchOption result ((map_of self.now).held text.now ≡ None) (λ at. (had : Holding) × IsFound self.now text.now at had) }
     {
@@ -188,11 +185,11 @@ impl<S: StaticTables, H: BuildHasher> Table<S, H> {
         Some(at)
     }
 
-    /// Where the ticket stands.
+    /// Where the ticket is.
     fn place_of(&self, ticket: u64) -> Option<usize>
         ensures { MatchOption result (¬ (IsHeldTicket (map_of self.now) ticket)) (λ at. IsPlace self.now ticket at) }
     {
-        let _ = self.entries.len(); // whose contract says that each text stands there once
+        let _ = self.entries.len(); // its contract says that each text is there once
         let (at, _) = self.tickets.get_full(&ticket)?;
         Some(at)
     }
@@ -218,7 +215,7 @@ impl<S: StaticTables, H: BuildHasher> Table<S, H> {
 
     // ---- changes
 
-    /// Lets this number of holders have the text at a place.
+    /// Sets the number of holders of the text at a place.
     fn set_holders(&mut self, at: usize, holders: u64)
         requires place { at < length self.old.pairs }
         requires held { 0 < holders }
@@ -230,7 +227,7 @@ impl<S: StaticTables, H: BuildHasher> Table<S, H> {
         write_holders(&mut self.entries, at, holders);
     }
 
-    /// One holder more of the text at a place.
+    /// Adds a holder to the text at a place, and returns its ticket. `FullCount` if it has as many holders as the limits allow.
     fn add_holder(&mut self, at: usize) -> Result<u64, Fault>
         requires { at < length self.old.pairs }
         ensures limits { self.new.limits ≡ self.old.limits }
@@ -248,7 +245,7 @@ impl<S: StaticTables, H: BuildHasher> Table<S, H> {
         Ok(ticket)
     }
 
-    /// One holder less of the text at a place.
+    /// Takes a holder from the text at a place.
     fn give_at(&mut self, at: usize)
         requires { at < length self.old.pairs }
         ensures limits { self.new.limits ≡ self.old.limits }
@@ -279,7 +276,7 @@ impl<S: StaticTables, H: BuildHasher> Table<S, H> {
     {
         self.entries.reserve(1)?;
         self.tickets.reserve(1)?;
-        let _ = self.entries.len(); // whose contract says that it is below 2^63
+        let _ = self.entries.len(); // its contract says that this is below 2^63
         let key = String::from_str(self.alloc, text)?;
         let ticket = ticket_word(serial, bucket);
         let Ok(_) = self.entries.insert(key, Holding::new(ticket)) else {
@@ -293,7 +290,7 @@ impl<S: StaticTables, H: BuildHasher> Table<S, H> {
         Ok(ticket)
     }
 
-    /// Takes the text at a place out. The last one comes in its place, and so does its ticket.
+    /// Takes out the text at a place. The last one takes its place, and so does its ticket.
     fn take_out(&mut self, at: usize)
         requires { at < length self.old.pairs }
         ensures limits { self.new.limits ≡ self.old.limits }

@@ -10,7 +10,7 @@ use Rattle.std.specs.contracts.impls.GlobalAllocator.TheImpl.{ghosts}
 use Rattle.std_alloc.specs.Box.Ownership.{box_owns}
 use Rattle.node_chain.specs.contracts.nodes.Node.{the_row}
 
--- the right to free a block of the heap. Every handle to the heap gives the same one
+-- the right to free a block of the heap. Every handle to the heap gives the same right
 abbrev pub heap_token : Ty → Ptr → Fml
 heap_token = ghosts.dealloc_token (record { memory = record { seal = tt } })
 
@@ -19,15 +19,15 @@ module _ (R : RattleType) where
   abbrev pub node_owns : Ptr → Ptr → R.Denot → Fml
   node_owns p n x = box_owns heap_token (the_row R) p (record { next = n; item = x })
 
-  -- the nodes that are left: the first lies at p, and each leads to the next one, at the first of the ns
+  -- the nodes that are left: the first is at p, and each leads to the next one, at the first of the ns
   abbrev pub nodes_own : Ptr → List Ptr → List R.Denot → Fml
   nodes_own p [] [] = ftrue
   nodes_own p [] (x ∷ xs) = ffalse
   nodes_own p (n ∷ ns) [] = ffalse
   nodes_own p (n ∷ ns) (x ∷ xs) = fsep (node_owns p n x) (nodes_own n ns xs)
 
-  -- the nodes that were passed, the last one first: it lies at p and leads to n, and the one before it lies at the first of
-  -- the qs. The first of all lies at h
+  -- the nodes that were passed, the last one first: it is at p and leads to n, and the one before it is at the first of the qs. The first of all is
+  -- at h
   abbrev pub passed_own : Ptr → Ptr → Ptr → List Ptr → List R.Denot → Fml
   passed_own h p n [] [] = fex (h ≡ n) (λ _. ftrue)
   passed_own h p n [] (x ∷ xs) = ffalse

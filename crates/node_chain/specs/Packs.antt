@@ -6,12 +6,12 @@ use Rattle.node_chain.specs.Walked.{Walked}
 use Rattle.node_chain.specs.declared.pack.Others.{Others}
 use Rattle.node_chain.specs.declared.pack.Others.TheVariants as others
 
--- how many items a pack has room for
+-- the number of items that a pack has room for
 abbrev pub most_items : ℕ
 most_items = 4
 
 module _ {X : Type 0} where
-  -- the items behind the first
+  -- the items after the first
   abbrev pub others_of : Others X → List X
   others_of others.None = []
   others_of (others.One x) = x ∷ []
@@ -28,21 +28,21 @@ module _ {X : Type 0} where
   joined [] = []
   joined (p ∷ ps) = p ++ joined ps
 
-  -- what stands before the place in the first pack
+  -- what comes before the place in the first pack
   abbrev pub before : ℕ → List (List X) → List X
   before at [] = []
   before at (p ∷ ps) = take at p
 
-  -- what stands from the place on, in all packs
+  -- what comes from the place on, in all packs
   abbrev pub from_on : ℕ → List (List X) → List X
   from_on at [] = []
   from_on at (p ∷ ps) = drop at p ++ joined ps
 
-  -- the items of packs, seen from the place `at` in the first that is left
+  -- the items of packs, seen from the place `at` in the first one that is left
   abbrev pub items_at : ℕ → Walked (List X) → Walked X
   items_at at w = record { passed = joined w.passed ++ before at w.left; left = from_on at w.left }
 
-  -- the place stands before an item of the first pack, if there is a pack
+  -- the place is before an item of the first pack, if there is a pack
   abbrev pub IsWithin : ℕ → List (List X) → Type 0
   IsWithin at [] = at ≡ 0
   IsWithin at (p ∷ ps) = at < length p
@@ -51,6 +51,6 @@ module _ {X : Type 0} where
   abbrev pub HaveItems : List (List X) → Type 0
   HaveItems ps = AllByRecursion (λ p. 0 < length p) ps
 
-  -- the place is before an item, or behind all, and no pack is empty
+  -- the place is before an item or after all of them, and no pack is empty
   abbrev pub ArePacked : ℕ → Walked (List X) → Type 0
   ArePacked at w = IsWithin at w.left × HaveItems w.passed × HaveItems w.left

@@ -13,7 +13,7 @@ module _ {X : Type 0} where
   IsNext left None = left ≡ []
   IsNext left (Some x) = (rest : List X) × (left ≡ x.now ∷ rest)
 
-  -- the next item is passed by
+  -- the next item is passed
   abbrev pub passed_by : Walked X → List X → Walked X
   passed_by w [] = w
   passed_by w (x ∷ rest) = record { passed = w.passed ++ x ∷ []; left = rest }

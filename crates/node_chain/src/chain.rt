@@ -10,8 +10,7 @@ use std::ptr::null_mut;
 
 /// A list of items with a place in it: those that were passed, and those that are left. Contracts see both.
 ///
-/// Each item lies in a node of its own on the heap, which leads to the next. The drop frees all nodes and drops their items,
-/// first to last, in a loop.
+/// Each item is in a node of its own on the heap, which leads to the next. The drop frees all nodes and drops their items, first to last, in a loop.
 pub struct NodeChain<T> {
     nodes: Nodes<T>,
     len: u32,
@@ -31,7 +30,7 @@ impl<T> Model for NodeChain<T> {
 }
 
 impl<T> NodeChain<T> {
-    /// A chain without items. It takes no memory.
+    /// An empty chain. It takes no memory.
     pub fn new(alloc: Global) -> NodeChain<T>
         ensures { result ≡ at_start [] }
     {
@@ -43,14 +42,14 @@ impl<T> NodeChain<T> {
         }
     }
 
-    /// How many items are left.
+    /// The number of items that are left.
     pub fn remaining(&self) -> usize
         ensures { result ≡ length self.now.left }
     {
         (self.len - self.passed) as usize
     }
 
-    /// The next item: the first that is left, or `None` where none is.
+    /// The next item: the first that is left, or `None` if there is none.
     pub fn look(&self) -> Option<&T>
         ensures { IsNext self.now.left result }
     {
@@ -61,7 +60,7 @@ impl<T> NodeChain<T> {
         }
     }
 
-    /// Passes the next item by. `look` tells whether there is one.
+    /// Passes the next item. `look` tells whether there is one.
     pub fn keep(&mut self)
         requires { 0 < length self.old.left }
         ensures { self.new ≡ passed_by self.old self.old.left }
@@ -70,7 +69,7 @@ impl<T> NodeChain<T> {
         self.passed += 1;
     }
 
-    /// Goes back to the first item, so that all are left.
+    /// Goes back to the first item, so that all of them are left.
     pub fn rewind(&mut self)
         ensures { self.new ≡ at_start (self.old.passed ++ self.old.left) }
     {
@@ -78,7 +77,7 @@ impl<T> NodeChain<T> {
         self.passed = 0;
     }
 
-    /// Puts the chain to rest, where no item was passed: its items, and how many they are.
+    /// Puts the chain to rest, and returns its items and their number. No item may have been passed.
     pub fn store(self) -> (StoredChain<T>, u32)
         requires { self.passed ≡ [] }
         ensures items { result.0 ≡ self.left }
@@ -99,8 +98,7 @@ impl<T> NodeChain<T> {
 
 /// A chain at rest: its items behind one pointer. Contracts see their list.
 ///
-/// How many they are stands beside it, with who keeps it: `open` makes a chain of both. Its drop frees no node and drops no item, so
-/// who ends one opens it first.
+/// Their number is kept beside it: `open` makes a chain of both. Its drop frees no node and drops no item, so open it before it ends.
 #[derive(Drop)]
 pub struct StoredChain<T> {
     nodes: StoredNodes<T>,
@@ -118,7 +116,7 @@ impl<T> Model for StoredChain<T> {
 }
 
 impl<T> StoredChain<T> {
-    /// One without items.
+    /// An empty one.
     pub fn new() -> StoredChain<T>
         ensures { result ≡ [] }
     {
@@ -127,7 +125,7 @@ impl<T> StoredChain<T> {
         }
     }
 
-    /// The chain of these items, all of which are left, where their number is right. It takes its memory from `alloc`.
+    /// The chain of these items, all of which are left. `number` must be right. It takes its memory from `alloc`.
     pub fn open(self, number: u32, alloc: Global) -> NodeChain<T>
         requires { number ≡ length self }
         ensures { result ≡ at_start self }
@@ -143,9 +141,9 @@ impl<T> StoredChain<T> {
 }
 
 impl<T: Drop> NodeChain<T> {
-    /// Adds an item before all others, where none was passed.
+    /// Adds an item before all others. None may have been passed.
     ///
-    /// A refusal is for want of memory, or comes at 2^32 - 1 items. It gives the item back, and leaves the chain as it was.
+    /// It is refused if there is no memory, or at 2^32 - 1 items. A refusal gives the item back, and leaves the chain as it was.
     pub fn add_head(&mut self, item: T) -> Result<(), AllocFailed<T>>
         requires { self.old.passed ≡ [] }
         ensures added { IfOk result (λ _. self.new ≡ at_start (item ∷ self.old.left)) }
@@ -171,7 +169,7 @@ impl<T: Drop> NodeChain<T> {
         }
     }
 
-    /// Takes the next item out and gives it, and frees its node. `look` tells whether there is one.
+    /// Takes out and returns the next item, and frees its node. `look` tells whether there is one.
     pub fn take_out(&mut self) -> T
         requires { 0 < length self.old.left }
         ensures taken { (rest : List T) × (self.old.left ≡ result ∷ rest) }
@@ -181,7 +179,7 @@ impl<T: Drop> NodeChain<T> {
         item
     }
 
-    /// Takes the node of the next item out, and gives it with its item. `look` tells whether there is one.
+    /// Takes out the node of the next item, and returns it with its item. `look` tells whether there is one.
     pub fn unlink(&mut self) -> Box<Node<T>, Global>
         requires { 0 < length self.old.left }
         ensures taken { self.old.left ≡ result.value.item ∷ self.new.left }

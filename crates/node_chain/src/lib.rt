@@ -1,7 +1,7 @@
-//! A chain of nodes on the heap, with a place in it: a walk goes from node to node, and takes out those that it is to.
+//! A chain of nodes on the heap, with a place in it: a walk goes from node to node, and takes out those that it should.
 //!
-//! Each node holds one item of any type, and leads to the next node by a raw pointer. All that follows pointers stands in
-//! `nodes`, a few lines a function; `chain` counts over it, and takes and frees the memory.
+//! Each node holds one item of any type, and leads to the next node by a raw pointer. All code that follows pointers is in `nodes`, a few lines per
+//! function; `chain` counts on top of it, and takes and frees the memory.
 #![tactic(auto)]
 
 mod chain;

@@ -1,4 +1,4 @@
-//! Nodes that lead to one another, with a place among them. Only this file follows pointers.
+//! Nodes that lead from one to the next, with a place among them. Only this file follows pointers.
 
 ghost use Rattle.std.specs.Prelude.{◌≡◌, ◌<◌, List, [], ◌∷◌, ◌++◌, length, reverse};
 ghost use denote.RawPtr.{Ptr};
@@ -44,11 +44,11 @@ impl<T: Drop, A: Allocator> RawBox<T, A> {
     }
 }
 
-/// Nodes that were passed, and nodes that are left. `head` leads to the first of all, `previous` to the one that was passed
-/// last, and `next` to the first that is left; each leads nowhere where there is no such node.
+/// Nodes that were passed, and nodes that are left. `head` leads to the first of all, `previous` to the one that was passed last, and `next` to the
+/// first that is left; each leads nowhere if there is no such node.
 ///
-/// `passed` are the items that were passed, the last one first, and `priors` the pointers to the node before each; `left`
-/// are the items that are left, and `nexts` where their nodes lead.
+/// `passed` are the items that were passed, the last one first, and `priors` the pointers to the node before each; `left` are the items that are
+/// left, and `nexts` is where their nodes lead.
 ///
 /// Its drop frees nothing.
 #[derive(Drop)]
@@ -72,7 +72,7 @@ unsafe impl<T: Send> Send for Nodes<T> {}
 
 unsafe impl<T: Sync> Sync for Nodes<T> {}
 
-/// Nodes at rest: `head` leads to the first of them. `items` are their items, and `nexts` where each node leads.
+/// Nodes at rest: `head` leads to the first of them. `items` are their items, and `nexts` is where each node leads.
 ///
 /// Its drop frees nothing.
 #[derive(Drop)]
@@ -121,7 +121,7 @@ impl<T> Nodes<T> {
         }
     }
 
-    /// Puts the node before all others, where none was passed.
+    /// Puts the node before all others. None may have been passed.
     pub(crate) fn add_head(&mut self, node: RawBox<Node<T>, Global>)
         requires { self.old.passed ≡ [] }
         ensures { (self.new.passed ≡ []) × (self.new.left ≡ node.value.item ∷ self.old.left) }
@@ -134,7 +134,7 @@ impl<T> Nodes<T> {
         self.head = at;
     }
 
-    /// Puts the node before those that are left, where some were passed: the one that was passed last then leads to it.
+    /// Puts the node before those that are left. Some must have been passed: the last of them then leads to it.
     pub(crate) fn add_next(&mut self, node: RawBox<Node<T>, Global>)
         requires { 0 < length self.old.passed }
         ensures { (self.new.passed ≡ self.old.passed) × (self.new.left ≡ node.value.item ∷ self.old.left) }
@@ -174,7 +174,7 @@ impl<T> Nodes<T> {
         self.next = self.head;
     }
 
-    /// The same nodes at rest, where none was passed.
+    /// The same nodes at rest. None may have been passed.
     pub(crate) fn store(self) -> StoredNodes<T>
         requires { self.passed ≡ [] }
         ensures { result.items ≡ self.left }
@@ -187,7 +187,7 @@ impl<T> Nodes<T> {
         StoredNodes { head: next }
     }
 
-    /// Takes the first node of all out, where none was passed.
+    /// Takes out the first node of all. None may have been passed.
     pub(crate) fn take_head(&mut self, alloc: Global) -> RawBox<Node<T>, Global>
         requires { (self.old.passed ≡ []) × (0 < length self.old.left) }
         ensures { (self.old.left ≡ result.value.item ∷ self.new.left) × (self.new.passed ≡ []) }
@@ -200,7 +200,7 @@ impl<T> Nodes<T> {
         RawBox { at, alloc }
     }
 
-    /// Takes the first node that is left out, where some were passed: the one before then leads to the one behind.
+    /// Takes out the first node that is left. Some must have been passed: the last of them then leads to the one after it.
     pub(crate) fn take_next(&mut self, alloc: Global) -> RawBox<Node<T>, Global>
         requires { (0 < length self.old.passed) × (0 < length self.old.left) }
         ensures { (self.old.left ≡ result.value.item ∷ self.new.left) × (self.new.passed ≡ self.old.passed) }

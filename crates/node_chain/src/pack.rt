@@ -5,17 +5,17 @@ ghost use Rattle.node_chain.specs.Packs.{IsAt, most_items};
 use std::marker::Model;
 use std::mem::replace;
 
-/// How many items a pack has room for.
+/// The number of items that a pack has room for.
 const MOST_ITEMS: usize = 4;
 
-/// One to four items in order, which lie in the value itself. Contracts see their list.
+/// One to four items in order, held in the value itself. Contracts see their list.
 #[derive(Drop)]
 pub struct Pack<T> {
     first: T,
     others: Others<T>,
 }
 
-/// The items behind the first.
+/// The items after the first.
 #[derive(Drop)]
 enum Others<T> {
     None,
@@ -47,7 +47,7 @@ impl<T> Pack<T> {
         }
     }
 
-    /// How many items it has: 1 to 4.
+    /// The number of its items: 1 to 4.
     pub fn len(&self) -> usize
         ensures value { result ≡ length self.now }
         ensures some { 0 < result }
@@ -60,14 +60,14 @@ impl<T> Pack<T> {
         }
     }
 
-    /// Whether it has room for one item more.
+    /// Whether it has room for one more item.
     pub fn has_room(&self) -> bool
         ensures { IsTrue result ↔ (length self.now < most_items) }
     {
         self.len() < MOST_ITEMS
     }
 
-    /// The item at a place, or `None` where the place is behind the last. No place is behind the fourth.
+    /// The item at a place, or `None` if the place is past the last. There is no place after the fourth.
     pub fn get(&self, index: usize) -> Option<&T>
         ensures item { IsAt self.now index result }
         ensures few { length self.now ≤ most_items }
@@ -100,7 +100,7 @@ impl<T: Drop> Pack<T> {
         };
     }
 
-    /// The item of a pack that has no other.
+    /// The item of a pack that has just one.
     pub fn into_item(self) -> T
         requires { length self ≡ 1 }
         ensures { self ≡ result ∷ [] }
@@ -109,7 +109,7 @@ impl<T: Drop> Pack<T> {
         first
     }
 
-    /// Takes the item at a place out, where it isn't the only one, and closes the gap.
+    /// Takes out the item at a place, which isn't the only one, and closes the gap.
     pub fn remove(&mut self, index: usize) -> T
         requires { (index < length self.old) × (1 < length self.old) }
         ensures taken { drop index self.old ≡ result ∷ drop (index + 1) self.old }
@@ -129,7 +129,7 @@ impl<T: Drop> Pack<T> {
 impl<T> Others<T> {
     ghost use Rattle.node_chain.specs.Packs.{others_of};
 
-    /// The item at a place, and those before and behind it.
+    /// The item at a place, and those before and after it.
     fn without(self, index: usize) -> (T, Others<T>)
         requires { index < length (others_of self) }
         ensures taken { drop index (others_of self) ≡ result.0 ∷ drop (index + 1) (others_of self) }

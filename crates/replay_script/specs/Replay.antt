@@ -12,7 +12,7 @@ use Rattle.atomic_steps.specs.Runs.{Script}
 use Rattle.atomic_steps.specs.Theorem.{HasRun}
 use Rattle.replay_script.specs.Script.{script_lines, SpellScript}
 
--- the serial of a ticket, and 0 of any other word
+-- the serial of a ticket, and 0 for any other word
 abbrev pub serial_in : ℕ → ℕ
 serial_in word = if word % 4 == 0 then word / ticket_unit else 0
 
@@ -33,11 +33,11 @@ reply_line reply.Kept = codes "kept\n"
 reply_line reply.Freed = codes "freed\n"
 reply_line reply.Left = codes "left\n"
 
--- the line of entry e, where somebody holds it
+-- the line of entry e, if somebody holds it
 abbrev pub held_line : ℕ → ℕ → List ℕ
 held_line e count = if nat_lt 0 count then codes "held e" ++ (decimal e ++ (codes " " ++ (decimal count ++ codes "\n"))) else []
 
--- the lines of the entries, of which the first is entry e
+-- the lines of the entries, the first of which is entry e
 abbrev pub held_lines_from : ℕ → List WorldEntry → List ℕ
 held_lines_from e [] = []
 held_lines_from e (entry ∷ entries) = held_line e entry.count ++ held_lines_from (e + 1) entries
@@ -53,8 +53,7 @@ pub record RunsOn (t : Tables) (old new : World) (steps : Script) (before after 
   pub all : length replies ≡ length steps
   pub is : after ≡ before ++ flat_map reply_line replies
 
--- The steps were all made, one after another, from a world of 2 ^ bits buckets in which nothing happened yet, and this is the
--- output.
+-- The steps were all made, one after another, from a world of 2 ^ bits buckets in which nothing had happened yet, and this is the output.
 pub record IsOutput (t : Tables) (limits : Bounds) (bits : ℕ) (steps : Script) (output : List ℕ) : Type 0 where
   pub replies : List StepReply
   pub world : World

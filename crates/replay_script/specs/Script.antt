@@ -11,7 +11,7 @@ abbrev pub cons_first : ℕ → List (List ℕ) → List (List ℕ)
 cons_first b [] = (b ∷ []) ∷ []
 cons_first b (line ∷ lines) = (b ∷ line) ∷ lines
 
--- the lines: a line feed stands after each, which the last may lack
+-- the lines: each ends with a line feed, which the last may lack
 abbrev pub script_lines : List ℕ → List (List ℕ)
 script_lines [] = []
 script_lines (b ∷ bs) = if b == 10 then [] ∷ script_lines bs else cons_first b (script_lines bs)
@@ -77,29 +77,29 @@ SpellsBuckets line bits = (bits ≤ most_bits) × (line ≡ buckets_line bits)
 
 -- ---- what the lines spell
 
--- one step a line, in order
+-- one step per line, in order
 abbrev pub SpellSteps : List (List ℕ) → Script → Type 0
 SpellSteps [] [] = Unit {0}
 SpellSteps [] (s ∷ steps) = ⊥
 SpellSteps (line ∷ lines) [] = ⊥
 SpellSteps (line ∷ lines) (s ∷ steps) = Spells line s × SpellSteps lines steps
 
--- without a line of limits, both are at their greatest
+-- the limits if there is no line of limits: both at their greatest
 abbrev pub greatest : Bounds
 greatest = record { holders = holder_bound - 1; serials = serial_bound - 1 }
 
--- The lines spell a number of buckets and steps: the number in the first line, or in none.
+-- The lines spell a number of buckets and steps: the number is in the first line, or there is none.
 abbrev pub SpellBody : List (List ℕ) → ℕ → Script → Type 0
 SpellBody lines bits steps = ((bits ≡ usual_bits) × SpellSteps lines steps)
     ⊎ ((line : List ℕ) × (rest : List (List ℕ)) × (lines ≡ line ∷ rest) × SpellsBuckets line bits × SpellSteps rest steps)
 
--- The lines spell limits, a number of buckets and steps: the limits in the first line, or in none.
+-- The lines spell limits, a number of buckets and steps: the limits are in the first line, or there are none.
 abbrev pub SpellScript : List (List ℕ) → Bounds → ℕ → Script → Type 0
 SpellScript lines limits bits steps = ((limits ≡ greatest) × SpellBody lines bits steps)
     ⊎ ((line : List ℕ) × (rest : List (List ℕ)) × (lines ≡ line ∷ rest) × SpellsLimits line limits × SpellBody rest bits steps)
 
--- The first line of a text spells something, by Spelt, and the rest of the text is left, or it spells nothing of the kind, and
--- all of it is left.
+-- Either the first line of a text spells something, by Spelt, and the rest of the text is left, or it spells nothing of the kind, and the whole text
+-- is left.
 abbrev pub Takes : {X : Type 0} → (List ℕ → X → Type 0) → List ℕ → Option X → List ℕ → Type 0
 Takes {X} Spelt text None rest =
     ((line : List ℕ) (lines : List (List ℕ)) (x : X) → script_lines text ≡ line ∷ lines → Spelt line x → ⊥)
@@ -112,7 +112,7 @@ Takes Spelt text (Some x) rest =
 abbrev pub AreSteps : List (List ℕ) → Type 0
 AreSteps lines = (steps : Script) × SpellSteps lines steps
 
--- Line n is the first of these lines that spells no step, where the first of them is line `passed + 1`.
+-- Line n is the first of these lines that spells no step, counting the first of them as line `passed + 1`.
 pub record StopsAfter (lines : List (List ℕ)) (passed n : ℕ) : Type 0 where
   pub before : List (List ℕ)
   pub line : List ℕ
@@ -123,8 +123,8 @@ pub record StopsAfter (lines : List (List ℕ)) (passed n : ℕ) : Type 0 where
   pub good : SpellSteps before steps
   pub bad : (s : ℕ × Step) → Spells line s → ⊥
 
--- Line n, counted from 1, is the first that isn't of the grammar where it stands: the lines before it spell a script,
--- and with this line they spell none.
+-- Line n, counted from 1, is the first that the grammar doesn't allow where it is: the lines before it spell a script, and with this line they spell
+-- none.
 pub record IsFirstBadLine (lines : List (List ℕ)) (n : ℕ) : Type 0 where
   pub before : List (List ℕ)
   pub line : List ℕ

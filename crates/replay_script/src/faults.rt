@@ -1,14 +1,14 @@
-//! What a script can be refused for.
+//! Why a script can be refused.
 
 ghost use Rattle.std.specs.Prelude.{◌≡◌};
 
 use std::alloc::{AllocError, AllocFailed};
 use thiserror::Error;
 
-/// What a script is refused for.
+/// Why a script is refused.
 #[derive(Clone, Copy, Debug, PartialEq, Eq, Error)]
 pub enum ScriptFault {
-    /// This line, counted from 1, isn't of the grammar where it stands.
+    /// The grammar doesn't allow this line, counted from 1, where it is.
     #[error("line {0}: not a step")]
     NotAStep(u64),
     /// A request for memory was refused.

@@ -5,14 +5,14 @@
 //! replay_text(alloc, "1 intern tokenised\n1 link\n1 leave\n")? // "taken\nlinked e1 serial 1\nleft\nheld e1 1\n"
 //! ```
 //!
-//! A line is a party's number and its step, one of these, where E is an entry's number and B a bucket's:
+//! A line is a party's number and its step, which is one of these, where E is an entry's number and B a bucket's:
 //!
 //! ```text
 //! intern TEXT   sweep B   add eE   clone eE   give eE   unlink eE   free eE   link   link noroom   leave
 //! ```
 //!
-//! Before the first step may stand `limits HOLDERS SERIALS`, the most holders of an entry and serials of a bucket, and behind it
-//! `buckets BITS`, for 2 to the power of that many buckets. Numbers are decimal, without sign or leading zeros.
+//! Before the first step there may be `limits HOLDERS SERIALS`, the most holders of an entry and serials of a bucket, and after it `buckets BITS`,
+//! for 2 to the power of `BITS` buckets. Numbers are decimal, without a sign or leading zeros.
 #![tactic(auto)]
 
 mod faults;

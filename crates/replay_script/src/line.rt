@@ -10,7 +10,7 @@ use std::alloc::{AllocError, Global};
 use text_forms::numbers::{number_after, number_of};
 use text_forms::word::{Buckets, Limits};
 
-/// The number behind `words` as that of an entry, which is from 1.
+/// The number after `words` as that of an entry, which is at least 1.
 fn entry_after(text: &str, words: &str) -> Option<u64>
     ensures { MatchOption result ((e : ℕ) → IsEntryNumber e → text.now ≢ words.now ++ decimal e)
         (λ e. IsEntryNumber e × (text.now ≡ words.now ++ decimal e)) }
@@ -28,7 +28,7 @@ fn swept_bucket(text: &str) -> Option<u32>
     u32::try_from(bucket).ok()
 }
 
-/// The text to intern, which is the rest of the line as it stands.
+/// The text to intern, which is the rest of the line as it is.
 fn interned_text(text: &str) -> Option<&str>
     ensures { MatchOption result ((t : List ℕ) → 0 < length t → text.now ≢ codes "intern " ++ t)
         (λ t. (0 < length t.now) × (text.now ≡ codes "intern " ++ t.now)) }
@@ -41,7 +41,7 @@ fn interned_text(text: &str) -> Option<&str>
     }
 }
 
-/// The step that the words behind the party's number spell.
+/// The step that the words after the party's number spell.
 fn step_of(alloc: Global, words: &str) -> Result<Option<Step>, AllocError>
     ensures { IfOk result (λ found. MatchOption found
         ((s : Step) → HasWords s → words.now ≢ step_words s)
@@ -76,7 +76,7 @@ fn step_of(alloc: Global, words: &str) -> Result<Option<Step>, AllocError>
     }
 }
 
-/// A number, and what stands behind the space after it.
+/// A number, and what comes after the space that follows it.
 fn number_and_rest(text: &str) -> Option<(u64, &str)>
     ensures { MatchOption result
         ((n : ℕ) (rest : List ℕ) → n < 2 ^ 64 → text.now ≢ decimal n ++ (codes " " ++ rest))
@@ -91,7 +91,7 @@ fn number_and_rest(text: &str) -> Option<(u64, &str)>
     Some((number, rest))
 }
 
-/// The party's number and the words behind it, of a step's line.
+/// The party's number and the words after it, in a step's line.
 fn party_of(line: &str) -> Option<(u32, &str)>
     ensures { MatchOption result
         ((party : ℕ) (words : List ℕ) → 1 ≤ party → party < 2 ^ 32
@@ -106,7 +106,7 @@ fn party_of(line: &str) -> Option<(u32, &str)>
     Some((number as u32, words))
 }
 
-/// The party and the step that a line spells. `None` where it spells none.
+/// The party and the step that a line spells. `None` if it spells none.
 pub fn step_of_line(alloc: Global, line: &str) -> Result<Option<(u32, Step)>, AllocError>
     ensures { IfOk result (λ found. MatchOption found
         ((s : ℕ × Step) → Spells line.now s → ⊥)
@@ -121,7 +121,7 @@ pub fn step_of_line(alloc: Global, line: &str) -> Result<Option<(u32, Step)>, Al
     Ok(Some((party, step)))
 }
 
-/// The limits that a line spells. `None` where it spells none.
+/// The limits that a line spells. `None` if it spells none.
 pub fn limits_of_line(line: &str) -> Option<Limits>
     ensures { MatchOption result ((limits : Bounds) → SpellsLimits line.now limits → ⊥)
         (λ limits. SpellsLimits line.now limits) }
@@ -135,7 +135,7 @@ pub fn limits_of_line(line: &str) -> Option<Limits>
     Limits::new(holders, serials)
 }
 
-/// The bits of the number of buckets that a line spells, be there such a number of buckets or not.
+/// The bits of the number of buckets that a line spells, whether or not there can be that many buckets.
 fn bucket_bits(line: &str) -> Option<u8>
     ensures { MatchOption result ((bits : ℕ) → bits < 2 ^ 8 → line.now ≢ codes "buckets " ++ decimal bits)
         (λ bits. line.now ≡ codes "buckets " ++ decimal bits) }
@@ -144,7 +144,7 @@ fn bucket_bits(line: &str) -> Option<u8>
     u8::try_from(bits).ok()
 }
 
-/// The number of buckets that a line spells. `None` where it spells none.
+/// The number of buckets that a line spells. `None` if it spells none.
 pub fn buckets_of_line(line: &str) -> Option<Buckets>
     ensures { MatchOption result ((bits : ℕ) → SpellsBuckets line.now bits → ⊥)
         (λ bits. SpellsBuckets line.now bits) }

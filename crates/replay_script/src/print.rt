@@ -9,7 +9,7 @@ use std::alloc::AllocError;
 use text_forms::static_sets::EmptyStaticAtomSet;
 use text_forms::word::{Form, form_of};
 
-/// The serial of a ticket, and 0 of any other word.
+/// The serial of a ticket, and 0 for any other word.
 fn serial_of(word: u64) -> u64
     ensures { result ≡ serial_in word }
 {
@@ -54,7 +54,7 @@ pub fn append_replies(out: &mut String, replies: &[StepReply]) -> Result<(), All
     Ok(())
 }
 
-/// Appends the line of an entry, where somebody holds it.
+/// Appends the line of an entry, if somebody holds it.
 fn append_held(out: &mut String, entry: u64, count: u64) -> Result<(), AllocError>
     ensures { OnOk result (string_bytes out.new ≡ string_bytes out.old ++ held_line entry count) }
 {

@@ -36,8 +36,7 @@ fn run_steps(
     Ok(())
 }
 
-/// Makes the steps of a text's lines in a world of their own, with these buckets, and gives the lines of the replies and of
-/// what is held then.
+/// Makes the steps of a text's lines in a world of their own, with these buckets, and returns the lines of the replies and of what is then held.
 fn output_of(alloc: Global, limits: Limits, buckets: Buckets, text: &str) -> Result<String, Fault>
     requires { AreSteps (script_lines text.now) }
     ensures ok { IfOk result (λ out. (steps : Script) × SpellSteps (script_lines text.now) steps
@@ -66,8 +65,8 @@ fn output_of(alloc: Global, limits: Limits, buckets: Buckets, text: &str) -> Res
     Ok(out)
 }
 
-/// The output of a script, over a table that nothing was interned in: a line for each step's reply, and then one for each entry
-/// that is held. `NotAStep` where it is no script: each line is looked at before the first step is made.
+/// The output of a script, over a new table: a line for each step's reply, and then one for each entry that is held. `NotAStep` if it isn't a script:
+/// each line is checked before the first step is made.
 pub fn replay_text(alloc: Global, text: &str) -> Result<String, ScriptFault>
     ensures output { IfOk result (λ out. IsReplay empty_tables text.now (string_bytes out)) }
     ensures line { (n : ℕ) → result ≡ Err (ScriptFault.NotAStep n) → IsFirstBadLine (script_lines text.now) n }

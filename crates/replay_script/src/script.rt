@@ -8,7 +8,7 @@ use crate::line::{buckets_of_line, limits_of_line, step_of_line};
 use std::alloc::Global;
 use text_forms::word::{Buckets, Limits};
 
-/// The first line, without its line feed, and what stands behind it. `None` where nothing is left.
+/// The first line, without its line feed, and what comes after it. `None` if nothing is left.
 pub fn next_line(text: &str) -> Option<(&str, &str)>
     ensures { MatchOption result (script_lines text.now ≡ [])
         (λ found. (script_lines text.now ≡ found.0.now ∷ script_lines found.1.now)
@@ -47,8 +47,7 @@ pub fn buckets_of(text: &str) -> (Option<Buckets>, &str)
     (None, text)
 }
 
-/// Checks that each line of a text spells a step. `NotAStep` names the first that spells none, where `before` lines stand
-/// before the text.
+/// Checks that each line of a text spells a step. `NotAStep` names the first that spells none, counting the `before` lines that precede the text.
 pub fn check_steps(alloc: Global, text: &str, before: u64) -> Result<(), ScriptFault>
     requires { before + length text.now < 2 ^ 64 }
     ensures ok { OnOk result (AreSteps (script_lines text.now)) }

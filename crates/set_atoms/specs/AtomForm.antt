@@ -1,4 +1,4 @@
--- What an atom holds, and a place of a list, whatever set it is of.
+-- What an atom and a place of a list hold, whatever set they are of.
 use Rattle.std.specs.Prelude.{◌≡◌, ◌<◌, ℕ, List, length, Option, None}
 use Rattle.text_forms.specs.Tables.{Tables, entry_hash, form_of_text, text_at, IsStaticIndex}
 use Rattle.text_forms.specs.declared.static_sets.TextForm.TheVariants as form
@@ -17,7 +17,7 @@ value_of_form t atom_of (Dynamic beside share) = atom_of share
 abbrev pub IsOwnShare : {Share : Type 0} → (Share → AtomValue) → (Share → Type 0) → (List ℕ → Option ℕ → ℕ → Type 0) → Share → Type 0
 IsOwnShare atom_of is_kept is_ticket share = is_kept share × is_ticket (atom_of share).text (atom_of share).bits (atom_of share).word
 
--- the text is one of this form; a dynamic one's share is its own, and what lies beside it is of the text's hash
+-- the text is one of this form; a dynamic one's share is its own, and what is beside it is of the text's hash
 abbrev pub IsOwnForm : {Beside Share : Type 0} → Tables → (Share → AtomValue) → (Beside → ℕ → Type 0) → (Share → Type 0) → (List ℕ → Option ℕ → ℕ → Type 0) → Repr Beside Share → Type 0
 IsOwnForm t atom_of is_beside is_kept is_ticket (Inline text) = IsInlineText text
 IsOwnForm t atom_of is_beside is_kept is_ticket (Static index) = IsStaticIndex t index × (index < length t.atoms)

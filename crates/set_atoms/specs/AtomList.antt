@@ -1,4 +1,4 @@
--- What clauses see of a list of atoms, beside the atoms themselves.
+-- What clauses see of a list of atoms, besides the atoms themselves.
 use Rattle.std.specs.Prelude.{ℕ, List, map}
 use Rattle.set_atoms.specs.AtomValue.{AtomValue}
 

@@ -24,7 +24,7 @@ abbrev pub IsTicketOfBits : Tables → List ℕ → Option ℕ → ℕ → Type 
 IsTicketOfBits t text None word = ⊥
 IsTicketOfBits t text (Some bits) word = IsTicketOfHash (entry_hash t text) bits word
 
--- the word of a form: its own one, without bits, or for a dynamic text one that the set may give it
+-- the word of a form: its own, without bits, or for a dynamic text one that the set may give it
 abbrev pub IsWordOfForm : (List ℕ → Option ℕ → ℕ → Type 0) → List ℕ → TextForm → Option ℕ → ℕ → Type 0
 IsWordOfForm is_ticket text (Inline own) bits word = (bits ≡ None) × (word ≡ inline_word own)
 IsWordOfForm is_ticket text (Static index) bits word = (bits ≡ None) × (word ≡ static_word index)

@@ -1,4 +1,4 @@
--- The cases of letters, and what putting an atom into one of them may be refused for.
+-- The cases of letters, and why putting an atom into one of them may be refused.
 use Rattle.std.specs.Prelude.{◌≢◌, ℕ, ◌<◌, ◌⊎◌, IsTrue, List, length}
 use Rattle.std.specs.Str.{str_to_ascii_uppercase, str_to_ascii_lowercase}
 use Rattle.text_forms.specs.Tables.{Tables, is_dynamic}
@@ -12,9 +12,9 @@ abbrev pub in_case : Case → List ℕ → List ℕ
 in_case Upper text = str_to_ascii_uppercase text
 in_case Lower text = str_to_ascii_lowercase text
 
--- What a case call may be refused for, by the text and the one that it is changed to. Where they are the same the atom is
+-- What a case call may be refused for, by the text and the one that it is changed to. If they are the same the atom is
 -- cloned, which is refused for a full count alone. A changed text of at most 64 bytes is refused only if it is dynamic; a
--- longer one may want memory in any form.
+-- longer one may lack memory in any form.
 abbrev pub IsCaseFault : Tables → List ℕ → List ℕ → Fault → Type 0
 IsCaseFault t text changed Memory = (changed ≢ text) × ((64 < length changed) ⊎ IsTrue (is_dynamic t changed))
 IsCaseFault t text changed FullCount = IsTrue (is_dynamic t changed)

@@ -34,8 +34,8 @@ use text_forms::static_sets::{
 };
 use text_forms::word::{InlineText, static_word, unpack_inline};
 
-/// A text, in the form that it has under the tables of its static type, over any set: `H` is what it holds of a dynamic one, `A` and `B` are
-/// what it has ahead of its form and beside the share. They stand here, and not only in `H`, so that an atom may stand where one that
+/// A text, in the form that it has under the tables of its static type, over any set: `H` is what it holds of a dynamic one, `A` and `B` are what it
+/// has ahead of its form and beside the share. They are parameters here, and not only parts of `H`, so that an atom can be used where one that
 /// borrows for a shorter time is asked for.
 ///
 /// A dynamic text is shared with the set that the atom borrows: the atom's end gives one share back, and never waits.
@@ -56,8 +56,8 @@ pub type DefaultAtom<'s> = Atom<'s, EmptyStaticAtomSet>;
 
 /// An atom of the set with this name. It has 32 bytes.
 ///
-/// Two of one set have one word exactly if they have one text, whichever threads made them. The word lies in the atom, whatever its form
-/// is, so `==` compares two numbers.
+/// Two of one set have the same word exactly if they have the same text, whichever threads made them. The word is in the atom, whatever its form, so
+/// `==` compares two numbers.
 pub type NamedAtom<'s, Static, N> = AtomOf<HeldCell<'s, Static, N>, u64, ()>;
 
 impl<H: HeldText, A: Ahead, B: Beside> Model for AtomOf<H, A, B> {
@@ -79,7 +79,7 @@ pub trait AtomKind: HeldText {
         ensures word { result ≡ atom.now.word }
         ensures of_text { IsWordOf Self.Static.tables Self.is_ticket atom.now.text atom.now.bits result };
 
-    /// Whether two atoms have one text.
+    /// Whether two atoms have the same text.
     fn have_one_text(one: &SetAtom<Self>, two: &SetAtom<Self>) -> bool
         ensures { IsTrue result ↔ (one.now.text ≡ two.now.text) };
 }
@@ -119,8 +119,8 @@ impl<H: AtomKind> SetAtom<H> {
     /// The atom of a text. A dynamic text is looked for in the set, and linked there if it is new. Inline and static texts
     /// are never refused, and take no lock and no memory.
     ///
-    /// `Memory` comes where a new text finds no room, `TicketsSpent` where its bucket has given its last ticket, and
-    /// `FullCount` where the text's entry has as many holders as the set's limits allow.
+    /// `Memory` if there is no room for a new text, `TicketsSpent` if its bucket has given its last ticket, and `FullCount` if the text's entry has
+    /// as many holders as the set's limits allow.
     pub fn from_str_in<S: TextSet<Held = H>, R: Wait>(
         rt: &R,
         set: S,
@@ -143,9 +143,9 @@ impl<H: AtomKind> SetAtom<H> {
     /// The atom of a text, if the text is inline, static, or an entry of the set that somebody holds. Nothing is linked, and no memory is
     /// taken. Inline and static texts are always found, and take no lock.
     ///
-    /// `None` comes for a dynamic text that its bucket, under its lock, has no entry of with a holder; another thread may link one at once.
-    /// `FullCount` comes where the text's entry has as many holders as the set's limits allow. Either way the set is as it was, but that
-    /// entries of the bucket may have gone that nobody held.
+    /// `None` if the text is dynamic and its bucket, under its lock, has no entry of it with a holder; another thread may link one right after.
+    /// `FullCount` if the text's entry has as many holders as the set's limits allow. Either way the set is as it was, except that entries of the
+    /// bucket that nobody held may be gone.
     pub fn get_in<S: TextSet<Held = H>, R: Wait>(
         rt: &R,
         set: S,
@@ -166,7 +166,7 @@ impl<H: AtomKind> SetAtom<H> {
         }
     }
 
-    /// The atom of an owned text, as `from_str_in` gives it. The text is dropped in both outcomes.
+    /// The atom of an owned text, as `from_str_in` gives it. The text is dropped in either case.
     pub fn from_string_in<S: TextSet<Held = H>, R: Wait>(
         rt: &R,
         set: S,
@@ -179,7 +179,7 @@ impl<H: AtomKind> SetAtom<H> {
         Self::from_cow_in(rt, set, CowStr::Owned(text))
     }
 
-    /// The atom of a text that is borrowed or owned, as `from_str_in` gives it. An owned text is dropped in both outcomes.
+    /// The atom of a text that is borrowed or owned, as `from_str_in` gives it. An owned text is dropped in either case.
     pub fn from_cow_in<S: TextSet<Held = H>, R: Wait>(
         rt: &R,
         set: S,
@@ -194,8 +194,7 @@ impl<H: AtomKind> SetAtom<H> {
 
     /// Another atom of the same text and word.
     ///
-    /// It is refused for a dynamic text alone, and with `FullCount` alone: where its entry has as many holders as the set's
-    /// limits allow.
+    /// The only error is `FullCount`, if the text is dynamic and its entry has as many holders as the set's limits allow.
     #[inline]
     pub fn clone_atom<R: Wait>(&self, rt: &R) -> Result<Self, Fault>
         ensures same { IfOk result (λ atom. atom ≡ self.now) }
@@ -228,8 +227,8 @@ impl<H: AtomKind> SetAtom<H> {
         atom.clone_atom(rt)
     }
 
-    /// The atom of a static text. `None` where the text isn't static: where it has at most 7 bytes, or doesn't stand at its
-    /// place in the tables. Perfect tables have each of their longer texts at its place.
+    /// The atom of a static text. `None` if the text isn't static: if it has at most 7 bytes, or isn't at its place in the tables. Perfect tables
+    /// have each of their longer texts at its place.
     pub fn try_static(text: &str) -> Option<Self>
         ensures is_static { IsSome result ↔ IsTrue (is_static_form (form_of_text H.Static.tables text.now)) }
         ensures text { IfSome result (λ atom. atom.text ≡ text.now) }
@@ -241,8 +240,7 @@ impl<H: AtomKind> SetAtom<H> {
         }
     }
 
-    /// The atom of the static text at an index. `None` where the tables have none there, or one that isn't at its place or
-    /// has at most 7 bytes.
+    /// The atom of the static text at an index. `None` if the tables have none there, or one that isn't at its place or has at most 7 bytes.
     pub fn pack_static(n: u32) -> Option<Self>
         ensures is_static { IsSome result ↔ IsStaticIndex H.Static.tables n }
         ensures atom { IfSome result (λ atom. atom ≡ record { text = text_at H.Static.tables n; word = static_word n; bits = None }) }
@@ -251,8 +249,7 @@ impl<H: AtomKind> SetAtom<H> {
         Some(Self::of_static(n))
     }
 
-    /// The atom of the inline word `n + 16 * len + 1`. `None` where the low byte of `n` isn't zero or that isn't the word of
-    /// a text of `len` bytes.
+    /// The atom of the inline word `n + 16 * len + 1`. `None` if the low byte of `n` isn't zero or that isn't the word of a text of `len` bytes.
     pub fn pack_inline(n: u64, len: u8) -> Option<Self>
         ensures packed { IsSome result ↔ IsPackable n len }
         ensures word { IfSome result (λ atom. (atom.word ≡ n + 16 * len + 1) × (atom.bits ≡ None)) }
@@ -313,7 +310,7 @@ impl<H: AtomKind> SetAtom<H> {
         matches!(&self.form, Repr::Inline(_))
     }
 
-    /// Whether the text is longer and stands at its place in the static tables.
+    /// Whether the text is longer and is at its place in the static tables.
     pub fn is_static(&self) -> bool
         ensures { result ≡ is_static_form (form_of_text H.Static.tables self.now.text) }
     {
@@ -337,7 +334,7 @@ impl<H: AtomKind> Default for SetAtom<H> {
     }
 }
 
-/// Two atoms are equal where their texts are, whichever sets they borrow.
+/// Two atoms are equal if their texts are, whichever sets they borrow.
 impl<H: AtomKind> PartialEq for SetAtom<H> {
     ghost eq = { λ a b. pointwise nat_eq a.text b.text };
 

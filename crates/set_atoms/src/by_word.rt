@@ -13,8 +13,8 @@ use text_forms::static_sets::StaticTables;
 
 /// An atom that is compared and hashed by its word alone, as a key of a map: one number, for which no cell and no table is read.
 ///
-/// Two that are there are equal exactly if their texts are. A text that nobody held meanwhile has another word when it comes again, so
-/// what is kept by a word is kept while the atom is. In a clause it is its atom.
+/// Two that exist at once are equal exactly if their texts are. A text that nobody held in between gets another word when it is interned again, so
+/// what is kept by a word is valid only while the atom is kept. In a clause it is its atom.
 #[derive(Drop)]
 pub struct ByWord<'s, Static: StaticTables, N: SetName> {
     atom: NamedAtom<'s, Static, N>,
@@ -29,7 +29,7 @@ impl<'s, Static: StaticTables, N: SetName> Model for ByWord<'s, Static, N> {
 }
 
 impl<'s, Static: StaticTables, N: SetName> ByWord<'s, Static, N> {
-    /// The key that an atom is.
+    /// The atom as a key.
     pub fn new(atom: NamedAtom<'s, Static, N>) -> Self
         ensures { result ≡ atom.entry }
     {
@@ -52,7 +52,7 @@ impl<'s, Static: StaticTables, N: SetName> ByWord<'s, Static, N> {
     }
 }
 
-/// By one comparison of two numbers, which reads no text and yet tells whether the texts are the same.
+/// Compares two numbers, which reads no text and yet tells whether the texts are the same.
 impl<'s, Static: StaticTables, N: SetName> PartialEq for ByWord<'s, Static, N> {
     ghost eq = { λ a b. a.word == b.word };
 
@@ -72,7 +72,7 @@ impl<'s, Static: StaticTables, N: SetName> Eq for ByWord<'s, Static, N> {
     ghost laws = { Prim.search (comparing, rules) };
 }
 
-/// By the word, which is read from the atom itself.
+/// Hashes the word, which is read from the atom itself.
 impl<'s, Static: StaticTables, N: SetName> Hash for ByWord<'s, Static, N> {
     ghost hash_input = { λ k. fed.u64 k.word };
 

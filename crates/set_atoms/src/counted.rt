@@ -1,4 +1,4 @@
-//! The set without a name, as what atoms ask, and its atoms.
+//! The set without a name, as atoms use it, and its atoms.
 
 ghost use Rattle.std.specs.Prelude.{◌≡◌, ◌↔◌, ◌%◌, ◌^◌, true, IsTrue, Some};
 ghost use Rattle.counted_set.specs.Chain.{IsRight};

@@ -11,7 +11,7 @@ use std::sync::Wait;
 use text_forms::Fault;
 use text_forms::static_sets::StaticTables;
 
-/// What an atom has of its word ahead of its form, whatever the form is: the word itself, or nothing.
+/// What an atom has of its word ahead of its form, whatever the form: the word itself, or nothing.
 pub trait Ahead: Copy {
     ghost use Rattle.std.specs.Prelude.{ℕ};
 
@@ -40,14 +40,14 @@ impl Ahead for u64 {
     }
 }
 
-/// What lies in a dynamic atom beside its share, without making it larger: a part of the text's hash, or nothing.
+/// What is in a dynamic atom beside its share, without making it larger: part of the text's hash, or nothing.
 pub trait Beside: Copy {
     ghost use Rattle.std.specs.Prelude.{ℕ};
 
-    /// Whether this lies beside the share of a text of this hash.
+    /// Whether this is beside the share of a text with this hash.
     ghost is_beside: { Self → ℕ → Type 0 };
 
-    /// What lies beside the share of a text of the hash.
+    /// What is beside the share of a text with this hash.
     fn of_hash(hash: u64) -> Self
         ensures { is_beside result hash };
 }
@@ -100,23 +100,23 @@ pub trait HeldText: Drop {
     fn word(&self) -> u64
         ensures { result ≡ (atom_of self.now).word };
 
-    /// The hash of the text, which lies with it.
+    /// The hash of the text, which is stored with it.
     fn text_hash(&self) -> u64
         requires { is_kept self.now }
         ensures { result ≡ entry_hash Self.Static.tables (atom_of self.now).text };
 
-    /// One share more of the same text. It is refused for `FullCount` alone: where there are as many as the set's limits allow.
+    /// One more share of the same text. The only error is `FullCount`, if there are as many as the set's limits allow.
     fn clone_held<R: Wait>(&self, rt: &R) -> Result<Self, Fault>
         requires { is_kept self.now }
         ensures same { IfOk result (λ held. held ≡ self.now) }
         ensures full { IfErr result (λ fault. fault ≡ Fault.FullCount) };
 }
 
-/// A set that threads share, borrowed: what interns and finds dynamic texts. Atoms ask for their texts, which are dynamic, with their hashes.
+/// A borrowed set that threads share: it interns and finds dynamic texts. Atoms ask for their texts, which are dynamic, with their hashes.
 pub trait TextSet: Copy {
     type Held: AtomKind;
 
-    /// The share without its set, for who holds many shares of one set.
+    /// The share without its set, for holders of many shares of one set.
     type Bare: BareText<Static = <Self::Held as HeldText>::Static>;
 
     /// What the set takes its memory from.
@@ -137,8 +137,8 @@ pub trait TextSet: Copy {
         ensures refused { IfErr result (λ fault. fault ≡ Fault.FullCount) };
 }
 
-/// One share of a text of a set, without the set, for who holds many shares of one set. It has no drop: its set ends it, or makes it a share
-/// with its set again.
+/// One share of a text of a set, without the set, for holders of many shares of one set. It has no drop: its set ends it, or turns it back into a
+/// share with its set.
 pub trait BareText {
     ghost use Rattle.std.specs.Prelude.{ℕ, List, Option};
     ghost use Rattle.set_atoms.specs.AtomValue.{AtomValue};
@@ -160,8 +160,8 @@ pub trait BareText {
         ensures { result.now ≡ (atom_of self.now).text };
 }
 
-/// A set, borrowed, to which shares without it are given back. It says nothing else of its shares, so that a list may stand where one that
-/// borrows its set for a shorter time is asked for.
+/// A borrowed set to which shares without it are given back. It says nothing else about its shares, so that a list can be used where one that borrows
+/// its set for a shorter time is asked for.
 pub trait TakesBack<Bare>: Copy {
     /// Gives the share back, as its end with its set does: it never waits.
     fn take_back(self, bare: Bare);
@@ -170,19 +170,19 @@ pub trait TakesBack<Bare>: Copy {
 /// A set whose shares can be kept without it.
 pub trait ListedSet<Bare: BareText<Static = <Self::Held as HeldText>::Static>>: TextSet
     + TakesBack<Bare> {
-    /// The share without its set. It isn't counted anew.
+    /// The share without its set. It isn't counted again.
     fn bare_of(held: Self::Held) -> Bare
         requires { IsOwnShare Self.Held.atom_of Self.Held.is_kept Self.Held.is_ticket held }
         ensures atom { Bare.atom_of result ≡ Self.Held.atom_of held }
         ensures own { IsOwnShare Bare.atom_of Bare.is_kept Bare.is_ticket result };
 
-    /// The share with its set again, which is this one. It isn't counted anew.
+    /// The share with its set again, which is this one. It isn't counted again.
     fn again(self, bare: Bare) -> Self::Held
         requires { IsOwnShare Bare.atom_of Bare.is_kept Bare.is_ticket bare }
         ensures atom { Self.Held.atom_of result ≡ Bare.atom_of bare }
         ensures own { IsOwnShare Self.Held.atom_of Self.Held.is_kept Self.Held.is_ticket result };
 
-    /// One share more of the same text, with its set, which is this one. It is refused as `clone_held` is.
+    /// One more share of the same text, with its set, which is this one. It is refused as `clone_held` is.
     fn clone_bare<R: Wait>(self, rt: &R, bare: &Bare) -> Result<Self::Held, Fault>
         requires { IsOwnShare Bare.atom_of Bare.is_kept Bare.is_ticket bare.now }
         ensures atom { IfOk result (λ held. Self.Held.atom_of held ≡ Bare.atom_of bare.now) }

@@ -1,5 +1,5 @@
-//! Atoms of sets that threads share: texts that are inline, static, or shares of a set. One atom stands over any set, with or without a name:
-//! `Atom` is that of `counted_set`, `NamedAtom` that of `named_set`.
+//! Atoms of sets that threads share: texts that are inline, static, or shares of a set. One atom type serves any set, with or without a name: `Atom`
+//! is that of `counted_set`, `NamedAtom` that of `named_set`.
 #![tactic(auto)]
 
 pub mod atom;

@@ -1,4 +1,4 @@
-//! The set with a name, as what atoms ask, and its atoms.
+//! The set with a name, as atoms use it, and its atoms.
 
 ghost use Rattle.std.specs.Prelude.{◌≡◌, ◌↔◌, true, length, IsTrue, None};
 ghost use Rattle.named_set.specs.Words.{AreOneToOne, IsTicketOf};
@@ -49,7 +49,7 @@ impl<'s, Static: StaticTables, N: SetName> HeldText for HeldCell<'s, Static, N> 
     }
 }
 
-/// The cell of a held word, which lies in the cell too.
+/// The cell of a held word, which is in the cell too.
 #[inline]
 fn cell_of<'s, Static: StaticTables, N: SetName>(
     held: Held<'s, Static, N>,
@@ -143,7 +143,7 @@ impl<'s, Static: StaticTables, N: SetName> ListedSet<HeldShare<Static, N>>
 }
 
 impl<'s, Static: StaticTables, N: SetName> AtomKind for HeldCell<'s, Static, N> {
-    // It lies ahead of the form.
+    // It is ahead of the form.
     #[inline]
     #[tactic(auto, using(crate::proofs::Words::own_word))]
     fn word_of(atom: &SetAtom<Self>) -> u64 {
@@ -158,7 +158,7 @@ impl<'s, Static: StaticTables, N: SetName> AtomKind for HeldCell<'s, Static, N> 
 }
 
 impl<'s, Static: StaticTables, N: SetName> NamedAtom<'s, Static, N> {
-    /// A law: two atoms of one set have one word exactly if they have one text, in any of the forms. It does nothing when it runs.
+    /// A law: two atoms of one set have the same word exactly if they have the same text, in any of the forms. It does nothing when it runs.
     #[inline]
     #[tactic(auto, using(crate::proofs::Words::words_agree))]
     pub fn agree<'t>(&self, other: &NamedAtom<'t, Static, N>)

@@ -1,4 +1,4 @@
-//! What a set that threads share tells of itself, whether it has a name or not.
+//! What a set that threads share tells about itself, whether it has a name or not.
 
 ghost use Rattle.std.specs.Prelude.{◌≡◌};
 
@@ -9,7 +9,7 @@ use std::sync::Wait;
 use text_forms::static_sets::StaticTables;
 use text_forms::word::Limits;
 
-/// A set that threads share, borrowed, of either kind: what interns and finds texts, and tells what it has. What says nothing of its kind is
+/// A borrowed set that threads share, of either kind: it interns and finds texts, and tells what it has. Code that doesn't depend on the kind is
 /// written over it once.
 pub trait SharedSet: TextSet + ListedSet<<Self as TextSet>::Bare> {
     ghost use Rattle.text_forms.specs.Bounds.{Bounds};
@@ -17,28 +17,30 @@ pub trait SharedSet: TextSet + ListedSet<<Self as TextSet>::Bare> {
     /// Its limits, as clauses see them.
     ghost bounds: { Self → Bounds };
 
-    /// The limits of its texts' holders and of its buckets' serials.
+    /// The limits on its texts' holders and its buckets' serials.
     fn limits(self) -> Limits
         ensures { result ≡ bounds self };
 
-    /// Takes each bucket once, from the first to the last: what nobody holds goes.
+    /// Goes over each bucket once, from the first to the last: texts that nobody holds are taken out.
     fn sweep<R: Wait>(self, rt: &R);
 
-    /// How many texts are linked: the sum over the buckets, each read under its lock. Beside other threads nothing is said of it.
+    /// The number of texts that are linked: the sum over the buckets, each read under its lock. While other threads use the set, nothing is said
+    /// about it.
     fn linked<R: Wait>(self, rt: &R) -> u128;
 
-    /// Calls `visit` once for each text that is linked, with the number of its holders as one look at its count reads it: bucket by bucket,
-    /// from the first to the last, each under its lock. In which order those of a bucket come is told by the set.
+    /// Calls `visit` once for each text that is linked, with the number of its holders as one look at its count reads it: bucket by bucket, from the
+    /// first to the last, each under its lock. The set says in which order those of a bucket are visited.
     ///
-    /// A `visit` that waits for the lock of the bucket, as one that interns a text may, waits for ever; it may clone and drop atoms.
+    /// A `visit` that waits for the bucket's lock, as one that interns a text may, waits forever; it may clone and drop atoms.
     fn for_each<R: Wait, F: FnMut(&str, u64)>(self, rt: &R, visit: F)
         requires { F.IsAlwaysCallable visit };
 
-    /// How many bytes the set has asked for and still holds, each bucket read under its lock. Beside other threads nothing is said of it.
+    /// The bytes that the set has asked for and still holds, each bucket read under its lock. While other threads use the set, nothing is said about
+    /// it.
     fn memory<R: Wait>(self, rt: &R) -> u128;
 }
 
-/// In a bucket the newest text is visited first.
+/// Within a bucket the newest text is visited first.
 impl<'s, Static: StaticTables> SharedSet for &'s Set<Static> {
     ghost bounds = { λ set. set.now.limits };
 
@@ -63,7 +65,7 @@ impl<'s, Static: StaticTables> SharedSet for &'s Set<Static> {
     }
 }
 
-/// In a bucket the text that was linked first is visited first.
+/// Within a bucket the text that was linked first is visited first.
 impl<'s, Static: StaticTables, N: SetName> SharedSet for &'s NamedSet<Static, N> {
     ghost bounds = { λ set. set.now.limits };
 

@@ -1,5 +1,4 @@
-//! How atoms lend their texts, print and are written by a serializer, their hashes of 32 bits, and the JSON texts that they are turned into
-//! and read from.
+//! How atoms lend their texts, print and are serialized, their 32-bit hashes, and the JSON texts that they are turned into and read from.
 
 ghost use Rattle.std.specs.Prelude.{◌≡◌, ◌↔◌, ℕ, Some, Err, IfErr, IfOk, IfSome, IsNone, IsTrue, OnErr};
 ghost use Rattle.std.specs.Fmt.{styled_text};
@@ -21,9 +20,9 @@ use std::fmt::{self, Debug, Display, Formatter, Write};
 use std::sync::Wait;
 use text_forms::Fault;
 
-/// Values that have a hash of 32 bits at hand.
+/// Values that have a 32-bit hash ready.
 pub trait PrecomputedHash {
-    /// What `precomputed_hash` answers.
+    /// What `precomputed_hash` returns.
     ghost precomputed: { Self → ℕ };
 
     /// The hash.
@@ -59,7 +58,7 @@ impl<H: AtomKind> PrecomputedHash for SetAtom<H> {
     }
 }
 
-/// The text. Width and precision act on it as on a `str`.
+/// The text. Width and precision apply as they do to a `str`.
 impl<H: AtomKind> Display for SetAtom<H> {
     ghost output = { λ atom. Some atom.text };
 
@@ -70,7 +69,7 @@ impl<H: AtomKind> Display for SetAtom<H> {
     }
 }
 
-/// `Atom('`, the text as it is, `' type=`, the name of its form, and `)`. No width acts on the whole.
+/// `Atom('`, the text as it is, `' type=`, the name of its form, and `)`. No width applies to the whole.
 impl<H: AtomKind> Debug for SetAtom<H> {
     ghost debug_output = { λ atom. Some (debug_text H.Static.tables atom.text) };
 
@@ -83,7 +82,7 @@ impl<H: AtomKind> Described for SetAtom<H> {
     ghost writes = { λ atom. Sends (text_event atom.text) };
 }
 
-/// An atom is written as its text. None is read by `Deserialize`, which is handed no set.
+/// An atom is written as its text. `Deserialize` isn't implemented, since it is handed no set.
 impl<H: AtomKind> Serialize for SetAtom<H> {
     fn serialize<S: Serializer>(&self, out: &mut S) -> Result<(), S::Error> {
         out.str(self.as_str())
@@ -91,7 +90,7 @@ impl<H: AtomKind> Serialize for SetAtom<H> {
 }
 
 impl<H: AtomKind> SetAtom<H> {
-    /// The JSON text value of the atom's text. It is refused for `Memory` alone.
+    /// The JSON text value of the atom's text. The only error is `Memory`.
     pub fn to_json(&self, alloc: Global) -> Result<Value, Fault>
         ensures text { IfOk result (λ value. view value ≡ string self.now.text) }
         ensures refused { IfErr result (λ fault. fault ≡ Fault.Memory) }
@@ -102,8 +101,8 @@ impl<H: AtomKind> SetAtom<H> {
 
     /// The atom of a JSON text value's text, as `from_str_in` gives it.
     ///
-    /// `NotText` comes exactly where the value isn't a text, and then no lock is taken. A text is refused only where it is
-    /// dynamic, with the faults of `from_str_in`.
+    /// Returns `NotText` exactly if the value isn't a text, and then no lock is taken. A text is refused only if it is dynamic, with the faults of
+    /// `from_str_in`.
     pub fn from_json_in<S: TextSet<Held = H>, R: Wait>(
         rt: &R,
         set: S,

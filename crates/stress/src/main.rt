@@ -1,5 +1,5 @@
-//! Random work of many threads on one set. Each interns, clones and drops atoms of a few texts, changes their case and sweeps,
-//! and sees whether each atom has its text. Once all have ended, one sweep has to leave nothing.
+//! Random work by many threads on one set. Each interns, clones and drops atoms of a few texts, changes their case and sweeps, and checks that each
+//! atom has its text. Once all have ended, one sweep must leave nothing.
 #![tactic(auto)]
 
 mod texts;
@@ -19,11 +19,11 @@ use worker::Worker;
 #[derive(Clone, Copy)]
 struct Command {
     workers: usize,
-    /// How often each worker does something.
+    /// The number of things that each worker does.
     rounds: u64,
 }
 
-/// What the words ask for, or `None` where they aren't two numbers.
+/// What the words ask for, or `None` if they aren't two numbers.
 fn command_of(words: &[String]) -> Option<Command> {
     let [workers, rounds] = words else {
         return None;
@@ -34,7 +34,7 @@ fn command_of(words: &[String]) -> Option<Command> {
     })
 }
 
-/// `None` where the arguments aren't two numbers.
+/// `None` if the arguments aren't two numbers.
 fn asked_for(rt: &(impl Env + AllocGlobal)) -> Result<Option<Command>, anyhow::Error> {
     let words: Vec<String> = env::args(rt)?.skip(1).collect(rt.alloc())?;
     Ok(command_of(words.as_slice()))
@@ -42,7 +42,7 @@ fn asked_for(rt: &(impl Env + AllocGlobal)) -> Result<Option<Command>, anyhow::E
 
 /// What is left of the work.
 struct Outcome {
-    /// How many atoms had another text than theirs.
+    /// How many atoms had a text other than theirs.
     wrong: u64,
     /// How many entries are linked after one sweep.
     left: u128,
@@ -60,7 +60,7 @@ fn sum_of(counts: &[Result<u64, Fault>]) -> Result<u64, Fault> {
     Ok(sum)
 }
 
-/// Has this number of workers at work in the set, each in a thread of its own. How many atoms had another text than theirs.
+/// Runs this many workers in the set, each in a thread of its own. Returns how many atoms had a text other than theirs.
 fn count_wrong<R: Threads + Wait + Sync>(
     rt: &R,
     alloc: Global,
@@ -77,7 +77,7 @@ fn count_wrong<R: Threads + Wait + Sync>(
     sum_of(&counts)
 }
 
-/// Has the workers at work in a set, and sweeps that once.
+/// Runs the workers in a set, and sweeps it once.
 fn work<R: Threads + Wait + Sync>(
     rt: &R,
     alloc: Global,

@@ -23,9 +23,8 @@ impl Text {
     }
 }
 
-/// Of these two have one bucket, two lie in the first and in the last bucket, one is inline, and one is too long to be put into
-/// the other case without an owned text. (By SipHash the buckets of "forgotten" and "magnitude" are 0x72f, of "afterwards" 0, of
-/// "geometric" 0xfff.)
+/// Of these, two have the same bucket, two are in the first and the last bucket, one is inline, and one is too long to be put into the other case
+/// without an owned text. (By SipHash the buckets of "forgotten" and "magnitude" are 0x72f, of "afterwards" 0, of "geometric" 0xfff.)
 pub static TEXTS: [Text; 8] = [
     Text {
         lower: "interned",

@@ -14,7 +14,7 @@ use string_cache::{DefaultAtom, EmptyStaticAtomSet, Fault};
 /// The most atoms that a worker keeps.
 const MOST: usize = 8;
 
-/// An atom, and the text that it has to have.
+/// An atom, and the text that it should have.
 #[derive(Drop)]
 struct Kept<'s> {
     atom: DefaultAtom<'s>,
@@ -59,7 +59,7 @@ pub struct Worker<'s, R: Wait> {
 }
 
 impl<'s, R: Wait> Worker<'s, R> {
-    /// A worker without atoms. It does the same for the same seed.
+    /// A worker without atoms. It does the same things for the same seed.
     pub fn new(rt: &'s R, set: &'s Set<EmptyStaticAtomSet>, seed: u64) -> Self {
         Worker {
             rt,
@@ -70,7 +70,7 @@ impl<'s, R: Wait> Worker<'s, R> {
         }
     }
 
-    /// Does this number of things, and lets all atoms go. How many atoms had another text than theirs.
+    /// Does this many things, and lets all atoms go. Returns how many atoms had a text other than theirs.
     pub fn work(mut self, rounds: u64) -> Result<u64, Fault> {
         for _ in 0..rounds {
             self.act()?;
@@ -115,14 +115,14 @@ impl<'s, R: Wait> Worker<'s, R> {
         Some(self.rng.random_range(0..count))
     }
 
-    /// Sees whether an atom has its text.
+    /// Checks that an atom has its text.
     fn see(&mut self, kept: &Kept<'s>) {
         if !kept.is_right() {
             self.wrong = self.wrong.saturating_add(1);
         }
     }
 
-    /// Keeps an atom while there is room, and sees whether it has its text.
+    /// Keeps an atom while there is room, and checks that it has its text.
     fn keep(&mut self, kept: Kept<'s>) -> Result<(), Fault> {
         self.see(&kept);
         if self.kept.len() < MOST {
@@ -141,7 +141,7 @@ impl<'s, R: Wait> Worker<'s, R> {
         self.keep(Kept { atom, text, case })
     }
 
-    /// Makes another atom of one that it has: of its text in this case, or a clone.
+    /// Makes another atom from one that it has: of its text in this case, or a clone.
     fn renew(&mut self, case: Option<Case>) -> Result<(), Fault> {
         let Some(at) = self.any_kept() else {
             return Ok(());
@@ -153,7 +153,7 @@ impl<'s, R: Wait> Worker<'s, R> {
         self.keep(again)
     }
 
-    /// Lets one of its atoms go, which has kept its text till then.
+    /// Lets go of one of its atoms, which has kept its text until then.
     fn let_go(&mut self) {
         let Some(at) = self.any_kept() else {
             return;

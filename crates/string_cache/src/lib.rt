@@ -1,6 +1,6 @@
-//! Interned strings, under the names of Rust's `string_cache` 0.11.0 and the ones that go with them. Nothing is defined here: the atoms are
-//! those of `set_atoms`, the sets that threads share those of `counted_set` and, with a name, of `named_set`, the words, hashes and static
-//! tables those of `text_forms`, the table for one thread that of `interner_table`, and the core of atomic steps that of `atomic_steps`.
+//! Interned strings, under the names of Rust's `string_cache` 0.11.0 and others that go with them. Nothing is defined here: the atoms are those of
+//! `set_atoms`, the sets that threads share those of `counted_set` and, with a name, of `named_set`, the words, hashes and static tables those of
+//! `text_forms`, the table for one thread that of `interner_table`, and the core of atomic steps that of `atomic_steps`.
 
 pub use atomic_steps::steps;
 pub use counted_set::dynamic_set;

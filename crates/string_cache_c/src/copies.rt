@@ -5,7 +5,7 @@ ghost use Rattle.string_cache_c.specs.Calls.{CopiesText};
 
 use crate::numbers::TOO_SMALL;
 
-/// Copies the text to the front of the room where it has place, and tells its length in both cases.
+/// Copies the text to the front of the room if it fits, and writes its length in either case.
 pub fn copy_text(text: &str, room: &mut [u8], len: &mut usize) -> u32
     ensures { CopiesText text.now result room.old room.new len.new }
 {

@@ -1,7 +1,7 @@
-//! What C is told of a word.
+//! What C is told about a word.
 
-/// What a word tells of itself: its kind, 0 inline, 1 static, 2 dynamic; the index of a static one; the serial and the bucket
-/// of a dynamic one. What a kind hasn't is 0.
+/// What a word tells about itself: its kind, 0 inline, 1 static, 2 dynamic; the index of a static one; the serial and the bucket of a dynamic one.
+/// What a kind doesn't have is 0.
 #[repr(C)]
 #[derive(Drop)]
 pub struct ScForm {

@@ -1,4 +1,4 @@
-//! Words come and go.
+//! Interns, clones and gives words.
 
 ghost use Rattle.std.specs.Prelude.{◌≡◌, ◌≢◌, ◌≤◌, ◌⊎◌, None};
 ghost use Rattle.string_cache_c.specs.Calls.{ClonesWord, GivesWord, InternsText, Within};
@@ -7,11 +7,10 @@ ghost use Rattle.string_cache_c.specs.Numbers.{closed, not_held, not_utf8};
 use crate::handle::ScTable;
 use crate::numbers::CLOSED;
 
-/// Interns a text, and writes its word. A text of at most 7 bytes has its inline word. Any other has a ticket, with one holder
-/// more.
+/// Interns a text, and writes its word. A text of at most 7 bytes has its inline word. Any other has a ticket, with one more holder.
 ///
-/// 5 where the bytes aren't UTF-8, 1 where it finds no memory, 2 where the text has as many holders as the limits allow, 3
-/// where its bucket has no ticket left, 7 where the table is closed; then nothing changes.
+/// Returns 5 if the bytes aren't UTF-8, 1 if there is no memory, 2 if the text has as many holders as the limits allow, 3 if its bucket has no ticket
+/// left, and 7 if the table is closed; then nothing changes.
 #[unsafe(no_mangle)]
 pub extern "C" fn sc_table_intern(t: &mut ScTable, text: &[u8], word: &mut u64) -> u32
     ensures none { t.old.seat.value ≡ None → result ≡ closed }
@@ -27,8 +26,8 @@ pub extern "C" fn sc_table_intern(t: &mut ScTable, text: &[u8], word: &mut u64) 
     number
 }
 
-/// One holder more of a word that is held. 6 where it isn't, 2 where it has as many holders as the limits allow, 7 where the
-/// table is closed; then nothing changes.
+/// Adds a holder to a word that is held. Returns 6 if it isn't held, 2 if it has as many holders as the limits allow, and 7 if the table is closed;
+/// then nothing changes.
 #[unsafe(no_mangle)]
 pub extern "C" fn sc_table_clone(t: &mut ScTable, word: u64) -> u32
     ensures none { t.old.seat.value ≡ None → result ≡ closed }
@@ -44,8 +43,8 @@ pub extern "C" fn sc_table_clone(t: &mut ScTable, word: u64) -> u32
     number
 }
 
-/// One holder less of a word that is held. The last holder of a ticket takes the text with it. 6 where the word isn't held, 7
-/// where the table is closed; then nothing changes.
+/// Takes a holder from a word that is held. A ticket's text goes with its last holder. Returns 6 if the word isn't held and 7 if the table is closed;
+/// then nothing changes.
 #[unsafe(no_mangle)]
 pub extern "C" fn sc_table_give(t: &mut ScTable, word: u64) -> u32
     ensures none { t.old.seat.value ≡ None → result ≡ closed }

@@ -1,4 +1,4 @@
-//! A table's beginning and end, and its room.
+//! Opens and closes a table, and makes room in it.
 
 ghost use Rattle.std.specs.Prelude.{◌≡◌, ◌≢◌, ◌-◌, ◌^◌, ◌≤◌, ◌⊎◌, ◌↔◌, [], None, Some, IsSome, IfSome};
 ghost use Rattle.interner_table.specs.Bounds.{AreBounds};
@@ -18,8 +18,8 @@ use interner_table::table::Table;
 use interner_table::word::{Buckets, Limits};
 use std::alloc::Global;
 
-/// Opens a closed table, with nothing held, the greatest limits and the usual number of buckets, whose texts are hashed under this key.
-/// 1 if it finds no memory, and 8 if the table is open; then nothing changes.
+/// Opens a closed table, with nothing held, the greatest limits and the usual number of buckets, whose texts are hashed under this key. Returns 1 if
+/// there is no memory, and 8 if the table is open; then nothing changes.
 #[unsafe(no_mangle)]
 pub extern "C" fn sc_table_open(t: &mut ScTable, key: TextKey, alloc: Global) -> u32
     ensures number { (result ≡ 0) ⊎ (result ≡ 1) ⊎ (result ≡ not_closed) }
@@ -38,8 +38,8 @@ pub extern "C" fn sc_table_open(t: &mut ScTable, key: TextKey, alloc: Global) ->
     }
 }
 
-/// Opens a closed table, with nothing held, with these limits and 2 to this power of buckets, whose texts are hashed under this key. 1 if it
-/// finds no memory, 8 if the table is open, and 10 if there are no such limits or buckets; then nothing changes.
+/// Opens a closed table, with nothing held, these limits and 2 to this power of buckets, whose texts are hashed under this key. Returns 1 if there is
+/// no memory, 8 if the table is open, and 10 if there are no such limits or buckets; then nothing changes.
 #[unsafe(no_mangle)]
 pub extern "C" fn sc_table_open_with(
     t: &mut ScTable,
@@ -72,7 +72,7 @@ pub extern "C" fn sc_table_open_with(
     }
 }
 
-/// Puts the table into a handle that is closed. 1 where it finds no memory for it.
+/// Puts the table into a closed handle. Returns 1 if there is no memory for it.
 fn put_table(t: &mut ScTable, table: Table<EmptyStaticAtomSet, TextKey>, alloc: Global) -> u32
     ensures number { (result ≡ 0) ⊎ (result ≡ 1) }
     ensures ok { result ≡ 0 → t.new.seat.value ≡ Some (record { table = table }) }
@@ -93,7 +93,7 @@ pub extern "C" fn sc_table_close(t: &mut ScTable)
     drop(t.take());
 }
 
-/// Ends every entry, whoever holds it, and keeps the memory. No ticket comes again.
+/// Ends every entry, whoever holds it, and keeps the memory. No ticket is given again. Returns 7 if the table is closed.
 #[unsafe(no_mangle)]
 pub extern "C" fn sc_table_clear(t: &mut ScTable) -> u32
     ensures none { t.old.seat.value ≡ None → result ≡ closed }
@@ -108,7 +108,7 @@ pub extern "C" fn sc_table_clear(t: &mut ScTable) -> u32
     0
 }
 
-/// Makes room for this number of texts of more than 7 bytes. 1 where it finds no memory. What is held stays.
+/// Makes room for this many more texts of more than 7 bytes. Returns 1 if there is no memory, and 7 if the table is closed. What is held stays.
 #[unsafe(no_mangle)]
 pub extern "C" fn sc_table_reserve(t: &mut ScTable, more: usize) -> u32
     ensures none { t.old.seat.value ≡ None → result ≡ closed }

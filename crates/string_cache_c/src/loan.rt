@@ -1,4 +1,4 @@
-//! What C lends to a call that only reads: a table that nobody writes meanwhile, or nothing.
+//! What C lends to a call that only reads: a table that nobody writes in the meantime, or nothing.
 
 ghost use Rattle.std.specs.Prelude.{◌≡◌, ◌↔◌, ℕ, None, Some, Option, IsSome, IsTrue, MatchOption};
 ghost use Rattle.string_cache_c.specs.Loan.{loan_has};
@@ -8,7 +8,7 @@ ghost use Rattle.string_cache_c.specs.declared.numbered_table.NumberedTable.{Num
 use crate::numbered_table::NumberedTable;
 use std::marker::Model;
 
-/// A pointer to a table that is shared, for the lifetime `life`, or nothing. As many as C likes may have one table at a time.
+/// A pointer to a table that is shared for the lifetime `life`, or nothing. Any number of loans may have one table at a time.
 #[repr(C)]
 #[derive(Drop)]
 pub struct Loan {
@@ -31,8 +31,7 @@ impl Loan {
     }
 }
 
-/// A handle as C lends it: a copy of its bytes, with a loan of its table or none. A call that has no more than this changes neither
-/// the handle nor the table.
+/// A handle as C lends it: a copy of its bytes, with a loan of its table or none. A call that has only this changes neither the handle nor the table.
 #[repr(C)]
 #[derive(Drop)]
 pub struct ScLent {

@@ -17,14 +17,14 @@ use interner_table::static_sets::EmptyStaticAtomSet;
 use interner_table::table::Table;
 use std::mem::size_of;
 
-/// A table whose calls answer with a number: 0, or why they failed.
+/// A table whose calls return a number: 0, or why they failed.
 #[derive(Drop)]
 pub struct NumberedTable {
     pub table: Table<EmptyStaticAtomSet, TextKey>,
 }
 
 impl NumberedTable {
-    /// As `Table::intern`. The word is written where the number is 0.
+    /// As `Table::intern`. The word is written if 0 is returned.
     pub fn intern(&mut self, text: &[u8], word: &mut u64) -> u32
         ensures interned { InternsText self.old.table text.now result word.old word.new self.new.table }
         ensures number { (result ≤ 3) ⊎ (result ≡ not_utf8) }
@@ -42,7 +42,7 @@ impl NumberedTable {
         }
     }
 
-    /// As `Table::get`. The word is written where the number is 0.
+    /// As `Table::get`. The word is written if 0 is returned.
     pub fn get(&self, text: &[u8], word: &mut u64) -> u32
         ensures utf8 { ¬ (IsUtf8 text.now) → result ≡ not_utf8 }
         ensures word { result ≡ 0 → HasWord empty_tables (map_of self.now.table) text.now word.new }
@@ -78,7 +78,7 @@ impl NumberedTable {
         }
     }
 
-    /// As `Table::give`, of a word that is held.
+    /// As `Table::give`, for a word that is held.
     pub fn give(&mut self, word: u64) -> u32
         ensures given { GivesWord self.old.table word result self.new.table }
         ensures number { (result ≡ 0) ⊎ (result ≡ not_held) }
@@ -91,7 +91,7 @@ impl NumberedTable {
         0
     }
 
-    /// As `Table::holders`. The number of holders is written where the answer is 0.
+    /// As `Table::holders`. The number of holders is written if 0 is returned.
     pub fn holders(&self, word: u64, holders: &mut u64) -> u32
         ensures holders { result ≡ 0 → HasHolders (map_of self.now.table) word holders.new }
         ensures unheld { result ≡ not_held → ¬ (IsHeldTicket (map_of self.now.table) word) }
@@ -119,7 +119,7 @@ impl NumberedTable {
         }
     }
 
-    /// As `Table::nth`. The word and its holders are written where the number is 0.
+    /// As `Table::nth`. The word and its holders are written if 0 is returned.
     pub fn entry(&self, at: usize, word: &mut u64, holders: &mut u64) -> u32
         ensures entry { (pair : Pair) → slice_get self.now.table.pairs at ≡ Some pair → (result ≡ 0) × (word.new ≡ pair.1.ticket) × (holders.new ≡ pair.1.holders) }
         ensures past { slice_get self.now.table.pairs at ≡ None → result ≡ not_held }
@@ -146,7 +146,7 @@ impl NumberedTable {
         }
     }
 
-    /// As `Table::memory`, with the block in which the handle has the table, or the greatest number where it is more.
+    /// As `Table::memory`, with the block in which the handle has the table, or the greatest number if it is more.
     pub fn memory(&self) -> u64
         ensures { TellsMemory self.now.table result }
     {

@@ -10,8 +10,8 @@ use std::alloc::Global;
 use std::str;
 use table_generator::check::check_tables;
 
-/// Writes whether a text is the printed form of static tables in which each text is listed once and stands at its place. 5
-/// where the bytes aren't UTF-8, 1 where it finds no memory.
+/// Writes whether a text is the printed form of static tables in which each text is listed once, at its place. Returns 5 if the bytes aren't UTF-8,
+/// and 1 if there is no memory.
 #[unsafe(no_mangle)]
 pub extern "C" fn sc_text_check_tables(text: &[u8], perfect: &mut bool, alloc: Global) -> u32
     ensures utf8 { ¬ (IsUtf8 text.now) → result ≡ not_utf8 }

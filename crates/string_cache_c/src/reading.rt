@@ -1,4 +1,4 @@
-//! What a table tells of its texts and of words. A call here has only what C lends, so any number of them may run beside each other.
+//! What a table tells about its texts and about words. A call here has only what C lends, so any number of them may run at the same time.
 
 ghost use Rattle.std.specs.Prelude.{◌≡◌, ◌≢◌, ◌<◌, ◌≤◌, ◌⊎◌, ◌↔◌, ◌-◌, ◌^◌, ℕ, List, IsTrue, None, Some, IsSome, slice_get};
 ghost use Rattle.std.specs.List.{IsDistinct};
@@ -14,8 +14,8 @@ ghost use Rattle.string_cache_c.specs.Numbers.{closed, not_held, not_utf8};
 use crate::loan::ScLent;
 use crate::numbers::CLOSED;
 
-/// Writes the word of a text that has one, without a holder more. 6 exactly where the text has no word, 5 where the bytes
-/// aren't UTF-8, 7 where the table is closed.
+/// Writes the word of a text that has one, and adds no holder. Returns 6 exactly if the text has no word, 5 if the bytes aren't UTF-8, and 7 if the
+/// table is closed.
 #[unsafe(no_mangle)]
 pub extern "C" fn sc_table_get(t: ScLent, text: &[u8], word: &mut u64) -> u32
     ensures none { t.loan.value ≡ None → result ≡ closed }
@@ -32,7 +32,7 @@ pub extern "C" fn sc_table_get(t: ScLent, text: &[u8], word: &mut u64) -> u32
     numbered.get(text, word)
 }
 
-/// Whether a word is held: an inline word always is, and a ticket where someone holds it. A closed table holds none.
+/// Whether a word is held: an inline word always is, and a ticket is if someone holds it. A closed table holds none.
 #[unsafe(no_mangle)]
 pub extern "C" fn sc_table_holds(t: ScLent, word: u64) -> bool
     ensures holds { IsTrue result ↔ HoldsWord t.loan.value word }
@@ -43,7 +43,7 @@ pub extern "C" fn sc_table_holds(t: ScLent, word: u64) -> bool
     numbered.table.holds(word)
 }
 
-/// Writes how many hold a ticket. 6 for any other word, 7 where the table is closed.
+/// Writes how many hold a ticket. Returns 6 for any other word, and 7 if the table is closed.
 #[unsafe(no_mangle)]
 pub extern "C" fn sc_table_holders(t: ScLent, word: u64, holders: &mut u64) -> u32
     ensures none { t.loan.value ≡ None → result ≡ closed }
@@ -58,8 +58,8 @@ pub extern "C" fn sc_table_holders(t: ScLent, word: u64, holders: &mut u64) -> u
     numbered.holders(word, holders)
 }
 
-/// Copies the text of a word that is held to the front of the room where it has place. Its length is written in both cases. 9
-/// where it has no place, 6 where the word isn't held, 7 where the table is closed.
+/// Copies the text of a word that is held to the front of the room if it fits. Its length is written in either case. Returns 9 if it doesn't fit, 6
+/// if the word isn't held, and 7 if the table is closed.
 #[unsafe(no_mangle)]
 pub extern "C" fn sc_table_text(t: ScLent, word: u64, room: &mut [u8], len: &mut usize) -> u32
     ensures none { t.loan.value ≡ None → (result ≡ closed) × (room.new ≡ room.old) × (len.new ≡ len.old) }
@@ -73,8 +73,8 @@ pub extern "C" fn sc_table_text(t: ScLent, word: u64, room: &mut [u8], len: &mut
     numbered.text(word, room, len)
 }
 
-/// Writes the ticket and the number of holders of the text at a place of the table's order, from 0 on. 6 past the last, 7 where
-/// the table is closed. A new text comes last; where a text goes, the last one comes in its place.
+/// Writes the ticket and the number of holders of the text at a place in the table's order, counted from 0. Returns 6 past the last, and 7 if the
+/// table is closed. A new text goes to the end; when a text is taken out, the last one takes its place.
 #[unsafe(no_mangle)]
 pub extern "C" fn sc_table_entry(t: ScLent, index: usize, word: &mut u64, holders: &mut u64) -> u32
     ensures none { t.loan.value ≡ None → result ≡ closed }
@@ -88,7 +88,7 @@ pub extern "C" fn sc_table_entry(t: ScLent, index: usize, word: &mut u64, holder
     numbered.entry(index, word, holders)
 }
 
-/// How many texts of more than 7 bytes are held. A closed table has none.
+/// The number of texts of more than 7 bytes that are held. A closed table has none.
 #[unsafe(no_mangle)]
 pub extern "C" fn sc_table_entries(t: ScLent) -> usize
     ensures count { result ≡ entries_of t.loan.value }
@@ -100,7 +100,7 @@ pub extern "C" fn sc_table_entries(t: ScLent) -> usize
     numbered.table.entries()
 }
 
-/// How many bytes the texts of more than 7 bytes have that are held; 2^64 - 1 where they have as many or more.
+/// The bytes of the texts of more than 7 bytes that are held; 2^64 - 1 if they have that many or more.
 #[unsafe(no_mangle)]
 pub extern "C" fn sc_table_text_bytes(t: ScLent) -> u64
     ensures bytes { text_bytes_of t.loan.value < 2 ^ 64 → result ≡ text_bytes_of t.loan.value }
@@ -115,8 +115,8 @@ pub extern "C" fn sc_table_text_bytes(t: ScLent) -> u64
     }
 }
 
-/// How many bytes the table has asked for and still holds: those that `Table::memory` tells, and the block in which the handle has the
-/// table; 2^64 - 1 where they are as many or more. A closed table holds none.
+/// The bytes that the table has asked for and still holds: those that `Table::memory` counts, and the block in which the handle has the table; 2^64 -
+/// 1 if they are that many or more. A closed table holds none.
 #[unsafe(no_mangle)]
 pub extern "C" fn sc_table_memory(t: ScLent) -> u64
     ensures none { t.loan.value ≡ None → result ≡ 0 }

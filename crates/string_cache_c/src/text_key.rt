@@ -4,7 +4,7 @@ use std::hash::BuildHasher;
 use text_forms::SipKey;
 use text_forms::phf::Sip;
 
-/// A key of SipHash-1-3 that C drew, or chose, and handed over. No function here makes one, so a table is under the key of its caller.
+/// A key of SipHash-1-3 that C drew or chose, and handed over. No function here makes one, so a table uses its caller's key.
 #[repr(C)]
 #[derive(Clone, Copy, Drop)]
 pub struct TextKey {

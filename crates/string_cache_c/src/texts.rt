@@ -1,4 +1,4 @@
-//! What is asked of texts and words without a table.
+//! Questions about texts and words that need no table.
 
 ghost use Rattle.std.specs.Prelude.{◌≡◌, ◌≢◌, ◌+◌, ◌<◌, ◌≤◌, ◌⊎◌, ℕ, IsTrue, List, MatchOption, None, Some, length, slice_index};
 ghost use Rattle.std.specs.Str.{IsAscii, IsUtf8};
@@ -37,7 +37,7 @@ pub extern "C" fn sc_table_version() -> u32
     VERSION
 }
 
-/// Writes the inline word of a text. 5 where the bytes aren't UTF-8, 11 where a text has more than 7 bytes.
+/// Writes the inline word of a text. Returns 5 if the bytes aren't UTF-8, and 11 if a text has more than 7 bytes.
 #[unsafe(no_mangle)]
 pub extern "C" fn sc_word_pack(text: &[u8], word: &mut u64) -> u32
     ensures utf8 { ¬ (IsUtf8 text.now) → result ≡ not_utf8 }
@@ -57,8 +57,8 @@ pub extern "C" fn sc_word_pack(text: &[u8], word: &mut u64) -> u32
     }
 }
 
-/// Copies the text of an inline word to the front of the room where it has place. Its length is written in both cases. 9 where
-/// it has no place, 11 for any other word.
+/// Copies the text of an inline word to the front of the room if it fits. Its length is written in either case. Returns 9 if it doesn't fit, and 11
+/// for any other word.
 #[unsafe(no_mangle)]
 pub extern "C" fn sc_word_unpack(word: u64, room: &mut [u8], len: &mut usize) -> u32
     ensures text { IsInlineWord word → (text : List ℕ) × IsInlineText text × (inline_word text ≡ word) × CopiesText text result room.old room.new len.new }
@@ -70,7 +70,7 @@ pub extern "C" fn sc_word_unpack(word: u64, room: &mut [u8], len: &mut usize) ->
     }
 }
 
-/// Writes what a word tells of itself. 11 where it is the word of nothing.
+/// Writes what a word tells about itself. Returns 11 if it is the word of nothing.
 #[unsafe(no_mangle)]
 pub extern "C" fn sc_word_form(word: u64, form: &mut ScForm) -> u32
     ensures number { (result ≡ 0) ⊎ (result ≡ not_word) }
@@ -104,7 +104,7 @@ fn tell(form: Form) -> ScForm
     }
 }
 
-/// Writes the hashes of a text under a key. 5 where the bytes aren't UTF-8.
+/// Writes the hashes of a text under a key. Returns 5 if the bytes aren't UTF-8.
 #[unsafe(no_mangle)]
 pub extern "C" fn sc_text_hash(text: &[u8], key: u64, hashes: &mut ScHashes) -> u32
     ensures utf8 { ¬ (IsUtf8 text.now) → (result ≡ not_utf8) × (hashes.new ≡ hashes.old) }
@@ -123,7 +123,7 @@ pub extern "C" fn sc_text_hash(text: &[u8], key: u64, hashes: &mut ScHashes) -> 
 
 // ---- the bytes of a text
 
-/// The text of these bytes, if they are UTF-8. Most are some bytes of ASCII, which is seen sooner than all of UTF-8.
+/// The text of these bytes, if they are UTF-8. Most are a few bytes of ASCII, which is checked faster than all of UTF-8.
 #[inline(always)]
 pub fn text_of(bytes: &[u8]) -> Option<&str>
     ensures { MatchOption result (¬ (IsUtf8 bytes.now)) (λ text. (text.now ≡ bytes.now) × IsUtf8 bytes.now) }

@@ -1,4 +1,4 @@
--- Tables of texts under displacements that place them: words of the search.
+-- Words of private contracts of the search: tables of texts under displacements that place them.
 use Rattle.std.specs.Prelude.{◌≡◌, ℕ, ◌^◌, ◌<◌, List, map}
 use Rattle.std.specs.List.{All}
 use Rattle.std.specs.List.Sorted.{IsPermutation}

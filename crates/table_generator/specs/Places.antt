@@ -1,5 +1,5 @@
--- Places of texts, and which of them are free while displacements are searched for. `AreApart` and `AreDisplacementsOf` stand in what
--- `generate` promises; the rest are the words of the search.
+-- Places of texts, and which of them are free while displacements are searched for. `AreApart` and `AreDisplacementsOf` are part of what `generate`
+-- promises; the rest are terms of the search.
 use Rattle.std.specs.Prelude.{◌≡◌, ◌≢◌, ℕ, ◌+◌, ◌*◌, ◌%◌, ◌^◌, ◌<◌, Bool, true, false, List, length, slice_index_or}
 use Rattle.std.specs.List.{All, Any, AllPairs}
 use Rattle.text_forms.specs.declared.phf.Hashes.{Hashes}
@@ -10,7 +10,7 @@ use Rattle.table_generator.specs.declared.search.Tried.{Tried}
 abbrev pub AreApart : List (ℕ × ℕ) → ℕ → List Hashes → Type 0
 AreApart disps len = AllPairs (λ x y. place_of x disps len ≢ place_of y disps len)
 
--- as many pairs of displacements, each below the bound, give the texts different places
+-- this many pairs of displacements, each below the bound, give the texts different places
 pub record AreDisplacementsOf (pairs bound : ℕ) (hashes : List Hashes) (disps : List (ℕ × ℕ)) : Type 0 where
   pub count : length disps ≡ pairs
   pub bounded : All (λ pair. (pair.0 < bound) × (pair.1 < bound)) disps

@@ -12,12 +12,15 @@ unfoldable pub hex_digits : ℕ → ℕ → List ℕ
 hex_digits zero n = []
 hex_digits (suc count) n = hex_digits count (n / 16) ++ (hex_digit (n % 16) ∷ [])
 
+-- the line `key D`, with the key in decimal
 abbrev pub key_line : ℕ → List ℕ
 key_line key = codes "key " ++ (decimal key ++ codes "\n")
 
+-- the line `disp D D`, with both displacements in decimal
 abbrev pub disp_line : ℕ × ℕ → List ℕ
 disp_line pair = codes "disp " ++ (decimal pair.0 ++ (codes " " ++ (decimal pair.1 ++ codes "\n")))
 
+-- the line `atom H TEXT`, with the hash number in 16 hexadecimal digits
 abbrev pub atom_line : ℕ → List ℕ → List ℕ
 atom_line hash text = codes "atom " ++ (hex_digits 16 hash ++ (codes " " ++ (text ++ codes "\n")))
 
@@ -27,6 +30,7 @@ atom_lines [] texts = []
 atom_lines (hash ∷ hashes) [] = []
 atom_lines (hash ∷ hashes) (text ∷ texts) = atom_line hash text ++ atom_lines hashes texts
 
+-- the printed form: the line of the key, one for each pair of displacements, and one for each text
 abbrev pub table_text : Tables → List ℕ
 table_text t = key_line t.key ++ (flat_map disp_line t.disps ++ atom_lines t.hashes t.atoms)
 

@@ -72,7 +72,7 @@ fn atom_of(line: &str) -> Option<(u64, &str)>
     Some((hash, text))
 }
 
-/// The key, and what stands behind its line.
+/// The key, and what comes after its line.
 fn key_and_rest(text: &str) -> Option<(u64, &str)>
     ensures { MatchOption result
         ((key : ℕ) (rest : List ℕ) → key < 2 ^ 64 → text.now ≢ key_line key ++ rest)
@@ -87,7 +87,7 @@ fn key_and_rest(text: &str) -> Option<(u64, &str)>
     Some((key, rest))
 }
 
-/// A pair of displacements, and what stands behind its line.
+/// A pair of displacements, and what comes after its line.
 fn pair_and_rest(text: &str) -> Option<((u32, u32), &str)>
     ensures { MatchOption result
         ((pair : ℕ × ℕ) (rest : List ℕ) → pair.0 < 2 ^ 32 → pair.1 < 2 ^ 32 → text.now ≢ disp_line pair ++ rest)
@@ -102,7 +102,7 @@ fn pair_and_rest(text: &str) -> Option<((u32, u32), &str)>
     Some((pair, rest))
 }
 
-/// A hash number and its text, and what stands behind their line.
+/// A hash number and its text, and what comes after their line.
 fn atom_and_rest(text: &str) -> Option<(u64, &str, &str)>
     ensures { MatchOption result
         ((hash : ℕ) (atom rest : List ℕ) → hash < 2 ^ 64 → HasNoFeed atom → text.now ≢ atom_line hash atom ++ rest)
@@ -117,7 +117,7 @@ fn atom_and_rest(text: &str) -> Option<(u64, &str, &str)>
     Some((hash, atom, rest))
 }
 
-/// All displacements that the text begins with, and what stands behind their lines.
+/// All displacements that the text begins with, and what comes after their lines.
 fn pairs_and_rest(alloc: Global, text: &str) -> Result<(Vec<(u32, u32)>, &str), AllocError>
     ensures { IfOk result (λ found. ReadsDisps text.now found.0.items found.1.now) }
 {
@@ -137,7 +137,7 @@ struct AtomLines<'t> {
     atoms: Vec<&'t str>,
 }
 
-/// All texts that the text begins with, and what stands behind their lines.
+/// All texts that the text begins with, and what comes after their lines.
 fn listed_and_rest(alloc: Global, text: &str) -> Result<(AtomLines<'_>, &str), AllocError>
     ensures { IfOk result (λ found. ReadsAtoms text.now found.0.hashes.items (texts_of found.0.atoms.items) found.1.now) }
 {
@@ -154,9 +154,9 @@ fn listed_and_rest(alloc: Global, text: &str) -> Result<(AtomLines<'_>, &str), A
 
 /// Whether a text is the printed form of tables that pass `PhfStrSet::check`.
 ///
-/// The form: a line `key D`, then lines `disp D D`, at least one, then lines `atom H TEXT`, at least one, each with its line feed. D is
-/// decimal, without sign or leading zeros, and below 2^64 for the key, 2^32 in `disp`. H has 16 hexadecimal digits in lower case;
-/// TEXT is the rest of the line, which may be empty. `Memory` is the only fault.
+/// The form: a line `key D`, then lines `disp D D`, at least one, then lines `atom H TEXT`, at least one, each with its line feed. D is decimal,
+/// without a sign or leading zeros, and below 2^64 for the key, below 2^32 in `disp`. H has 16 hexadecimal digits in lower case; TEXT is the rest of
+/// the line, which may be empty. The only error is `Memory`.
 pub fn check_tables(alloc: Global, text: &str) -> Result<bool, Fault>
     ensures spelled { IfOk result (λ yes. IsTrue yes ↔ SpellsPerfectTables text.now) }
     ensures refused { IfErr result (λ fault. fault ≡ Fault.Memory) }

@@ -1,4 +1,4 @@
-//! Displacements for all texts: one pair after another is settled, against the places that are taken by then.
+//! Displacements for all texts: one pair after another is settled, against the places taken so far.
 
 ghost use Rattle.std.specs.Prelude.{◌≡◌, ◌<◌, ◌≤◌, ◌^◌, ◌∷◌, [], ℕ, IfOk, IfSome, length};
 ghost use Rattle.table_generator.specs.Grouped.{AreGrouped, IsRunEnd};
@@ -22,8 +22,8 @@ fn run_end(hashes: &[Hashes], start: usize, pairs: usize) -> usize
     end
 }
 
-/// Displacements that place the texts, of which those of one pair stand side by side. `None` where the search found none;
-/// where there is only one pair, there are none among those to be tried then.
+/// Displacements that place the texts, of which those of one pair must be side by side. `None` if the search found none; if there is only one pair,
+/// then there are none among those to be tried.
 pub fn displace(
     alloc: Global,
     hashes: &[Hashes],

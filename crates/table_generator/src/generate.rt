@@ -1,7 +1,7 @@
 //! Perfect tables of a list of texts, by hash, displace and compress (Belazzougui, Botelho and Dietzfelbinger, 2009).
 //!
-//! Each text belongs to the pair of displacements that its hash `g` picks. Pairs with more texts are settled first; for a pair
-//! one displacement after another is tried against the places that are taken by then, and nothing that was settled changes.
+//! Each text belongs to the pair of displacements that its hash `g` picks. Pairs with more texts are settled first; for a pair, one displacement
+//! after another is tried against the places taken so far, and nothing that was settled changes.
 
 ghost use Rattle.std.specs.Prelude.{◌≡◌, ◌<◌, ◌≤◌, ◌%◌, ◌^◌, ◌⊎◌, ℕ, IfErr, IfOk, IfSome, length, map};
 ghost use Rattle.std.specs.Bool.{OnTrue, OnFalse};
@@ -48,9 +48,9 @@ fn has_double(list: &[&str]) -> bool
 /// The most first displacements that are tried for more than five texts, so that a hopeless search ends.
 const MOST_FIRST: u32 = 65_536;
 
-/// The displacements that are tried for `count` texts. Where `count` divides 2^32, a displacement and its rest modulo `count`
-/// give each text one place, so no more than `count` are tried. Of three and of five texts all are. Of other numbers no more
-/// than `count` second ones are, as they move the texts round, and `MOST_FIRST` first ones.
+/// The displacements that are tried for `count` texts. If `count` divides 2^32, a displacement and its remainder modulo `count` give each text the
+/// same place, so no more than `count` are tried. For three and for five texts, all are. For other numbers of texts, no more than `count` second ones
+/// are, as they rotate the texts, and `MOST_FIRST` first ones.
 fn tried(count: u32, bound: u32) -> Tried
     requires count { 1 ≤ count }
     requires bound { 1 ≤ bound }
@@ -76,8 +76,8 @@ fn tried(count: u32, bound: u32) -> Tried
     Tried { first, second }
 }
 
-/// The texts as items, of which no two are equal. `Doubled` comes where two are, also where memory is refused: then each text is
-/// compared with all before it, which takes none, and `Memory` comes where all differ.
+/// The texts as items, of which no two are equal. `Doubled` if two are, even if memory is refused: then each text is compared with all before it,
+/// which takes none, and `Memory` is returned if all differ.
 fn different_items<'t>(
     alloc: Global,
     list: &[&'t str],
@@ -110,7 +110,7 @@ fn different_items<'t>(
     }
 }
 
-/// Tables of the texts, or `None` where the search found none.
+/// Tables of the texts, or `None` if the search found none.
 fn tables_in(alloc: Global, list: &[&str], key: u64, bound: u32) -> Result<Option<Tables>, GenFault>
     requires some { 1 ≤ length list.now }
     requires few { length list.now < 2 ^ 32 }
@@ -133,19 +133,18 @@ fn tables_in(alloc: Global, list: &[&str], key: u64, bound: u32) -> Result<Optio
     Ok(Some(assemble(alloc, key, disps, &items)?))
 }
 
-/// Tables of the texts under the key, with each displacement below the bound: one pair of displacements for each five texts,
-/// and one more where some are left.
+/// Tables of the texts under the key, with each displacement below the bound: one pair of displacements for every five texts, and one more if some
+/// are left over.
 ///
-/// `EmptyList`, `LineFeed` and `Doubled` come in this order and before any other fault, the first two before any memory is asked for.
-/// `NotPlaced` comes where the search found no tables: of at most five texts only where there are none, so never of one text with a
-/// bound of at least 1. Another key, or a greater bound, may find some.
+/// `EmptyList`, `LineFeed` and `Doubled` are checked in this order and before any other fault, the first two before any memory is asked for.
+/// `NotPlaced` if the search found no tables: for at most five texts only if there are none, so never for one text with a bound of at least 1.
+/// Another key, or a greater bound, may find some.
 ///
-/// The search takes milliseconds for a thousand texts, and has an end. What it tries for one pair, where that is hopeless, is at
-/// most 65,536 or `bound` displacements, whichever is less, times the number of texts; that number's square where it is a power of
-/// two; and three times `bound` times `bound` for three or five texts. Of these small ones are tried first: where some below a small
-/// bound place the texts, a greater bound takes no longer. Equal texts have equal hashes, so each text is compared with those of its
-/// own pair alone, some five of them. Where memory is refused before that, or there are 2^32 texts or more, it is compared with all
-/// before it, which takes no memory, and hours for millions of texts.
+/// The search takes milliseconds for a thousand texts, and always ends. What it tries for one pair, if that is hopeless, is at most 65,536 or `bound`
+/// displacements, whichever is less, times the number of texts; that number's square if it is a power of two; and three times `bound` times `bound`
+/// for three or five texts. Small displacements are tried first: if some below a small bound place the texts, a greater bound takes no longer. Equal
+/// texts have equal hashes, so each text is compared only with those of its own pair, about five of them. If memory is refused before that, or there
+/// are 2^32 texts or more, it is compared with all before it, which takes no memory, but hours for millions of texts.
 pub fn generate(alloc: Global, list: &[&str], key: u64, bound: u32) -> Result<Tables, GenFault>
     ensures { TellsTables (texts_of list.now) key bound result }
 {

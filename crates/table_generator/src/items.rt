@@ -1,4 +1,4 @@
-//! Texts in the order in which they are settled, and then in that of their places.
+//! Texts in the order in which they are settled, and then in the order of their places.
 
 ghost use Rattle.std.specs.Prelude.{◌≡◌, ◌<◌, ◌≤◌, ◌^◌, IfOk, length, map};
 ghost use Rattle.std.specs.Bool.{OnTrue, OnFalse};
@@ -65,7 +65,7 @@ fn ranked<'t>(
     Ok(items)
 }
 
-/// The texts with their hashes, those of one pair side by side, and first those of the pairs that have most.
+/// The texts with their hashes, those of one pair side by side, those of the largest pairs first.
 pub fn items_of<'t>(
     alloc: Global,
     list: &[&'t str],
@@ -86,8 +86,8 @@ pub fn items_of<'t>(
     Ok(items)
 }
 
-/// Whether a text before the one at this index is equal to it. Texts of one pair stand side by side, and equal ones are of one pair,
-/// so no others are looked at.
+/// Whether a text before the one at this index is equal to it. Texts of one pair are side by side, and equal ones are of one pair, so no others are
+/// looked at.
 fn repeats_earlier(items: &[Item], index: usize, pairs: usize) -> bool
     requires pairs { 1 ≤ pairs }
     requires listed { index < length items.now }
@@ -110,7 +110,7 @@ fn repeats_earlier(items: &[Item], index: usize, pairs: usize) -> bool
     false
 }
 
-/// Whether two of the items have equal texts. It takes no memory, and compares a text with those of its own pair alone.
+/// Whether two of the items have equal texts. It takes no memory, and compares a text only with those of its own pair.
 pub fn has_repeat(items: &[Item], pairs: usize) -> bool
     requires pairs { 1 ≤ pairs }
     requires grouped { AreGrouped pairs (map (λ item. item.hashes) items.now) }

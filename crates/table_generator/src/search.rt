@@ -1,4 +1,4 @@
-//! The search for one pair of displacements: it has to give its texts places that are free, each another one.
+//! The search for one pair of displacements: it must give each of its texts a free place of its own.
 
 ghost use Rattle.std.specs.Prelude.{◌≡◌, ◌<◌, ◌≤◌, ◌^◌, ◌↔◌, IsTrue, MatchOption, length};
 ghost use Rattle.std.specs.Bool.{OnTrue, OnFalse};
@@ -6,12 +6,12 @@ ghost use Rattle.table_generator.specs.Places.{place_by, Fits, FitsAmong, IsPlac
 
 use text_forms::phf::Hashes;
 
-/// Which displacements are tried: all pairs of a first one and a second one below these numbers.
+/// The displacements that are tried: all pairs of a first one and a second one below these numbers.
 #[derive(Clone, Copy)]
 pub struct Tried {
-    /// Another first displacement gives the texts of a pair places at other distances.
+    /// A different first displacement gives the texts of a pair places at different distances.
     pub first: u32,
-    /// Another second displacement moves them all.
+    /// A different second displacement moves them all.
     pub second: u32,
 }
 
@@ -38,7 +38,7 @@ fn is_place_of(members: &[Hashes], pair: (u32, u32), len: u32, place: usize) -> 
         .any(|other| place_by(other, pair, len) == place)
 }
 
-/// Whether the pair gives the texts different places, none of which is taken. The first text for which it doesn't ends the look.
+/// Whether the pair gives the texts different places, none of which is taken. It stops at the first text for which it doesn't.
 fn fits(members: &[Hashes], pair: (u32, u32), taken: &[bool]) -> bool
     requires listed { 1 ≤ length taken.now }
     requires few { length taken.now < 2 ^ 32 }
@@ -72,11 +72,10 @@ fn find_within(members: &[Hashes], tried: Tried, taken: &[bool]) -> Option<(u32,
     None
 }
 
-/// A pair of those to be tried that gives the texts different places, none of which is taken; `None` only where none does. It
-/// takes no memory.
+/// A pair of those to be tried that gives the texts different places, none of which is taken; `None` only if none does. It takes no memory.
 ///
-/// Where more second displacements are tried than there are places, the search begins with as many of both, and tries twice as
-/// many each time: a pair of small ones is found in a time that depends on them, however great the numbers of `tried` are.
+/// If there are more second displacements to try than places, the search begins with as many of both as there are places, and doubles that each time:
+/// a pair of small ones is found in a time that depends on them, however great the numbers of `tried` are.
 pub fn find_pair(members: &[Hashes], tried: Tried, taken: &[bool]) -> Option<(u32, u32)>
     requires listed { 1 ≤ length taken.now }
     requires few { length taken.now < 2 ^ 32 }

@@ -1,4 +1,4 @@
-//! Static tables of one's own, and what making them can fail with.
+//! Static tables that own their texts, and the errors of making them.
 
 ghost use Rattle.std.specs.Prelude.{◌≡◌};
 
@@ -6,7 +6,7 @@ use std::alloc::{AllocError, AllocFailed};
 use std::fmt;
 use thiserror::Error;
 
-/// Static tables of one's own: what a `PhfStrSet` lends.
+/// Static tables that own their texts: what a `PhfStrSet` lends.
 #[derive(Drop)]
 pub struct Tables {
     /// The key of the hash.
@@ -19,7 +19,7 @@ pub struct Tables {
     pub hashes: Vec<u64>,
 }
 
-/// What making tables can fail with.
+/// The errors of making tables.
 #[derive(Clone, Copy, Debug, PartialEq, Eq, Error)]
 pub enum GenFault {
     /// No text was given.

@@ -1,4 +1,4 @@
-//! Sets and tables that tests begin with, and calls of them. No more is known of these than their types, so that a test's proof has less to read.
+//! Sets and tables that tests begin with, and calls of them. Nothing is known about these but their types, so that a test's proof has less to read.
 
 use std::alloc::Global;
 use std::hash::RandomState;
@@ -48,7 +48,7 @@ pub fn intern_all<'s, R: Wait + Abort>(
     atoms
 }
 
-/// Keys for tables, the same at each run.
+/// Keys for tables, the same in each run.
 pub fn table_keys(rt: &impl Abort) -> RandomState {
     keys(1).expect(rt, "keys")
 }

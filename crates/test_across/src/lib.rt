@@ -1,4 +1,4 @@
-//! Tests of calls of several crates, beside one another, and nothing else.
+//! Tests of calls of several crates, side by side, and nothing else.
 #![tactic(auto)]
 
 ghost use Rattle.std.specs.Prelude.{IsTrue};
@@ -20,7 +20,7 @@ fn assert_that(rt: &impl std::process::Abort, is_so: bool)
     assert!(rt; is_so);
 }
 
-/// Ends the test unless this is so for a value, which it tells.
+/// Ends the test unless this is so for a value, which it prints.
 #[cfg(test)]
 fn assert_for<T: std::fmt::Debug>(rt: &impl std::process::Abort, is_so: bool, value: &T)
     ensures { IsTrue is_so }

@@ -9,7 +9,7 @@ use test_samples::NAMES;
 
 // These are over any static type, so that no proof has to read the tables of this one.
 
-/// The atom of a text, where it is static.
+/// The atom of a text, if it is static.
 fn static_atom<'s, S: StaticAtomSet>(text: &str) -> Option<Atom<'s, S>> {
     Atom::try_static(text)
 }
@@ -18,12 +18,12 @@ fn is_static<S: StaticAtomSet>(text: &str) -> bool {
     static_atom::<S>(text).is_some()
 }
 
-/// How many texts the tables have.
+/// The number of texts in the tables.
 fn count_of<S: StaticAtomSet>() -> usize {
     S::get().atoms.len()
 }
 
-/// Under the tables that were generated of the long names, each is found without a set.
+/// With the tables that were generated from the long names, each is found without a set.
 #[test]
 fn long_names_are_static(rt: HostRuntime) {
     let mut long = 0usize;

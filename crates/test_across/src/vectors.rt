@@ -1,4 +1,4 @@
-//! What atoms tell and print: one list of texts, with values that come from outside.
+//! What atoms tell and print: one list of texts, with values from outside.
 
 mod limits;
 mod long;
@@ -32,7 +32,7 @@ fn form_told<Static: StaticAtomSet>(atom: &Atom<'_, Static>) -> &'static str {
     }
 }
 
-/// Whether the atom is printed so.
+/// Whether the atom is printed like this.
 fn is_printed<Static: StaticAtomSet>(alloc: Global, atom: &Atom<'_, Static>, text: &str) -> bool {
     match format!(in alloc; "{atom:?}") {
         Ok(printed) => printed.as_str() == text,
@@ -71,8 +71,8 @@ impl Vector {
     }
 }
 
-/// The words are the layout's, a ticket's bucket the low 12 bits of the hash. OpenSSL's SipHash tells the hashes of dynamic
-/// texts: g and f1.
+/// The words are the layout's, and a ticket's bucket is the low 12 bits of the hash. The hashes of dynamic texts, g and f1, are from OpenSSL's
+/// SipHash.
 const VECTORS: [Vector; 11] = [
     Vector {
         tables: Tables::Empty,

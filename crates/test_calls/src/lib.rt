@@ -1,5 +1,5 @@
-//! Calls of sets and atoms that tests of several crates make. All but the hash of a text say nothing of what they do, so that the proof of a
-//! test has less to read. What ends a test that goes wrong stands in each crate of tests, since a library may not abort.
+//! Calls of sets and atoms that tests of several crates make. All but the hash of a text say nothing about what they do, so that the proof of a test
+//! has less to read. What ends a test that goes wrong is in each crate of tests, since a library may not abort.
 #![tactic(auto)]
 
 ghost use Rattle.std.specs.Prelude.{◌≡◌};
@@ -24,7 +24,7 @@ pub fn hash_of<Static: StaticAtomSet>(text: &str) -> u64
     hash(text, Static::get().key).entry_hash()
 }
 
-/// Whether so many texts are linked.
+/// Whether this many texts are linked.
 pub fn links<S: SharedSet, R: Wait>(rt: &R, set: S, count: u128) -> bool {
     set.linked(rt) == count
 }
@@ -34,7 +34,7 @@ pub fn made<Static: StaticTables>(alloc: Global) -> Option<Set<Static>> {
     Set::new(alloc).ok()
 }
 
-/// One whose entries may have so many holders, and its buckets so many serials, if there is memory and a set may have these.
+/// One whose entries may have this many holders, and its buckets this many serials, if there is memory and a set may have these.
 pub fn limited<Static: StaticTables>(
     alloc: Global,
     holders: u64,
@@ -43,7 +43,7 @@ pub fn limited<Static: StaticTables>(
     Set::with_limits(alloc, Limits::new(holders, serials)?).ok()
 }
 
-/// One of so many buckets, if there is memory.
+/// One of this many buckets, if there is memory.
 pub fn made_with<Static: StaticTables>(alloc: Global, buckets: Buckets) -> Option<Set<Static>> {
     Set::with_buckets(alloc, Limits::greatest(), buckets).ok()
 }
@@ -117,7 +117,7 @@ pub fn read_json<S: TextSet, R: Wait>(
     AtomOf::from_json_in(rt, set, value)
 }
 
-/// The atom in small letters, unless it is refused.
+/// The atom in lower case, unless it is refused.
 pub fn lowered<S: TextSet, R: Wait>(
     rt: &R,
     set: S,
@@ -126,7 +126,7 @@ pub fn lowered<S: TextSet, R: Wait>(
     atom.to_ascii_lowercase_in(rt, set)
 }
 
-/// The atom in capitals, unless it is refused.
+/// The atom in upper case, unless it is refused.
 pub fn raised<S: TextSet, R: Wait>(
     rt: &R,
     set: S,
@@ -154,7 +154,7 @@ pub fn cloned_at<S: SharedSet, R: Wait>(
     list.clone_atom(rt, at)
 }
 
-/// What a text is refused for.
+/// Why a text is refused.
 pub fn refusal<S: TextSet, R: Wait>(rt: &R, set: S, text: &str) -> Option<Fault> {
     interned(rt, set, text).err()
 }
@@ -174,7 +174,7 @@ pub fn is_of<H: AtomKind>(atom: &SetAtom<H>, word: u64, text: &str) -> bool {
     has_word(atom, word) && has_text(atom, text)
 }
 
-/// Whether both have one word.
+/// Whether both have the same word.
 pub fn are_one<H: AtomKind>(one: &SetAtom<H>, other: &SetAtom<H>) -> bool {
     one.unsafe_data() == other.unsafe_data()
 }

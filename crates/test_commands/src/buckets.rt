@@ -1,4 +1,4 @@
-//! How many buckets a text gets.
+//! The number of buckets that a text gets.
 
 use crate::assert_for;
 use commands::buckets::buckets_for;

@@ -1,4 +1,4 @@
-//! That workers run at once, intern every place themselves and hold their atoms; and which fault is answered.
+//! That workers run at once, intern every place themselves and hold their atoms; and which fault is returned.
 
 ghost use Rattle.std.specs.Prelude.{◌≤◌};
 
@@ -77,7 +77,7 @@ fn counts_of_the_example(rt: HostRuntime) {
     assert_that(&rt, set.linked(&rt) == 0);
 }
 
-/// Whether four workers count both words of the long text, the longer of which is linked meanwhile.
+/// Whether four workers count both words of the long text, the longer of which is linked in the meantime.
 fn is_long_counted<R: Threads + Wait + Sync>(rt: &R, set: &DefaultSet, text: &str) -> bool {
     match counted(rt, set, text, 4, &Open) {
         Ok(counts) => {
@@ -97,7 +97,7 @@ fn counts_of_a_long_text(rt: HostRuntime) {
     assert_that(&rt, is_long_counted(&rt, &set, &text));
 }
 
-/// Whether this many workers count so many words in the set, each twice.
+/// Whether this many workers count this many words in the set, each twice.
 fn come_twice_in<R: Threads + Wait + Sync>(
     rt: &R,
     set: &DefaultSet,
@@ -139,7 +139,7 @@ fn halves_of_lists_are_merged(rt: HostRuntime) {
     }
 }
 
-/// Whether all of this many workers are in their pieces of the example at once, and each goes in once and out once.
+/// Whether this many workers are all in their pieces of the example at once, and each goes in once and out once.
 fn meet<R: Threads + Wait + Sync + Abort>(rt: &R, alloc: Global, n: u32) -> bool
     requires low { 1 ≤ n }
     requires high { n ≤ 64 }
@@ -166,13 +166,13 @@ fn sixty_four_workers_run_at_once(rt: HostRuntime) {
     assert_that(&rt, meet(&rt, rt.alloc(), 64));
 }
 
-/// One worker holds a word that came twice, till the counts are dropped.
+/// One worker holds a word that occurred twice, until the counts are dropped.
 #[test]
 fn repeated_word_goes_with_its_counts(rt: HostRuntime) {
     assert_that(&rt, come_twice(&rt, rt.alloc(), "interned interned", 1, 1));
 }
 
-/// So many different words, each of `long` letters or more and before this white space.
+/// This many different words, each of `long` letters or more and followed by this white space.
 fn words_before<R: Abort>(rt: &R, alloc: Global, count: u32, long: usize, white: char) -> String {
     let letters = "a".repeat(alloc, long).expect(rt, "room");
     let mut text = String::new(alloc);
@@ -199,7 +199,7 @@ fn words_counted<R: Threads + Wait + Sync, G: Gate>(
     }
 }
 
-/// Whether so many different words are counted by this many workers, and so many are linked as each piece ends.
+/// Whether this many different words are counted by this many workers, and this many are linked as each piece ends.
 fn end_at<R: Threads + Wait + Sync + Abort>(
     rt: &R,
     alloc: Global,
@@ -234,7 +234,7 @@ fn pieces_of_a_long_text(rt: HostRuntime) {
     );
 }
 
-/// Of 402 different words behind tabs, over several sections of the text, piece i of 4 ends at word 402 * i / 4.
+/// Of 402 different words separated by tabs, over several sections of the text, piece i of 4 ends at word 402 * i / 4.
 #[test]
 fn pieces_of_a_text_with_tabs(rt: HostRuntime) {
     let text = words_before(&rt, rt.alloc(), 402, 1_000, '\t');
@@ -244,7 +244,7 @@ fn pieces_of_a_text_with_tabs(rt: HostRuntime) {
     );
 }
 
-/// How many sections a text has, unless memory is refused.
+/// The number of sections that a text has, unless memory is refused.
 fn sections_of(alloc: Global, text: &str) -> Option<usize> {
     match sections(alloc, text) {
         Ok(sections) => Some(sections.len()),
@@ -252,7 +252,7 @@ fn sections_of(alloc: Global, text: &str) -> Option<usize> {
     }
 }
 
-/// A text of some 132,000 bytes has three sections, whatever white space stands between its words.
+/// A text of some 132,000 bytes has three sections, whatever white space is between its words.
 #[test]
 fn sections_are_cut_at_all_white_space(rt: HostRuntime) {
     for white in [' ', '\t', '\n', '\x0c', '\r'] {
@@ -280,7 +280,7 @@ fn empty_pieces(rt: HostRuntime) {
     assert_that(&rt, come_and_go(&rt, &set));
 }
 
-/// Two workers that hold the same text hold one entry, past `leave`.
+/// Two workers that hold the same text hold one entry, beyond `leave`.
 #[test]
 fn workers_share_entries(rt: HostRuntime) {
     let set = new_set(&rt, rt.alloc());
@@ -318,7 +318,7 @@ fn refused_workers_hold_their_atoms(rt: HostRuntime) {
     assert_that(&rt, watch.linked() == (0, 1) && set.linked(&rt) == 0);
 }
 
-/// Each place is a holder, also of a word that came before.
+/// Each place is a holder, even of a word that occurred before.
 #[test]
 fn every_place_is_interned(rt: HostRuntime) {
     let set = set_with(&rt, rt.alloc(), 2, 9);
@@ -346,7 +346,7 @@ fn are_refused_in_turn<R: Threads + Wait + Sync>(
         && held.eq_str("interned")
 }
 
-/// Of two workers that are refused, the fault of the first piece is answered, and no atom stays.
+/// If two workers are refused, the fault of the first piece is returned, and no atom stays.
 #[test]
 fn lowest_fault_is_answered(rt: HostRuntime) {
     let set = set_with(&rt, rt.alloc(), 1, 1);
@@ -384,7 +384,7 @@ fn is_cloned<R: Wait>(rt: &R, atom: &Atom<EmptyStaticAtomSet>) -> bool {
     }
 }
 
-/// What two workers answer who borrow an atom that a third one interned.
+/// What two workers that borrow an atom interned by a third one return.
 fn lent_to_two<'e, R: Threads + Wait + Sync>(
     rt: &'e R,
     atom: &'e Atom<'e, EmptyStaticAtomSet>,
@@ -396,7 +396,7 @@ fn lent_to_two<'e, R: Threads + Wait + Sync>(
     })
 }
 
-/// The atom of "interned" that a worker gives.
+/// The atom of "interned" that a worker returns.
 fn interned_by_worker<'e, R: Threads + Wait + Sync>(
     rt: &'e R,
     set: &'e Set<EmptyStaticAtomSet>,

@@ -39,7 +39,7 @@ impl Call {
         }
     }
 
-    /// What it answers and writes over these streams.
+    /// What it returns and writes over these streams.
     fn make<R: Threads + Wait + Sync>(self, rt: &R, alloc: Global, streams: &Streams) -> Outcome {
         match self {
             Call::Words => told_in_new_set(rt, alloc, streams),
@@ -61,7 +61,7 @@ impl Call {
         self.make(rt, alloc, streams).is(answer, lines)
     }
 
-    /// How many reads it makes, the last of which gives none.
+    /// The number of reads that it makes, the last of which gives no bytes.
     fn reads(self) -> u64 {
         let (input, _) = self.texts();
         input.len().div_ceil(GIVES) as u64 + 1
@@ -77,7 +77,7 @@ fn counted_by_two<R: Threads + Wait + Sync>(rt: &R, alloc: Global, streams: &Str
     Outcome { answer, page }
 }
 
-/// Whether a read that fails is told, and nothing is written then, or there is no such read.
+/// Whether a read that fails is reported, and then nothing is written, or there is no such read.
 fn is_read_told<R: Threads + Wait + Sync>(rt: &R, alloc: Global, call: Call, at: u64) -> bool {
     let (input, output) = call.texts();
     let streams = Streams::reading(input, at);
@@ -88,7 +88,7 @@ fn is_read_told<R: Threads + Wait + Sync>(rt: &R, alloc: Global, call: Call, at:
     }
 }
 
-/// Each read fails in turn, the one that would tell the end among them: then nothing is written.
+/// Each read fails in turn, including the one that would reach the end: then nothing is written.
 #[test]
 fn each_read_fails(rt: HostRuntime) {
     for call in &CALLS {
@@ -98,7 +98,7 @@ fn each_read_fails(rt: HostRuntime) {
     }
 }
 
-/// Whether a write that fails is told, and exactly these bytes are written before it.
+/// Whether a write that fails is reported, and exactly these bytes are written before it.
 fn is_write_told<R: Threads + Wait + Sync>(
     rt: &R,
     alloc: Global,
@@ -111,7 +111,7 @@ fn is_write_told<R: Threads + Wait + Sync>(
     call.gives(rt, alloc, &streams, Err(AppFault::Write), before)
 }
 
-/// Whether all is written where each write takes at most `takes` bytes.
+/// Whether everything is written if each write takes at most `takes` bytes.
 fn writes_all<R: Threads + Wait + Sync>(rt: &R, alloc: Global, call: Call, takes: usize) -> bool {
     let (input, output) = call.texts();
     let streams = Streams::writing(input, takes, 0);
@@ -150,7 +150,7 @@ fn each_write_fails(rt: HostRuntime) {
     }
 }
 
-/// A writer that takes one byte a call and fails at call 41, and one that takes none.
+/// A writer that takes one byte per call and fails at call 41, and one that takes none.
 #[test]
 fn writes_of_the_example_fail(rt: HostRuntime) {
     let before = b"Not seen the word \"here\" before\nNot seen";

@@ -7,7 +7,7 @@ use string_cache::EmptyStaticAtomSet;
 use string_cache::dynamic_set::Set;
 use word_counts::count::Gate;
 
-/// So often a worker that waits for the other looks again, and yields each time.
+/// How often a worker that waits for the other looks again, yielding each time.
 const TURNS: u64 = 1_000_000;
 
 /// Where the pieces up to a number meet.
@@ -55,7 +55,7 @@ fn bit(piece: u32) -> u64 {
     }
 }
 
-/// The pieces that came by. As many calls as bits add up to all of these bits only where each piece came once.
+/// The pieces that came by. As many calls as bits add up to all of these bits only if each piece came once.
 #[derive(Drop)]
 struct Passed {
     calls: AtomicU64,
@@ -75,7 +75,7 @@ impl Passed {
         self.bits.fetch_add(bit(piece), Ordering::SeqCst);
     }
 
-    /// Whether each of so many pieces came once, and no other.
+    /// Whether each of this many pieces came once, and no other.
     fn are_all(&self, pieces: u32) -> bool {
         self.calls.load(Ordering::SeqCst) == u64::from(pieces)
             && self.bits.load(Ordering::SeqCst) == bit(pieces) | bit(pieces).wrapping_sub(1)
@@ -117,8 +117,8 @@ impl Gate for Together {
     }
 }
 
-/// Lets the pieces in one after another, in order, and notes where the entries that are linked as one leaves aren't as many as wanted: its
-/// words and those of the pieces before it, all of which are still held.
+/// Lets the pieces in one after another, in order, and notes if the entries that are linked as one leaves aren't as many as wanted: its words and
+/// those of the pieces before it, all of which are still held.
 #[derive(Drop)]
 pub struct InTurn<'s> {
     set: &'s Set<EmptyStaticAtomSet>,
@@ -140,7 +140,7 @@ impl<'s> InTurn<'s> {
         }
     }
 
-    /// How many pieces left, each after those before it, with as many entries linked as are wanted.
+    /// The number of pieces that left, each after those before it, with as many entries linked as are wanted.
     pub fn right(&self) -> Option<u64> {
         if self.missed.load(Ordering::SeqCst) > 0 || self.others.load(Ordering::SeqCst) > 0 {
             return None;

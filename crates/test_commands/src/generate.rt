@@ -1,4 +1,4 @@
-//! What the commands print and answer, of single texts and of a real vocabulary.
+//! What the commands print and return, for single texts and for a real vocabulary.
 
 use crate::assert_that;
 use crate::program::{NOT_TEXT, Run, try_lines, try_runs};
@@ -33,7 +33,7 @@ fn are_made<R: Threads + Wait + Sync + Abort>(
     Run::Given(line, input, tables.as_bytes()).is_right(rt, alloc)
 }
 
-/// An empty line is the empty text, and the last line feed may lack.
+/// An empty line is the empty text, and the last line feed may be missing.
 #[test]
 fn one_text(rt: HostRuntime) {
     let alloc = rt.alloc();
@@ -121,7 +121,7 @@ fn failing_streams(rt: HostRuntime) {
     try_runs(&rt, rt.alloc(), &STREAM_FAULTS);
 }
 
-/// What is printed of the names' tables under this key, if there are any.
+/// What is printed for the names' tables under this key, if there are any.
 fn names_under(alloc: Global, key: u64) -> Option<Vec<u8>> {
     let mut made = Io::new(Vec::new(alloc));
     match generate_command(alloc, key, 1024, &mut Io::new(NAMES.as_bytes()), &mut made) {
@@ -137,7 +137,7 @@ fn is_checked(alloc: Global, table: &[u8]) -> bool {
     outcome == Ok(()) && answer.into_inner().as_slice() == b"yes\n".as_slice()
 }
 
-/// Whether what is printed of the names is checked, under the first key of ten that places them.
+/// Whether what is printed for the names is checked, under the first key of ten that places them.
 fn are_names_checked(alloc: Global) -> bool {
     for key in 0..10 {
         if let Some(table) = names_under(alloc, key) {
@@ -147,7 +147,7 @@ fn are_names_checked(alloc: Global) -> bool {
     false
 }
 
-/// Several hundred names are placed, and what is printed of them is checked.
+/// Several hundred names are placed, and what is printed for them is checked.
 #[test]
 fn vocabulary(rt: HostRuntime) {
     assert_that(&rt, NAMES.lines().count() > 300);

@@ -1,5 +1,5 @@
-//! A reader and a writer over memory, for tests: they give or take few bytes a call, fail at a call of choice, and take no
-//! memory themselves. What a call over them answers and writes is an `Outcome`.
+//! A reader and a writer over memory, for tests: they give or take few bytes per call, fail at a chosen call, and take no memory themselves. What a
+//! call over them returns and writes is an `Outcome`.
 
 ghost use Rattle.std.specs.Prelude.{◌≡◌, ◌<◌, ◌≤◌, None, Some, false};
 
@@ -7,7 +7,7 @@ use std::io;
 use text_streams::faults::AppFault;
 use text_streams::streams::{Sink, Source};
 
-/// Gives at most `most` bytes a call, and fails at call `fails_at`, counted from 1 (0: never).
+/// Gives at most `most` bytes per call, and fails at call `fails_at`, counted from 1 (0: never).
 #[derive(Drop)]
 pub struct Bytes<'b> {
     rest: &'b [u8],
@@ -75,7 +75,7 @@ impl Source for Bytes<'_> {
     }
 }
 
-/// The most bytes of a read where one fails.
+/// The most bytes of a read if one fails.
 pub const GIVES: usize = 10;
 
 /// How a reader and a writer behave.
@@ -106,7 +106,7 @@ impl<'b> Streams<'b> {
         }
     }
 
-    /// Some bytes a read, of which one fails, counted from 1 (0: none).
+    /// Some bytes per read, one of which fails, counted from 1 (0: none).
     pub fn reading(text: &'b [u8], read_fails_at: u64) -> Streams<'b> {
         Streams {
             text,
@@ -117,7 +117,7 @@ impl<'b> Streams<'b> {
         }
     }
 
-    /// At most `takes` bytes a write, of which one fails, counted from 1 (0: none).
+    /// At most `takes` bytes per write, one of which fails, counted from 1 (0: none).
     pub fn writing(text: &'b [u8], takes: usize, write_fails_at: u64) -> Streams<'b> {
         Streams {
             text,
@@ -143,7 +143,7 @@ impl<'b> Streams<'b> {
 
 const ROOM: usize = 1024;
 
-/// Takes at most `most` bytes a call, fails at call `fails_at`, counted from 1 (0: never), and has room for 1024 bytes.
+/// Takes at most `most` bytes per call, fails at call `fails_at`, counted from 1 (0: never), and has room for 1024 bytes.
 #[derive(Drop)]
 pub struct Page {
     bytes: [u8; ROOM],
@@ -210,7 +210,7 @@ impl Sink for Page {
     }
 }
 
-/// What a call answers, and what it writes.
+/// What a call returns, and what it writes.
 #[derive(Drop)]
 pub struct Outcome {
     pub answer: Result<(), AppFault>,

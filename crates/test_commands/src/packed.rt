@@ -27,8 +27,8 @@ Seen the word \"fieldset\" 2 times
 
 const COUNTS: [(&str, u64); 3] = [("crème-brûlée", 2), ("fieldset", 3), ("p", 2)];
 
-// These say nothing of what they do, so that each test is proved in a moment. They take any static type, since the borrow checker doesn't
-// cover a function in which a set of a packed type stands by name.
+// These say nothing about what they do, so that each test is proved in a moment. They take any static type, since the borrow checker doesn't cover a
+// function that names a set of a packed type.
 
 /// Whether the lines of the words are written.
 fn are_told<S: StaticTables, R: Wait + Abort>(rt: &R, alloc: Global) -> bool {

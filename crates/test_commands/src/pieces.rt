@@ -1,4 +1,4 @@
-//! Pieces of what is pending: when they are written, and what stays where they can't be.
+//! Pieces of what is pending: when they are written, and what stays if they can't be.
 
 use crate::assert_for;
 use crate::memory::Page;
@@ -7,12 +7,12 @@ use std::process::Abort;
 use text_streams::faults::AppFault;
 use text_streams::streams::{Io, write_full};
 
-/// As many bytes of pending text.
+/// This many bytes of pending text.
 fn pending(rt: &impl Abort, alloc: Global, number: usize) -> String {
     "a".repeat(alloc, number).expect(rt, "room")
 }
 
-/// Whether of as many pending bytes so many are written, and the others stay pending.
+/// Whether, of the first number of pending bytes, the second is written, and the others stay pending.
 fn moves(rt: &impl Abort, alloc: Global, number: usize, written: usize) -> bool {
     let mut pending = pending(rt, alloc, number);
     let mut writer = Io::new(Vec::new(alloc));
@@ -40,7 +40,7 @@ fn a_piece_is_written_once_it_is_full(rt: HostRuntime) {
     }
 }
 
-/// Whether as many bytes stay pending where the page fails, or has no room for all.
+/// Whether this many bytes stay pending if the page fails, or has no room for all.
 fn stay_pending(rt: &impl Abort, alloc: Global, number: usize, fails_at: u64) -> bool {
     let mut pending = pending(rt, alloc, number);
     let answer = write_full(&mut Page::new(usize::MAX, fails_at), &mut pending);

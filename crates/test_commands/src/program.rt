@@ -1,4 +1,4 @@
-//! What the program prints and answers, by its arguments and its input.
+//! What the program prints and returns, by its arguments and its input.
 
 mod texts;
 
@@ -28,7 +28,7 @@ const READ_FAILED: &[u8] = b"atoms: read failed\n";
 
 const WRITE_FAILED: &[u8] = b"atoms: write failed\n";
 
-/// What the program answers and writes.
+/// What the program returns and writes.
 #[derive(Drop)]
 pub struct Answer {
     pub status: u8,
@@ -85,7 +85,7 @@ fn add_word<R: Abort>(rt: &R, alloc: Global, args: &mut Vec<String>, word: &str)
     args.push(word).expect(rt, "room");
 }
 
-/// The arguments of a line, parted by single spaces.
+/// The arguments of a line, separated by single spaces.
 pub fn words_of_line<R: Abort>(rt: &R, alloc: Global, line: &str) -> Vec<String> {
     let mut args = Vec::new(alloc);
     for word in line.split(' ') {
@@ -94,22 +94,22 @@ pub fn words_of_line<R: Abort>(rt: &R, alloc: Global, line: &str) -> Vec<String>
     args
 }
 
-/// A run of the program: its line of arguments and its input, and what has to come of it.
+/// A run of the program: its line of arguments and its input, and the outcome that it must have.
 #[derive(Drop)]
 pub enum Run<'r> {
     /// It writes this output, and no fault.
     Given(&'r str, &'r [u8], &'r [u8]),
     /// It writes this fault's line, and no output.
     Refused(&'r str, &'r [u8], &'r [u8]),
-    /// The second read fails, which is told, and there is no output.
+    /// The second read fails, which is reported, and there is no output.
     Unread(&'r str, &'r [u8]),
-    /// The writer takes nothing, which is told.
+    /// The writer takes nothing, which is reported.
     Unwritten(&'r str, &'r [u8]),
     /// The arguments are those of no command.
     OfNoCommand(&'r str, &'r [u8]),
 }
 
-/// Whether this status, output and line of a fault come of a line of arguments over these streams.
+/// Whether a line of arguments over these streams gives this status, this output and this line of a fault.
 fn comes<R: Threads + Wait + Sync + Abort>(
     rt: &R,
     alloc: Global,
@@ -124,7 +124,7 @@ fn comes<R: Threads + Wait + Sync + Abort>(
 }
 
 impl Run<'_> {
-    /// Whether that comes of it.
+    /// Whether it has that outcome.
     pub fn is_right<R: Threads + Wait + Sync + Abort>(&self, rt: &R, alloc: Global) -> bool {
         match self {
             Run::Given(line, input, output) => {
@@ -162,7 +162,7 @@ impl Run<'_> {
     }
 }
 
-/// Each of these runs has to be right.
+/// Each of these runs must be right.
 pub fn try_runs<R: Threads + Wait + Sync + Abort>(rt: &R, alloc: Global, runs: &[Run]) {
     for (at, run) in runs.iter().enumerate() {
         assert_for(rt, run.is_right(rt, alloc), &at);
@@ -286,7 +286,7 @@ fn program_fails_at_its_streams(rt: HostRuntime) {
     try_runs(&rt, rt.alloc(), &STREAM_FAULTS);
 }
 
-/// The status of the program over what is no text, where nothing can be said on standard error.
+/// The program's status for input that is no text, if nothing can be written to standard error.
 fn unsaid_status<R: Threads + Wait + Sync + Abort>(rt: &R, alloc: Global, line: &str) -> u8 {
     let args = words_of_line(rt, alloc, line);
     let streams = Streams::ample(b"\xff");
@@ -301,14 +301,14 @@ fn unsaid_status<R: Threads + Wait + Sync + Abort>(rt: &R, alloc: Global, line: 
     )
 }
 
-/// What can't be said on standard error changes no status.
+/// What can't be written to standard error changes no status.
 #[test]
 fn faults_fail(rt: HostRuntime) {
     assert_that(&rt, unsaid_status(&rt, rt.alloc(), "words") == 1);
     assert_that(&rt, unsaid_status(&rt, rt.alloc(), "jump") == 2);
 }
 
-/// Faults, and the lines that they are told in.
+/// Faults, and the lines that report them.
 const FAULTS: [(AppFault, &[u8]); 11] = [
     (AppFault::Read, READ_FAILED),
     (AppFault::Write, WRITE_FAILED),
@@ -329,7 +329,7 @@ const FAULTS: [(AppFault, &[u8]); 11] = [
     (AppFault::Gen(GenFault::Memory), NO_MEMORY),
 ];
 
-/// Whether the fault is told in this line, with the status 1.
+/// Whether the fault is reported in this line, with the status 1.
 fn is_told(fault: AppFault, line: &[u8]) -> bool {
     let mut faults = Page::wide();
     refuse(&mut faults, fault) == 1 && faults.written() == line

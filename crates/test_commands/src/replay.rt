@@ -1,4 +1,4 @@
-//! The worked scripts, and scripts that are large or no scripts.
+//! The worked scripts, large scripts, and texts that are no scripts.
 
 use crate::memory::{Outcome, Streams};
 use crate::program::{NOT_TEXT, Run, try_runs};
@@ -9,7 +9,7 @@ use std::process::Abort;
 use text_streams::faults::AppFault;
 use text_streams::streams::Io;
 
-/// What `replay` answers and writes over these streams.
+/// What `replay` returns and writes over these streams.
 pub fn replayed(alloc: Global, streams: &Streams) -> Outcome {
     let mut page = streams.writer();
     let answer = replay(alloc, &mut streams.reader(), &mut page);
@@ -290,7 +290,7 @@ fn script_of_sweeps<R: Abort>(rt: &R, alloc: Global) -> String {
     script
 }
 
-/// A text so many times, and another one so many times behind it.
+/// A text this many times, followed by another one this many times.
 fn lines_of<R: Abort>(
     rt: &R,
     alloc: Global,
@@ -309,8 +309,8 @@ fn overflows(alloc: Global, script: &str) -> bool {
     replayed(alloc, &Streams::ample(script.as_bytes())).answer == Err(AppFault::Write)
 }
 
-/// A script that takes several reads, and an output of more than one piece, which comes in several writes, of which a later one may fail.
-/// There are 4096 buckets.
+/// A script that takes several reads, and an output of more than one piece, which takes several writes, a later one of which may fail. There are 4096
+/// buckets.
 #[test]
 fn more_than_one_piece(rt: HostRuntime) {
     let script = script_of_sweeps(&rt, rt.alloc());
@@ -319,7 +319,7 @@ fn more_than_one_piece(rt: HostRuntime) {
     assert_that(&rt, overflows(rt.alloc(), &script));
 }
 
-/// A pass over a bucket, and behind it 550 steps that aren't enabled, each of this text.
+/// A pass over a bucket, followed by 550 steps that aren't enabled, each of this text.
 fn large_script_of<R: Abort>(rt: &R, alloc: Global, text: &str) -> String {
     let mut script = String::from_str(alloc, "1 sweep 0\n").expect(rt, "room");
     for _ in 0..550 {

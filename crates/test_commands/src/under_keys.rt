@@ -1,4 +1,4 @@
-//! That no output depends on the keys under which words are hashed, which commands need some, and how they are drawn.
+//! That no output depends on the keys under which words are hashed, which commands need keys, and how keys are drawn.
 
 use crate::memory::Streams;
 use crate::program::{EXAMPLE_COUNTS, NO_KEYS, NO_MEMORY, USAGE, ran, words_of_line};
@@ -18,17 +18,17 @@ use string_cache::{EmptyStaticAtomSet, Fault};
 use test_samples::{EXAMPLE, keys};
 use text_streams::faults::AppFault;
 
-/// Numbers that stand for keys, of which each byte differs.
+/// Numbers that stand for keys, all of whose bytes differ.
 pub const NUMBERS: [u64; 4] = [0, 2, 0x0123_4567_89ab_cdef, u64::MAX];
 
-/// What the commands that hash words write of the example.
+/// What the commands that hash words write for the example.
 const OUTPUTS: [(&str, &[u8]); 3] = [
     ("words", EXAMPLE_LINES),
     ("count 1", EXAMPLE_COUNTS),
     ("count 4", EXAMPLE_COUNTS),
 ];
 
-/// Whether the program writes this of the example under a number's keys.
+/// Whether the program writes this for the example under a number's keys.
 fn is_written<R: Threads + Wait + Sync + Abort>(
     rt: &R,
     alloc: Global,
@@ -81,7 +81,7 @@ fn ends_without<R: Threads + Wait + Sync>(
     ran(rt, alloc, None, args, &Streams::reading(EXAMPLE, 1)).is(status, b"", line)
 }
 
-/// Whether a line of arguments comes to that.
+/// Whether a line of arguments has that outcome.
 fn line_ends_without<R: Threads + Wait + Sync + Abort>(
     rt: &R,
     alloc: Global,
@@ -104,7 +104,7 @@ fn words_and_counts_need_keys(rt: HostRuntime) {
     }
 }
 
-/// Arguments of no command, and such as found no room, are told in the same way with keys and without.
+/// Arguments of no command, and those for which there was no room, are reported in the same way with keys and without.
 #[test]
 fn no_command_needs_keys(rt: HostRuntime) {
     assert_that(&rt, line_ends_without(&rt, rt.alloc(), "jump", 2, USAGE));
@@ -167,7 +167,7 @@ fn is_drawn(place: usize, hash: u64) -> bool {
     hash_under(random_keys(&source)) == Some(hash) && source.asked.get() == 1
 }
 
-/// SipHash-1-3 of the eight bytes of 7, under a key of 16 bytes of which this one is 1 and the others are 0, as another program worked it out.
+/// SipHash-1-3 of the eight bytes of 7, under a key of 16 bytes, this one 1 and the others 0, as another program worked it out.
 const HASHES: [u64; 16] = [
     0x0735_0c57_b431_0903,
     0x14b2_9fd2_56c4_ffd3,
@@ -187,7 +187,7 @@ const HASHES: [u64; 16] = [
     0x4ab4_1e3d_b77b_c6de,
 ];
 
-/// The same where all bytes are 0, which is what Rust's `DefaultHasher` gives.
+/// The same if all bytes are 0, which is what Rust's `DefaultHasher` gives.
 const PLAIN_HASH: u64 = 0x6634_b0bd_a4fe_8a7b;
 
 /// Each of the 16 bytes that the source gives goes into the keys, and it is asked once.

@@ -1,4 +1,4 @@
-//! What no contract says of the words: the worked examples, what is interned and held.
+//! What no contract says about the words: the worked examples, what is interned and held.
 
 ghost use Rattle.std.specs.Prelude.{◌≡◌, None, false};
 
@@ -44,7 +44,7 @@ pub fn new_set(rt: &impl Abort, alloc: Global) -> Set<EmptyStaticAtomSet> {
     Set::new(alloc).expect(rt, "a set")
 }
 
-/// What `words` answers and writes over these streams and this set, under these keys.
+/// What `words` returns and writes over these streams and this set, under these keys.
 pub fn told_under<R: Wait>(
     rt: &R,
     set: &Set<EmptyStaticAtomSet>,
@@ -75,7 +75,7 @@ pub fn told_in_new_set<R: Wait>(rt: &R, alloc: Global, streams: &Streams) -> Out
     }
 }
 
-/// What `words_alone` answers and writes over these streams, under these keys.
+/// What `words_alone` returns and writes over these streams, under these keys.
 pub fn told_alone_under(alloc: Global, keys: Option<RandomState>, streams: &Streams) -> Outcome {
     let mut page = streams.writer();
     let answer = match keys {
@@ -90,7 +90,7 @@ pub fn told_alone(alloc: Global, streams: &Streams) -> Outcome {
     told_alone_under(alloc, keys(1), streams)
 }
 
-/// What `words_alone` answers, and writes to a writer of any kind.
+/// What `words_alone` returns, and writes to a writer of any kind.
 pub fn tell_alone<K: Sink>(alloc: Global, text: &str, writer: &mut K) -> Result<(), AppFault>
     requires { K.has_failed writer.old ≡ false }
 {
@@ -98,7 +98,7 @@ pub fn tell_alone<K: Sink>(alloc: Global, text: &str, writer: &mut K) -> Result<
     words_alone(alloc, keys, &mut Bytes::whole(text.as_bytes()), writer)
 }
 
-/// What `words` answers, and writes to a writer of any kind.
+/// What `words` returns, and writes to a writer of any kind.
 fn tell_in<R: Wait, K: Sink>(
     rt: &R,
     set: &Set<EmptyStaticAtomSet>,
@@ -151,12 +151,12 @@ fn not_a_text(rt: HostRuntime) {
     );
 }
 
-/// What stands before a word and behind it: in a text, and in the line that tells of it.
+/// What comes before and after a word: in a text, and in the line about it.
 const IN_TEXT: (&str, &str) = ("", " ");
 
 const IN_LINE: (&str, &str) = ("Not seen the word \"", "\" before\n");
 
-/// So many different words, each a number of six digits behind the same beginning, between these.
+/// This many different words, each a number of six digits after the same beginning, between these.
 fn numbered<R: Abort>(
     rt: &R,
     alloc: Global,
@@ -190,7 +190,7 @@ fn overflow(alloc: Global, text: &str) -> bool {
     told_alone(alloc, &Streams::ample(text.as_bytes())).answer == Err(AppFault::Write)
 }
 
-/// Many lines come in several writes, of which a later one fails.
+/// Many lines take several writes, a later one of which fails.
 #[test]
 fn more_than_one_piece(rt: HostRuntime) {
     let text = numbered(&rt, rt.alloc(), "word", 3000, IN_TEXT);
@@ -199,7 +199,7 @@ fn more_than_one_piece(rt: HostRuntime) {
     assert_that(&rt, overflow(rt.alloc(), &text));
 }
 
-/// Takes all bytes, and notes how many come in each of the first two writes, and how many writes there are.
+/// Takes all bytes, and notes how many there are in each of the first two writes, and how many writes there are.
 #[derive(Drop)]
 struct Sizes {
     writes: u64,
@@ -227,7 +227,7 @@ impl Sink for Sizes {
     }
 }
 
-/// How many writes the lines of a text come in, and the bytes of the first two.
+/// How many writes the lines of a text take, and the bytes of the first two.
 fn sizes_of(alloc: Global, text: &str) -> Result<(u64, usize, usize), AppFault> {
     let mut sizes = Sizes {
         writes: 0,
@@ -290,7 +290,7 @@ fn dynamic_words_of_the_example(rt: HostRuntime) {
     }
 }
 
-/// Takes all bytes. At each write it notes how many entries are linked in the set, and what interning a text there answers.
+/// Takes all bytes. At each write it notes how many entries are linked in the set, and what interning a text there returns.
 #[derive(Drop)]
 struct Watcher<'w, R: Wait> {
     rt: &'w R,
@@ -331,7 +331,7 @@ impl<R: Wait> Sink for Watcher<'_, R> {
     }
 }
 
-/// Whether so many entries are linked while the lines of the text are written, and none after it.
+/// Whether this many entries are linked while the lines of the text are written, and none after it.
 fn are_held<R: Wait>(rt: &R, set: &Set<EmptyStaticAtomSet>, text: &str, linked: u128) -> bool {
     let mut writer = Watcher::new(rt, set, "");
     let answer = tell_in(rt, set, text, &mut writer);
@@ -372,8 +372,7 @@ pub fn set_with(
     Set::with_limits(alloc, limits).expect(rt, "a set")
 }
 
-/// Where an entry has one holder at most, a word of the text is refused to others while the lines are written, and another
-/// text isn't.
+/// If an entry may have at most one holder, a word of the text is refused to others while the lines are written, and another text isn't.
 #[test]
 fn words_are_interned_themselves(rt: HostRuntime) {
     let set = set_with(&rt, rt.alloc(), 1, 9);
@@ -393,7 +392,7 @@ fn is_answer<R: Wait>(
     told_in(rt, set, &Streams::ample(text)).answer == answer && set.linked(rt) == 0
 }
 
-/// Each place of a word is a holder, also of one that came before.
+/// Each place of a word is a holder, even of one that occurred before.
 #[test]
 fn holders_are_full(rt: HostRuntime) {
     let set = set_with(&rt, rt.alloc(), 2, 9);
@@ -405,7 +404,7 @@ fn holders_are_full(rt: HostRuntime) {
     );
 }
 
-/// Whether this is answered, and these lines are written, of the text "interned".
+/// Whether this is returned, and these lines are written, for the text "interned".
 fn is_told_in<R: Wait>(
     rt: &R,
     set: &Set<EmptyStaticAtomSet>,

@@ -1,5 +1,5 @@
-//! What the small programs of `example_sets`, `example_named` and `example_tables` answer, with worked values, and what threads count by the words
-//! of a set with a name. A test asks helpers that have no contract, so that it is proved in a moment.
+//! What the small programs of `example_sets`, `example_named` and `example_tables` return, with worked values, and what threads count by the words of
+//! a set with a name. A test asks helpers that have no contract, so that it is proved in a moment.
 #![tactic(auto)]
 
 ghost use Rattle.std.specs.Prelude.{IsTrue};
@@ -25,7 +25,7 @@ fn assert_that(rt: &impl std::process::Abort, is_so: bool)
     assert!(rt; is_so);
 }
 
-/// Ends the test unless this is so for a value, which it tells.
+/// Ends the test unless this is so for a value, which it prints.
 #[cfg(test)]
 fn assert_for<T: std::fmt::Debug>(rt: &impl std::process::Abort, is_so: bool, value: &T)
     ensures { IsTrue is_so }

@@ -7,7 +7,7 @@ use std::sync::Wait;
 use string_cache::dynamic_set::Set;
 use string_cache::static_sets::EmptyStaticAtomSet;
 
-/// Whether names are listed in order, one of them twice, and the set has each of the two long ones once meanwhile.
+/// Whether names are listed in order, one of them twice, and the set meanwhile has each of the two long ones once.
 fn are_listed<R: Wait + Abort>(rt: &R, set: &Set<EmptyStaticAtomSet>) -> bool {
     let names = ["blockquote", "p", "Überschrift", "blockquote"];
     let list = list_names(rt, set, &names).expect(rt, "a list");

@@ -1,5 +1,4 @@
-//! What the programs over a set with a name answer: a crew of eight threads, symbols that are found, and what eight readers of one map are
-//! told.
+//! What the programs over a set with a name return: a crew of eight threads, symbols that are found, and what eight readers of one map are told.
 ghost use Rattle.std.specs.Prelude.{◌≡◌};
 
 use crate::assert_that;
@@ -15,7 +14,7 @@ use std::sync::Wait;
 use std::thread::Threads;
 use test_samples::keys;
 use text_forms::Fault;
-use text_forms::word::{Buckets, Limits};
+use text_forms::word::Limits;
 
 /// A text of 300,000 bytes, beyond ASCII.
 fn long_text<R: Abort>(rt: &R, alloc: Global) -> String {
@@ -37,7 +36,7 @@ fn copies<R: Abort>(rt: &R, alloc: Global, texts: &[&str]) -> Vec<String> {
     copies
 }
 
-/// What a crew of eight says of the long text, where the last has another.
+/// What a crew of eight says about the long text, if the last has another.
 fn crew_says<R: Threads + Wait + Sync + Abort>(rt: &R, alloc: Global, last: &str) -> bool {
     let long = long_text(rt, alloc);
     let long = long.as_str();
@@ -53,14 +52,14 @@ fn crews_agree(rt: HostRuntime) {
     assert_that(&rt, !crew_says(&rt, rt.alloc(), "Größe"));
 }
 
-/// Who looks a text up that was declared.
+/// Who looks up a text that was declared.
 #[derive(Clone, Copy)]
 enum Crew {
     One,
     Two,
 }
 
-/// What is found of a text where the long one was declared.
+/// What is found for a text if the long one was declared.
 fn found<R: Threads + Wait + Sync + Abort>(
     rt: &R,
     alloc: Global,
@@ -76,7 +75,7 @@ fn found<R: Threads + Wait + Sync + Abort>(
     found.expect(rt, "an answer")
 }
 
-/// What is found of a short text.
+/// What is found for a short text.
 fn found_short<R: Threads + Wait + Sync + Abort>(
     rt: &R,
     alloc: Global,
@@ -166,7 +165,7 @@ fn are_told_of<N: SetName + Send + Sync, R: Threads + Wait + Sync + Abort>(
     are_told(told.as_slice(), &wanted)
 }
 
-/// The same of copies of the texts, the long one among them.
+/// The same for copies of the texts, the long one among them.
 fn are_told_of_copies<N: SetName + Send + Sync, R: Threads + Wait + Sync + Abort>(
     rt: &R,
     alloc: Global,
@@ -211,6 +210,6 @@ fn readers_are_told<N: SetName + Send + Sync, R: Threads + Wait + Sync + Abort>(
 /// Each of eight readers is told what was declared last for its text, or nothing if it wasn't declared.
 #[test]
 fn readers_are_told_what_was_declared(rt: HostRuntime) {
-    let name = FreshName::new(rt.alloc(), Buckets::usual()).expect(&rt, "a name");
+    let name = FreshName::usual(rt.alloc()).expect(&rt, "a name");
     assert_that(&rt, readers_are_told::<Brand, _>(&rt, rt.alloc(), name));
 }

@@ -1,5 +1,5 @@
-//! How often texts come, by their words: several threads intern the words of one text in one set with a name, each in a map of its own, and
-//! the maps are added up, in which no text is read.
+//! How often texts occur, by their words: several threads intern the words of one text in one set with a name, each in a map of its own, and the maps
+//! are added up without reading a text.
 ghost use Rattle.std.specs.Prelude.{◌≡◌};
 
 use crate::assert_that;
@@ -12,19 +12,19 @@ use std::process::Abort;
 use std::sync::Wait;
 use std::thread::{self, Threads};
 use string_cache::Fault;
-use string_cache::word::{Buckets, Limits};
+use string_cache::word::Limits;
 use test_samples::One;
 
 type Named<N> = NamedSet<One, N>;
 
-/// How often texts came, by their words.
+/// How often texts occurred, by their words.
 type Counts<'s, N> = HashMap<ByWord<'s, One, N>, u64>;
 
 /// Nine words: of a static text, of an inline one, and of dynamic ones, one of which is beyond ASCII.
 const LINE: &str =
     "tokenised Größenordnung sentence été Größenordnung tokenised interned Größenordnung sentence\n";
 
-/// How often each of its texts comes.
+/// How often each of its texts occurs.
 const TIMES: [(&str, u64); 5] = [
     ("Größenordnung", 3),
     ("été", 1),
@@ -40,11 +40,11 @@ const WORKERS: usize = 8;
 /// How the words are shared out.
 #[derive(Clone, Copy)]
 enum Shares {
-    /// To each worker a hundred lines.
+    /// A hundred lines to each worker.
     Blocks,
-    /// To each worker every eighth word, so that each has words of all texts.
+    /// Every eighth word to each worker, so that each has words of all texts.
     Turns,
-    /// To the first worker half of the lines, and the rest in turns.
+    /// Half of the lines to the first worker, and the rest in turn.
     Halves,
 }
 
@@ -59,7 +59,7 @@ impl Shares {
     }
 }
 
-/// Adds so many to what the word has.
+/// Adds this many to what the word has.
 fn add<'s, N: SetName>(
     counts: &mut Counts<'s, N>,
     word: ByWord<'s, One, N>,
@@ -138,7 +138,7 @@ fn totals_of<'s, N: SetName, R: Abort>(
     totals
 }
 
-/// Whether this is what stands under the word of a text.
+/// Whether this is what the map has under the word of a text.
 fn is_total<N: SetName, R: Wait + Abort>(
     rt: &R,
     set: &Named<N>,
@@ -198,10 +198,10 @@ fn are_all_counted_named<N: SetName + Send + Sync, R: Threads + Wait + Sync + Ab
     are_all_counted::<N, R>(rt, &set)
 }
 
-/// However the words of a text are shared out to eight threads, the total under each word is how often its text comes.
+/// However the words of a text are shared out to eight threads, the total under each word is how often its text occurs.
 #[test]
 fn totals_are_those_of_texts(rt: HostRuntime) {
-    let name = FreshName::new(rt.alloc(), Buckets::usual()).expect(&rt, "a name");
+    let name = FreshName::usual(rt.alloc()).expect(&rt, "a name");
     assert_that(
         &rt,
         are_all_counted_named::<Brand, _>(&rt, rt.alloc(), name),

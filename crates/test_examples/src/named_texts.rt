@@ -1,4 +1,4 @@
-//! What the programs that compare two texts over a set with a name say, also of long ones, and how many tickets they spend.
+//! What the programs that compare two texts over a set with a name say, even about long ones, and how many tickets they spend.
 ghost use Rattle.std.specs.Prelude.{◌≡◌};
 
 use crate::assert_that;
@@ -12,7 +12,7 @@ use test_samples::One;
 use text_forms::Fault;
 use text_forms::word::{Buckets, Limits};
 
-/// Threads are given one word for one text, and two for two.
+/// Threads get one word for one text, and two for two.
 #[test]
 fn threads_agree(rt: HostRuntime) {
     let long = "Größe, 長さ 🦀"
@@ -29,7 +29,7 @@ fn threads_agree(rt: HostRuntime) {
     );
 }
 
-/// Whether the names are told to be one, or two, and nothing of them stays.
+/// Whether the names are said to be one, or two, and nothing of them stays.
 fn says<N: SetName, R: Wait>(
     rt: &R,
     set: &NamedSet<One, N>,
@@ -52,7 +52,7 @@ fn ask<N: SetName, R: Wait + Abort>(rt: &R, set: &NamedSet<One, N>) {
     );
 }
 
-/// The same, of the set with this name.
+/// The same, for the set with this name.
 fn ask_as<N: SetName, R: Wait + Abort>(rt: &R, alloc: Global, name: FreshName)
     requires { N.logs ≡ name.logs }
 {
@@ -61,14 +61,14 @@ fn ask_as<N: SetName, R: Wait + Abort>(rt: &R, alloc: Global, name: FreshName)
     ask::<N, R>(rt, &set);
 }
 
-/// The same, of a new set.
+/// The same, for a new set.
 fn ask_new<R: Wait + Abort>(rt: &R, alloc: Global) {
     let buckets = Buckets::new(0).expect(rt, "bits");
     let name = FreshName::new(alloc, buckets).expect(rt, "a name");
     ask_as::<Brand, R>(rt, alloc, name);
 }
 
-/// Each text is interned once: of a bucket's two tickets the first goes with one text twice, and the second with one beside a short one.
+/// Each text is interned once: of a bucket's two tickets, the first goes to one text twice, and the second to one next to a short one.
 #[test]
 fn names_spend_one_ticket(rt: HostRuntime) {
     ask_new(&rt, rt.alloc());

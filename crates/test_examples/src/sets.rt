@@ -1,4 +1,4 @@
-//! What the small programs answer, with worked values.
+//! What the small programs return, with worked values.
 
 use crate::{assert_for, assert_that};
 use counted_cell::{FreeGrant, Label, Owner};
@@ -35,14 +35,14 @@ fn intern<'s, R: Wait + Abort, Static: StaticTables>(
     Atom::from_str_in(rt, set, text).expect(rt, "an atom")
 }
 
-/// Two names; whether they are one, their order, and whether the second is the first in capitals.
+/// Two names; whether they are one, their order, and whether the second is the first in upper case.
 const NAMES: [(&str, &str, bool, Ordering, bool); 3] = [
     ("pear tree", "pear tree", true, Ordering::Equal, false),
     ("pear tree", "plum", false, Ordering::Less, false),
     ("pear tree", "PEAR TREE", false, Ordering::Greater, true),
 ];
 
-/// What is found of two names where the first costs 40.
+/// What is found for two names if the first costs 40.
 fn compared<R: Wait>(rt: &R, alloc: Global, first: &str, second: &str) -> Option<Compared> {
     compare_names(rt, alloc, keys(1)?, first, second, 40).ok()
 }
@@ -114,7 +114,7 @@ fn is_saved_as(alloc: Global, atom: &DefaultAtom<'_>, json: &str) -> bool {
     }
 }
 
-/// Whether the atom of a JSON text is this one. `None` where it has none.
+/// Whether the atom of a JSON text is this one. `None` if it has none.
 fn is_loaded<R: Wait>(
     rt: &R,
     set: &DefaultSet,
@@ -222,7 +222,7 @@ fn a_large_set_takes_texts(rt: HostRuntime) {
     assert_that(&rt, is_linked(&rt, &set, "pear tree"));
 }
 
-/// How many texts the tables of some names have.
+/// The number of texts in the tables of some names.
 fn texts_in_tables(alloc: Global, names: &[&str]) -> Option<usize> {
     match tables_of_names(alloc, names) {
         Ok(tables) => Some(tables.atoms.len()),
@@ -241,7 +241,7 @@ fn tables_are_made_of_names(rt: HostRuntime) {
     assert_that(&rt, texts_in_tables(rt.alloc(), &[]).is_none());
 }
 
-/// How many bytes one share more sees of the text of a cell, which has its only share where at most one may have it.
+/// The bytes of a cell's text, as one more share sees it. `None` if the cell may have just the one share that it has.
 fn bytes_by_share<R: Wait>(rt: &R, alloc: Global, text: &str, is_full: bool) -> Option<usize> {
     let label = Label {
         hash: 8,
@@ -277,7 +277,7 @@ fn takes_two(chain: &mut NodeChain<u64>, first: u64, second: u64) -> bool {
         && take_next(chain).is_none()
 }
 
-/// Whether two items are taken out of a chain in the order in which they stand in it.
+/// Whether two items are taken out of a chain in the order in which they are in it.
 fn are_taken(alloc: Global, first: u64, second: u64) -> bool {
     let mut chain = NodeChain::new(alloc);
     chain.add_head(second).is_ok()
@@ -297,7 +297,7 @@ fn printed_tables_are_accepted(rt: HostRuntime) {
     assert_that(&rt, prints_well(rt.alloc(), &[], 0).is_err());
 }
 
-/// Whether the atoms of two threads are equal in a set of their own. `None` where one is refused.
+/// Whether the atoms of two threads are equal in a set of their own. `None` if one is refused.
 fn agreed<R: Threads + Wait + Sync>(
     rt: &R,
     alloc: Global,
@@ -317,7 +317,7 @@ fn agreed_in_scope<R: Threads + Wait + Sync>(
     agree_in_scope(rt, set, left, right).ok()
 }
 
-/// Whether both are so of two texts, and nothing is left in the set.
+/// Whether both are so for two texts, and nothing is left in the set.
 fn do_agree<R: Threads + Wait + Sync>(
     rt: &R,
     set: &DefaultSet,
@@ -370,7 +370,7 @@ fn tags_are_static(rt: HostRuntime) {
     }
 }
 
-/// A type that `tools/static_type.py` wrote, over names of several scripts.
+/// A type that `tools/static_type.py` wrote, over names in several scripts.
 #[test]
 fn dishes_are_static(rt: HostRuntime) {
     let names = [

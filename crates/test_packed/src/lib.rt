@@ -1,5 +1,5 @@
-//! Packed static types for tests, and nothing else: one over names of several scripts, one over a thousand names, and one in which no text is
-//! at its place.
+//! Packed static types for tests, and nothing else: one over names in several scripts, one over a thousand names, and one in which no text is at its
+//! place.
 #![tactic(auto)]
 
 pub mod dishes;

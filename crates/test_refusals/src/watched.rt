@@ -1,5 +1,5 @@
-//! How tests watch a call that may be refused memory, or a thread. `gate/refused.py` refuses the requests that come between the two
-//! lines printed round the call.
+//! How tests watch a call that may be refused memory, or a thread. `gate/refused.py` refuses the requests between the two lines printed around the
+//! call.
 
 use std::io::Print;
 use string_cache::Fault;
@@ -23,7 +23,7 @@ impl Refusal for GenFault {
     }
 }
 
-/// A thread that can't be started may want memory as well.
+/// A thread that can't be started may need memory as well.
 impl Refusal for AppFault {
     fn is_of_refusal(&self) -> bool {
         match self {
@@ -42,12 +42,12 @@ pub enum End {
     Given,
     /// A request was refused, and it keeps no memory.
     Refused,
-    /// A request was refused, and it keeps what it did till then.
+    /// A request was refused, and it keeps what it did until then.
     RefusedMidway,
 }
 
 impl End {
-    /// The end of a call that keeps nothing where a request is refused.
+    /// The end of a call that keeps nothing if a request is refused.
     pub fn of<T, E: Refusal>(answer: &Result<T, E>) -> End {
         match answer {
             Err(fault) if fault.is_of_refusal() => End::Refused,
@@ -61,7 +61,7 @@ pub fn begin<R: Print>(rt: &R) {
     let _ = println!(rt; "== call");
 }
 
-/// Prints the line behind the call.
+/// Prints the line after the call.
 pub fn finish<R: Print>(rt: &R, how: End) {
     let _ = match how {
         End::Given => println!(rt; "== given"),
@@ -70,14 +70,14 @@ pub fn finish<R: Print>(rt: &R, how: End) {
     };
 }
 
-/// Prints the line behind the call, which keeps nothing where a request is refused, and tells whether one was.
+/// Prints the line after the call, which keeps nothing if a request is refused, and returns whether one was.
 pub fn finishes_refused<T, E: Refusal, R: Print>(rt: &R, answer: &Result<T, E>) -> bool {
     let end = End::of(answer);
     finish(rt, end);
     matches!(end, End::Refused)
 }
 
-/// What a call gives or, where a request is refused, what it gives once it is made again.
+/// What a call returns or, if a request is refused, what it returns once it is made again.
 pub fn at_last<T, E: Refusal, R: Print, F: Fn() -> Result<T, E>>(rt: &R, call: F) -> Result<T, E>
     requires { F.IsAlwaysCallable call }
 {

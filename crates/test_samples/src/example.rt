@@ -1,6 +1,6 @@
 //! A text with its counts.
 
-/// The example of the original's documentation.
+/// The example from the original's documentation.
 pub const EXAMPLE: &[u8] =
     b"here is a sentence of text that will be tokenised and\ninterned and some repeated tokens is of text and";
 

@@ -1,4 +1,4 @@
-//! Keys for the tables and maps of tests, the same at each run.
+//! Keys for the tables and maps of tests, the same in each run.
 
 use std::hash::RandomState;
 use std::io;
@@ -20,7 +20,7 @@ impl RandomSource for Numbered {
     }
 }
 
-/// The keys with this number, others for each. They are always given: `None` is there since a source of bytes may refuse.
+/// The keys with this number, different for each. They are always given: `None` is possible since a source of bytes may refuse.
 pub fn keys(number: u64) -> Option<RandomState> {
     RandomState::new(&Numbered { number }).ok()
 }

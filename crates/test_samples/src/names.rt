@@ -1,4 +1,4 @@
-//! Names of HTML elements, keywords of some languages, and names of CSS properties, one a line.
+//! Names of HTML elements, keywords of some languages, and names of CSS properties, one per line.
 
 pub const NAMES: &str = "a
 abbr

@@ -26,7 +26,7 @@ impl StaticAtomSet for One {
     }
 }
 
-/// One text, listed twice: one of the two stands at its place.
+/// One text, listed twice: one of the two is at its place.
 #[derive(PartialEq, Eq, PartialOrd, Ord)]
 pub struct Twice;
 

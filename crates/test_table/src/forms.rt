@@ -78,7 +78,7 @@ fn is_inline_text(text: &str) -> bool {
     inline.as_str() == text && Some(inline.word()) == pack_inline_word(text)
 }
 
-/// Whether the inline text is printed so.
+/// Whether the inline text is printed like this.
 fn prints_as(alloc: Global, text: &str, printed: &str) -> Result<bool, AllocError> {
     let Some(inline) = InlineText::new(text) else {
         return Ok(false);
@@ -86,7 +86,7 @@ fn prints_as(alloc: Global, text: &str, printed: &str) -> Result<bool, AllocErro
     Ok(format!(in alloc; "{inline:?}")?.as_str() == printed)
 }
 
-/// Texts, and what is printed of them.
+/// Texts, and what is printed for them.
 const PRINTED: [(&str, &str); 3] = [
     ("", "InlineText(\"\")"),
     ("foo", "InlineText(\"foo\")"),
@@ -158,7 +158,7 @@ fn other_words(rt: HostRuntime) {
     assert_that(&rt, static_word(3) == 0x3_0000_0002);
 }
 
-/// Whether there are limits of these numbers, which they tell.
+/// Whether there are limits with these numbers, and they report them.
 fn are_limits(holders: u64, serials: u64) -> bool {
     match Limits::new(holders, serials) {
         Some(limits) => limits.holders() == holders && limits.serials() == serials,
@@ -182,8 +182,8 @@ fn limits(rt: HostRuntime) {
     assert_that(&rt, are_greatest(HOLDER_BOUND - 1, SERIAL_BOUND - 1));
 }
 
-/// Whether these are the bits of a number of buckets, the first and the last of which are those of the hashes whose low bits are all
-/// zero and all one.
+/// Whether these are the bits of a number of buckets, the first and the last of which are those of the hashes whose low bits are all zeros and all
+/// ones.
 fn has_number(bits: u8, number: usize) -> bool {
     let Some(buckets) = Buckets::new(bits) else {
         return false;
@@ -227,7 +227,7 @@ fn has_entry_hash(text: &str, number: u64) -> bool {
     hash(text, 0).entry_hash() == number
 }
 
-/// OpenSSL's SIPHASH with 1 and 3 rounds, 16 bytes of output, and the key's 8 bytes behind 8 zeros.
+/// OpenSSL's SIPHASH with 1 and 3 rounds, 16 bytes of output, and the key's 8 bytes after 8 zeros.
 const HASHES: [(&str, u64, u32, u32, u32); 9] = [
     ("", 0, 0x2134_935d, 0x61d9_b40d, 0x31fb_3303),
     ("a", 0, 0x3710_b5e8, 0x72fb_f647, 0x5537_0408),
@@ -350,7 +350,7 @@ fn are_parts_perfect(disps: &[(u32, u32)], atoms: &[&str], hashes: &[u64]) -> bo
     check_parts(0, disps, atoms, hashes)
 }
 
-/// As `check_parts` with the key 0, of tables that are made while the program runs.
+/// As `check_parts` with the key 0, for tables that are made while the program runs.
 fn are_perfect(
     alloc: Global,
     first: &str,

@@ -1,4 +1,4 @@
-//! What no contract says: which lists are placed, and what comes of those that aren't.
+//! What no contract says: which lists are placed, and what happens with those that aren't.
 
 mod checked;
 mod large;
@@ -14,7 +14,7 @@ use table_generator::generate::generate;
 use table_generator::tables::{GenFault, Tables};
 use table_generator::{Tried, find_pair};
 
-/// As `generate`. Where memory was refused, the call is made once more.
+/// As `generate`. If memory was refused, the call is made once more.
 fn tables_of(alloc: Global, list: &[&str], key: u64, bound: u32) -> Result<Tables, GenFault> {
     match generate(alloc, list, key, bound) {
         Err(GenFault::Memory) => generate(alloc, list, key, bound),
@@ -39,7 +39,7 @@ fn lent(alloc: Global, texts: &[String]) -> Result<Vec<&str>, AllocError> {
     Ok(list)
 }
 
-/// Whether what is printed of the tables is the table text of perfect tables.
+/// Whether what is printed for the tables is the table text of perfect tables.
 fn are_checked(alloc: Global, tables: &Tables) -> Result<bool, Fault> {
     let text = format!(in alloc; "{tables}")?;
     checked(alloc, &text)
@@ -59,7 +59,7 @@ fn text_of_sentence(alloc: Global, number: u64) -> Result<String, AllocError> {
     format!(in alloc; "key 0\ndisp 0 0\natom {number:016x} sentence\n")
 }
 
-/// Whether the tables of "sentence" print so.
+/// Whether the tables of "sentence" print like this.
 fn print_as(alloc: Global, tables: &Tables, number: u64) -> bool {
     match text_of_sentence(alloc, number) {
         Ok(wanted) => is_printed_as(alloc, tables, wanted.as_str()),
@@ -77,7 +77,7 @@ fn one_text(rt: HostRuntime) {
     assert_that(&rt, are_checked(rt.alloc(), &tables) == Ok(true));
 }
 
-/// Lists, each with a bound and the fault that comes of it.
+/// Lists, each with a bound and the fault that results.
 const REFUSED: [(&[&str], u32, GenFault); 5] = [
     (&[], 1, GenFault::EmptyList),
     (
@@ -90,7 +90,7 @@ const REFUSED: [(&[&str], u32, GenFault); 5] = [
     (&["sentence", "interned", "sentence"], 0, GenFault::Doubled),
 ];
 
-/// What is printed of the faults.
+/// What is printed for the faults.
 const FAULTS: [(GenFault, &str); 5] = [
     (GenFault::EmptyList, "no texts"),
     (GenFault::LineFeed, "text with a line feed"),
@@ -99,7 +99,7 @@ const FAULTS: [(GenFault, &str); 5] = [
     (GenFault::Memory, "no memory"),
 ];
 
-/// Whether this fault comes of the list under the key 0.
+/// Whether the list under the key 0 results in this fault.
 fn is_refused(alloc: Global, list: &[&str], bound: u32, fault: GenFault) -> bool {
     tables_of(alloc, list, 0, bound).err() == Some(fault)
 }
@@ -114,7 +114,7 @@ fn refused_lists(rt: HostRuntime) {
     }
 }
 
-/// The text at a place, where that at `to` is like that at `from`.
+/// The text at a place, if the one at `to` is like the one at `from`.
 fn doubled_at(texts: &[String], from: usize, to: usize, at: usize) -> Option<&str> {
     let text = texts.get(if at == to { from } else { at })?;
     Some(text.as_str())
@@ -147,7 +147,7 @@ fn is_double_refused(
     Ok(is_refused(alloc, &list, 1024, GenFault::Doubled))
 }
 
-/// Wherever the two equal texts stand among a thousand: side by side, far apart, or in the place of each other.
+/// Wherever the two equal texts are among a thousand: side by side, far apart, or in each other's place.
 const PLACES: [(usize, usize); 5] = [(0, 1), (0, 999), (999, 0), (499, 500), (17, 801)];
 
 #[test]
@@ -170,7 +170,7 @@ fn text_listed_three_times(rt: HostRuntime) {
     );
 }
 
-/// Xor and wrapping sum of the numbers.
+/// The xor and the wrapping sum of the numbers.
 fn xor_and_sum(numbers: &[u64]) -> (u64, u64) {
     let mut xor = 0u64;
     let mut sum = 0u64;
@@ -191,7 +191,7 @@ fn spread(alloc: Global, count: u64) -> Result<Vec<String>, AllocError> {
     Ok(texts)
 }
 
-/// Whether xor and sum of the hashes, and the number of displacements, are those of a thousand texts and one.
+/// Whether the xor and the sum of the hashes, and the number of displacements, are those of a thousand and one texts.
 fn are_of_many(alloc: Global, tables: &Tables) -> bool {
     let wanted = (0xa53f_e03c_a4ac_91ebu64, 0xb218_f2a5_e4b2_b187u64);
     xor_and_sum(&tables.hashes) == wanted
@@ -199,7 +199,7 @@ fn are_of_many(alloc: Global, tables: &Tables) -> bool {
         && are_checked(alloc, tables) == Ok(true)
 }
 
-/// Whether the tables of these texts and of one more are so.
+/// Whether those of the tables of these texts and of one more are.
 fn are_placed_with(alloc: Global, texts: &[String], other: &str) -> Result<bool, GenFault> {
     let mut list = lent(alloc, texts)?;
     list.push(other)?;
@@ -207,8 +207,8 @@ fn are_placed_with(alloc: Global, texts: &[String], other: &str) -> Result<bool,
     Ok(are_of_many(alloc, &tables))
 }
 
-/// A thousand texts and one beyond ASCII. By a program in Python, written from what is stated of the hash, xor and sum of their entries'
-/// hashes are these.
+/// A thousand texts and one beyond ASCII. The xor and the sum of their entries' hashes come from a Python program that was written from what is
+/// stated about the hash.
 #[test]
 fn thousand_and_one_texts(rt: HostRuntime) {
     let texts = spread(rt.alloc(), 1000).expect(&rt, "texts");
@@ -220,7 +220,7 @@ fn differ(text: &str, other: &str) -> bool {
     (hash(text, 0).f2 ^ hash(other, 0).f2) & 1 == 1
 }
 
-/// The first of the texts before this one from which it differs so.
+/// The first of the texts before this one from which it differs in this way.
 fn other_of<'t>(earlier: &'t [String], text: &str) -> Option<&'t str> {
     for other in earlier {
         if differ(text, other) {
@@ -230,14 +230,14 @@ fn other_of<'t>(earlier: &'t [String], text: &str) -> Option<&'t str> {
     None
 }
 
-/// Whether the two are placed with no displacement, and what is printed of that is checked.
+/// Whether the two are placed with no displacement, and what is printed for that is checked.
 fn is_pair_placed(alloc: Global, first: &str, second: &str) -> Result<bool, GenFault> {
     let tables = tables_of(alloc, &[first, second], 0, 1)?;
     let is_checked = are_checked(alloc, &tables) == Ok(true);
     Ok(is_checked && tables.disps.as_slice() == [(0u32, 0u32)].as_slice())
 }
 
-/// Whether the first two of the texts that differ are placed so.
+/// Whether the first two of the texts that differ are placed like this.
 fn is_first_pair_placed(alloc: Global, texts: &[String]) -> Result<bool, GenFault> {
     for (i, text) in texts.iter().enumerate() {
         if let Some(other) = other_of(&texts[..i], text) {
@@ -247,14 +247,14 @@ fn is_first_pair_placed(alloc: Global, texts: &[String]) -> Result<bool, GenFaul
     Ok(false)
 }
 
-/// Of the texts below a hundred the first two whose f2 differ in the lowest bit.
+/// Of the texts below a hundred, the first two whose f2 differ in the lowest bit.
 #[test]
 fn two_texts(rt: HostRuntime) {
     let texts = numbered(rt.alloc(), 100).expect(&rt, "texts");
     assert_that(&rt, is_first_pair_placed(rt.alloc(), &texts) == Ok(true));
 }
 
-/// Whether the tables are made under this key. `None` where anything but their bound is in the way.
+/// Whether the tables are made under this key. `None` if anything but their bound is in the way.
 fn is_placed(alloc: Global, list: &[&str], key: u64) -> Option<bool> {
     match tables_of(alloc, list, key, 1024) {
         Ok(_) => Some(true),
@@ -275,7 +275,7 @@ fn are_placed(alloc: Global, list: &[&str]) -> bool {
     are_placed
 }
 
-/// Whether that is so of so many texts.
+/// Whether that is so for this many texts.
 fn are_numbered_placed(alloc: Global, count: usize) -> Result<bool, AllocError> {
     let texts = numbered(alloc, count)?;
     let list = lent(alloc, &texts)?;
@@ -299,7 +299,7 @@ fn is_not_placed(answer: &Result<Tables, GenFault>) -> bool {
     matches!(answer, Err(GenFault::NotPlaced))
 }
 
-/// The tables of the names, under the first of a hundred keys that has some.
+/// Tables of the names, under the first of a hundred keys for which there are some.
 fn tables_of_names(alloc: Global, names: &[&str]) -> Result<Tables, GenFault> {
     for key in 0..100u64 {
         let answer = tables_of(alloc, names, key, 1024);
@@ -320,7 +320,7 @@ fn are_perfect(alloc: Global, tables: &Tables) -> Result<bool, AllocError> {
     )
 }
 
-/// The tables of so many texts.
+/// The tables of this many texts.
 fn tables_of_numbered(alloc: Global, count: usize) -> Result<Tables, GenFault> {
     let texts = numbered(alloc, count)?;
     let list = lent(alloc, &texts)?;
@@ -335,9 +335,8 @@ fn sixty_one_texts(rt: HostRuntime) {
     assert_that(&rt, are_checked(rt.alloc(), &tables) == Ok(true));
 }
 
-/// Of these three texts the first two have the places 0 and 1 with no displacement, and the third 0, as 4294966296 is 3 * 1431655432.
-/// A first displacement of 2 adds 2 to the third alone; a second one of 1000 takes it round to 0, and with it the others to 1 and 2.
-/// The smaller is found.
+/// Of these three texts the first two have the places 0 and 1 with no displacement, and the third 0, as 4294966296 is 3 * 1431655432. A first
+/// displacement of 2 adds 2 to the third alone; a second one of 1000 takes it around to 0, and with it the others to 1 and 2. The smaller is found.
 #[test]
 fn small_displacements_come_first(rt: HostRuntime) {
     let members = [
@@ -375,7 +374,7 @@ fn are_small(tables: &Tables) -> bool {
     }
 }
 
-/// Whether that is so of the texts' tables at the greatest bound, and what is printed of them is checked.
+/// Whether that is so for the texts' tables at the greatest bound, and what is printed for them is checked.
 fn are_placed_at_once(alloc: Global, list: &[&str]) -> Result<bool, GenFault> {
     let tables = tables_of(alloc, list, 0, u32::MAX)?;
     let are_checked = are_checked(alloc, &tables) == Ok(true);
@@ -396,7 +395,7 @@ fn differ_evenly(text: &str, other: &str) -> bool {
     (one.f1 ^ other.f1) & 1 == 0 && (one.f2 ^ other.f2) & 1 == 0
 }
 
-/// Whether each other text that differs so from the first can't be placed with it, and there is such a text.
+/// Whether no other text that differs from the first in this way can be placed with it, and there is such a text.
 fn are_hopeless(alloc: Global, texts: &[String]) -> bool {
     let Some((first, others)) = texts.split_first() else {
         return false;

@@ -1,4 +1,4 @@
-//! The hasher of a table's texts: a table asks the one that it was given, as often as it has to, and no word depends on it.
+//! The hasher of a table's texts: a table asks the one that it was given, as often as it must, and no word depends on it.
 
 ghost use Rattle.std.specs.Hash.FoldHasher as folding;
 
@@ -69,14 +69,14 @@ fn follow_counted(rt: &impl Abort, alloc: Global, asked: &Cell<u64>, rows: &[Row
     follow(rt, alloc, &mut table.expect(rt, "a table"), rows);
 }
 
-/// How many hashes a new table asks for in these rows.
+/// The number of hashes that a new table asks for in these rows.
 fn asked_in(rt: &impl Abort, alloc: Global, rows: &[Row]) -> u64 {
     let asked = Cell::new(0);
     follow_counted(rt, alloc, &asked, rows);
     asked.get()
 }
 
-/// Rows, and for how many hashes they ask: one to look for a text that isn't short, and one more to put it in. What goes by words asks for none.
+/// Rows, and the number of hashes that they ask for: one to look for a text that isn't short, and one more to put it in. Calls by words ask for none.
 static ASKED: [(&[Row], u64); 9] = [
     (&[Row::Intern("abcdefg", Ok(0x6766_6564_6362_6171))], 0),
     (&[Row::Intern("interned", Ok(FIRST))], 2),
@@ -142,7 +142,7 @@ fn a_table_asks_its_hasher_as_often_as_it_has_to(rt: HostRuntime) {
     }
 }
 
-/// A text's word, of which the holder is gone for one in three.
+/// A text's word. The holder of one in three is gone.
 fn word_of<H: BuildHasher>(
     rt: &impl Abort,
     table: &mut Table<EmptyStaticAtomSet, H>,
@@ -197,7 +197,7 @@ fn words_are_the_same_with_each_hasher(rt: HostRuntime) {
     assert_that(&rt, gives_words(&rt, rt.alloc(), Alike, &words));
 }
 
-/// Bytes of which one is 1, and the others are 0.
+/// Bytes, one of which is 1 and the others 0.
 #[derive(Drop)]
 struct One {
     at: usize,

@@ -1,6 +1,6 @@
-//! Rows with worked values of the crates that take no handle: words and hashes, the table for one thread, static tables that are made, the
-//! core of atomic steps, and scripts. They stand apart from those crates, since a crate with tests is proved twice, and in one crate, since a
-//! check of tests reads all that is below it.
+//! Rows with worked values of the crates that take no handle: words and hashes, the table for one thread, static tables that are made, the core of
+//! atomic steps, and scripts. They are apart from those crates, since a crate with tests is proved twice, and in one crate, since a check of tests
+//! reads all that is below it.
 #![tactic(auto)]
 
 ghost use Rattle.std.specs.Prelude.{IsTrue};

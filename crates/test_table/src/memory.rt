@@ -1,4 +1,4 @@
-//! How many bytes a table takes. `gate/refused.py` holds the same numbers to those that an allocator is asked for.
+//! The bytes that a table takes. `gate/refused.py` compares the same numbers with those that an allocator is asked for.
 
 use crate::hashers::keys_of;
 use crate::rows::{Plain, plain, releases, reserves};
@@ -14,7 +14,7 @@ const BUCKET: u128 = 8;
 
 const GROUP: u128 = 496 + 208;
 
-/// The byte that is asked for as the block of values without bytes, beside tickets.
+/// The byte that is requested as the block of values without bytes, next to tickets.
 const UNITS: u128 = 1;
 
 /// A table of one bucket.
@@ -35,7 +35,7 @@ fn word_of(table: &Plain, text: &str) -> Option<u64> {
     table.get(text)
 }
 
-/// Whether the text has a word, of which a holder goes.
+/// Whether the text has a word and a holder of it can be taken.
 fn loses(table: &mut Plain, text: &str) -> bool {
     match word_of(table, text) {
         Some(word) => releases(table, word),
@@ -43,7 +43,7 @@ fn loses(table: &mut Plain, text: &str) -> bool {
     }
 }
 
-/// Whether all texts, which are parted by spaces, are interned.
+/// Whether all texts, which are separated by spaces, are interned.
 fn are_interned(table: &mut Plain, texts: &str) -> bool {
     for text in texts.split(' ') {
         if !interns(table, text) {
@@ -111,8 +111,7 @@ fn memory_of_a_table_as_it_is_made(rt: HostRuntime) {
     assert_that(&rt, takes_as_made(&rt, rt.alloc(), 4096 * BUCKET));
 }
 
-/// Numbers of texts, and the groups that a table has for them: twice as many each time. Where it has room for 576, it doesn't ask for more till
-/// then.
+/// Numbers of texts, and the groups that a table has for them: twice as many each time. With room for 576, it doesn't ask for more until then.
 const GROUPS: [(usize, u32); 6] = [
     (1, 1),
     (9, 1),
@@ -122,12 +121,12 @@ const GROUPS: [(usize, u32); 6] = [
     (5_000, 1_024),
 ];
 
-/// The bytes of a table of so many buckets and groups without texts.
+/// The bytes of a table with this many buckets and groups and no texts.
 fn empty_bytes(buckets: u32, groups: u32) -> u128 {
     u128::from(buckets) * BUCKET + u128::from(groups) * GROUP + UNITS
 }
 
-/// Whether a table of so many bytes without texts takes them and those of as many texts more, once these are interned.
+/// Whether a table that takes this many bytes without texts takes them and those of as many more texts once these are interned.
 fn takes_numbered(
     rt: &impl Abort,
     alloc: Global,
@@ -139,7 +138,7 @@ fn takes_numbered(
         && takes(table, empty.saturating_add(15 * number as u128))
 }
 
-/// Whether a table has so many groups with this number of texts, once they are gone, and with a text again.
+/// Whether a table has this many groups with this many texts, once they are gone, and with a text again.
 fn keeps_groups(rt: &impl Abort, alloc: Global, number: usize, groups: u32) -> bool {
     let mut table = one_bucket(rt, alloc);
     let empty = empty_bytes(1, groups);
@@ -157,7 +156,7 @@ fn memory_stays_when_texts_go(rt: HostRuntime) {
     }
 }
 
-/// Whether the table, which was made with room for this number of texts, takes so many bytes, with texts in it too and after `clear`.
+/// Whether the table, which was made with room for this many texts, takes this many bytes, also with texts in it and after `clear`.
 fn keeps_room(
     rt: &impl Abort,
     alloc: Global,
@@ -170,7 +169,7 @@ fn keeps_room(
     is_right && takes(table, empty)
 }
 
-/// Whether a table that is made with room for this number of texts has so many groups.
+/// Whether a table that is made with room for this many texts has this many groups.
 fn has_room(rt: &impl Abort, alloc: Global, number: usize, groups: u32) -> bool {
     let mut table = Plain::with_capacity(alloc, keys_of(rt, 1), number).expect(rt, "a table");
     keeps_room(rt, alloc, &mut table, number, empty_bytes(4096, groups))
@@ -183,7 +182,7 @@ fn memory_of_room(rt: HostRuntime) {
     }
 }
 
-/// Whether a table with a text takes so many bytes once it has room for as many more, and so many once the text is gone.
+/// Whether a table with a text takes the first number of bytes once it has room for as many more, and the second once the text is gone.
 fn takes_with_room(table: &mut Plain, number: usize, filled: u128, empty: u128) -> bool {
     interns(table, "interned")
         && reserves(table, number, Ok(()))
@@ -206,12 +205,12 @@ fn memory_of_room_beside_texts(rt: HostRuntime) {
     assert_that(&rt, one_bucket_takes_with_room(&rt, alloc, 150_000, 32_768));
 }
 
-/// Whether room for no text is made in a table, which takes so many bytes then.
+/// Whether room for no text can be made in a table, which then takes this many bytes.
 fn takes_no_more(table: &mut Plain, bytes: u128) -> bool {
     reserves(table, 0, Ok(())) && takes(table, bytes)
 }
 
-/// Whether a table that is made with room for no text takes what its buckets do, and one text more its own group.
+/// Whether a table that is made with room for no text takes what its buckets do, and one more text its own group.
 fn takes_no_room(rt: &impl Abort, alloc: Global) -> bool {
     let mut table = Plain::with_capacity(alloc, keys_of(rt, 1), 0).expect(rt, "a table");
     takes_no_more(&mut table, 4096 * BUCKET)
@@ -224,7 +223,7 @@ fn room_for_no_text_takes_none(rt: HostRuntime) {
     assert_that(&rt, takes_no_room(&rt, rt.alloc()));
 }
 
-/// Whether a table that had this number of texts, and lost so many, has so many groups once it is cleared.
+/// Whether a table that had the first number of texts, and lost the second, has this many groups once it is cleared.
 fn keeps_cleared_groups(
     rt: &impl Abort,
     alloc: Global,
@@ -256,11 +255,11 @@ fn memory_stays_when_a_full_table_is_cleared(rt: HostRuntime) {
     }
 }
 
-/// What the names below are of.
+/// The kind of the names below.
 #[derive(Drop)]
 struct Files;
 
-/// Whether the text has a name, of which a holder goes.
+/// Whether the text has a name and a holder of it can be taken.
 fn loses_name(names: &mut Names<Files>, text: &str) -> bool {
     match names.get(text) {
         Some(name) => names.release(name),
@@ -278,14 +277,14 @@ fn loses_names(rt: &impl Abort, alloc: Global, names: &mut Names<Files>, number:
     true
 }
 
-/// Whether names take so many bytes, and one that comes then its own beside.
+/// Whether names take this many bytes, and a new one then its own in addition.
 fn names_take(names: &mut Names<Files>, bytes: u128) -> bool {
     takes(names.table(), bytes)
         && names.intern("tokenised").is_ok()
         && takes(names.table(), bytes.saturating_add(9))
 }
 
-/// Whether names of as many texts take so many bytes once all are gone, and with one that comes then.
+/// Whether names of as many texts take this many bytes once all are gone, and with a new one then.
 fn names_keep_room(rt: &impl Abort, alloc: Global, number: usize, empty: u128) -> bool {
     let mut table = one_bucket(rt, alloc);
     let is_right = interns_numbered(rt, alloc, &mut table, number);

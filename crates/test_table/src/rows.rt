@@ -1,5 +1,5 @@
-//! Calls of a table as data: what each answers, and what the table tells between them. One function makes tables and follows the rows in each,
-//! so that a test has none of its own. The tables have hashers of several kinds, on which no answer depends.
+//! Calls of a table as data: what each returns, and what the table tells between them. One function makes tables and follows the rows in each, so
+//! that a test has none of its own. The tables have hashers of several kinds, which no answer depends on.
 
 use crate::assert_for;
 use crate::hashers::{Alike, keys_of};
@@ -11,30 +11,30 @@ use string_cache_core::static_sets::{EmptyStaticAtomSet, StaticAtomSet};
 use string_cache_core::table::{Call, Table, TableReply, TrustedTexts};
 use string_cache_core::word::{Buckets, Form, Limits, form_of};
 
-/// A call of a table with what it has to answer, or what the table has to tell.
+/// A call of a table with what it must return, or what the table must tell.
 #[derive(Drop)]
 pub enum Row {
-    /// The text is interned as this word, or refused so.
+    /// The text is interned as this word, or refused with this fault.
     Intern(&'static str, Result<u64, Fault>),
     /// The text is interned as the first ticket of its bucket.
     First(&'static str),
     /// The word is held, and given.
     Give(u64),
-    /// The word is held, and is cloned or refused so.
+    /// The word is held, and is cloned or refused with this fault.
     Clone(u64, Result<u64, Fault>),
-    /// A holder of the word is added where it is held.
+    /// A holder of the word is added if it is held.
     CloneHeld(u64, Result<Option<u64>, Fault>),
     /// Whether a holder of the word goes.
     Release(u64, bool),
-    /// Room for so many texts is made, or refused so.
+    /// Room for this many texts is made, or refused with this fault.
     Reserve(usize, Result<(), Fault>),
     /// All holders go.
     Clear,
     /// The calls are made in a run, with these replies.
     Run(&'static [Made], &'static [TableReply]),
-    /// The word is cloned so often in one run.
+    /// The word is cloned this often in one run.
     RunClones(u64, usize),
-    /// The text has this word, is given, and so on, so often: each time the word is the next ticket.
+    /// The text has this word, is given, and so on, this often: each time the word is the next ticket.
     ComeAndGo(&'static str, u64, usize),
     /// The table tells this.
     Tell(Told),
@@ -49,7 +49,7 @@ pub enum Told {
     Text(u64, &'static str),
     /// The word has no text in the table.
     NoText(u64),
-    /// The text of the word, wherever it lies.
+    /// The text of the word, wherever it is.
     TextOf(u64, &'static str),
     /// The word has no text.
     NoTextOf(u64),
@@ -77,7 +77,7 @@ pub enum Made {
     Give(u64),
 }
 
-// These say nothing of what they do, so that what calls them is proved in a moment.
+// These say nothing about what they do, so that their callers are proved in a moment.
 
 pub fn interns<S: StaticAtomSet, H: BuildHasher>(
     table: &mut Table<S, H>,
@@ -159,7 +159,7 @@ fn calls_of(rt: &impl Abort, alloc: Global, made: &[Made]) -> Vec<Call> {
     calls
 }
 
-/// So many calls that clone this word.
+/// This many calls that clone this word.
 fn calls_of_clones(rt: &impl Abort, alloc: Global, word: u64, number: usize) -> Vec<Call> {
     let mut calls = Vec::new(alloc);
     for _ in 0..number {
@@ -188,12 +188,12 @@ fn runs<S: StaticAtomSet, H: BuildHasher>(
     run(rt, table, &calls).as_slice() == wanted
 }
 
-/// Whether there are so many replies, each of them this one.
+/// Whether there are this many replies, each of them this one.
 fn are_all(replies: &[TableReply], number: usize, wanted: TableReply) -> bool {
     replies.len() == number && replies.iter().all(|reply| *reply == wanted)
 }
 
-/// Whether so many clones of the word in one run are replied to, each with it.
+/// Whether this many clones of the word in one run are replied to, each with the word.
 fn runs_clones<S: StaticAtomSet, H: BuildHasher>(
     rt: &impl Abort,
     alloc: Global,
@@ -208,7 +208,7 @@ fn runs_clones<S: StaticAtomSet, H: BuildHasher>(
 /// The unit of a ticket: two that a bucket gives one after the other differ by it.
 const TICKET_UNIT: u64 = 65536;
 
-/// Whether the text comes and goes so often, with one ticket after another.
+/// Whether the text comes and goes this often, with one ticket after another.
 fn comes_and_goes<S: StaticAtomSet, H: BuildHasher>(
     table: &mut Table<S, H>,
     text: &str,
@@ -314,7 +314,7 @@ fn stands_at<S: StaticAtomSet, H: BuildHasher>(
     }
 }
 
-/// Whether these texts stand at the first places, each with its holders, and none behind them.
+/// Whether these texts are at the first places, each with its holders, and none after them.
 fn stand_in_order<S: StaticAtomSet, H: BuildHasher>(
     table: &Table<S, H>,
     wanted: &[(&str, u64)],
@@ -402,7 +402,7 @@ fn is_right<S: StaticAtomSet, H: BuildHasher>(
     }
 }
 
-/// Each of these rows has to be right, one after another.
+/// Each of these rows must be right, one after another.
 pub fn follow<S: StaticAtomSet, H: BuildHasher>(
     rt: &impl Abort,
     alloc: Global,
@@ -425,7 +425,7 @@ fn check_in<S: StaticAtomSet, H: BuildHasher + Drop>(
     follow(rt, alloc, &mut table, rows);
 }
 
-/// Follows the rows in new tables: two with keys of their own, the quick one, and one in which all texts have one hash.
+/// Follows the rows in new tables: two with keys of their own, the fast one, and one in which all texts have the same hash.
 pub fn check<S: StaticAtomSet>(rt: &impl Abort, alloc: Global, rows: &[Row]) {
     check_in::<S, _>(rt, alloc, keys_of(rt, 1), rows);
     check_in::<S, _>(rt, alloc, keys_of(rt, 2), rows);
@@ -445,7 +445,7 @@ pub fn check_plain(rt: &impl Abort, alloc: Global, rows: &[Row]) {
     check::<EmptyStaticAtomSet>(rt, alloc, rows);
 }
 
-/// Follows the rows in a table with this hasher and so many bits of buckets.
+/// Follows the rows in a table with this hasher and this many bits of buckets.
 fn check_with_in<H: BuildHasher + Drop>(
     rt: &impl Abort,
     alloc: Global,
@@ -460,13 +460,13 @@ fn check_with_in<H: BuildHasher + Drop>(
     follow(rt, alloc, &mut table.expect(rt, "a table"), rows);
 }
 
-/// Follows the rows in tables with so many bits of buckets, one with keys and the quick one.
+/// Follows the rows in tables with this many bits of buckets, one with keys and the fast one.
 pub fn check_with(rt: &impl Abort, alloc: Global, limits: Limits, buckets: Buckets, rows: &[Row]) {
     check_with_in(rt, alloc, keys_of(rt, 1), limits, buckets, rows);
     check_with_in(rt, alloc, TrustedTexts, limits, buckets, rows);
 }
 
-/// Follows the rows in a table that has room for so many texts.
+/// Follows the rows in a table that has room for this many texts.
 pub fn check_with_room(rt: &impl Abort, alloc: Global, number: usize, rows: &[Row]) {
     let mut table = Plain::with_capacity(alloc, keys_of(rt, 1), number).expect(rt, "a table");
     follow(rt, alloc, &mut table, rows);

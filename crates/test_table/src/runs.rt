@@ -5,7 +5,7 @@ use crate::memory::interns_numbered;
 use crate::rows::{FIRST, Made, Row, SECOND, Told, check_plain, follow, plain};
 use string_cache_core::table::TableReply;
 
-/// Calls one after another, each in a run of its own, and the reply to each, where "interned" has one holder.
+/// Calls one after another, each in a run of its own, and the reply to each, when "interned" has one holder.
 static CALLS: [Row; 12] = [
     Row::Intern("interned", Ok(FIRST)),
     Row::Run(&[Made::Clone(FIRST)], &[TableReply::Word(FIRST)]),

@@ -1,11 +1,11 @@
-//! Lines that are of the grammar, and lines that aren't; scripts of many steps, and what a fault prints.
+//! Lines that the grammar allows, and lines that it doesn't; scripts of many steps, and what a fault prints.
 
 use crate::texts::is_printed_as;
 use crate::{assert_for, assert_that};
 use replay_script::{ScriptFault, next_line, replay_text};
 use std::alloc::{AllocError, Global};
 
-/// As `replay_text`. Where memory was refused, the call is made once more.
+/// As `replay_text`. If memory was refused, the call is made once more.
 fn replayed(alloc: Global, script: &str) -> Result<String, ScriptFault> {
     match replay_text(alloc, script) {
         Err(ScriptFault::Memory) => replay_text(alloc, script),
@@ -29,8 +29,8 @@ fn is_bad_at(alloc: Global, script: &str, line: u64) -> bool {
     }
 }
 
-/// A text is the rest of its line as it stands, the last line may lack its line feed, and numbers reach their bounds. A
-/// text of 7 bytes is inline and takes no bucket, so a byte that got lost would show.
+/// A text is the rest of its line as it is, the last line may lack its line feed, and numbers reach their bounds. A text of 7 bytes is inline and
+/// takes no bucket, so a byte that got lost would show.
 const GOOD: [(&str, &str); 16] = [
     ("", ""),
     ("limits 1 1", ""),
@@ -202,14 +202,14 @@ fn many_lines_of_output(rt: HostRuntime) {
     assert_that(&rt, gives(rt.alloc(), &script, &lines));
 }
 
-/// A script of so many good lines and a bad one.
+/// A script of this many good lines and a bad one.
 fn script_with_bad_line(alloc: Global, good: usize) -> Result<String, AllocError> {
     let mut script = "1 leave\n".repeat(alloc, good)?;
     script.push_str("1 jump\n")?;
     Ok(script)
 }
 
-/// Whether the bad line is told as the one after so many.
+/// Whether the bad line is reported as the one after this many.
 fn is_bad_behind(alloc: Global, good: u16) -> Result<bool, AllocError> {
     let script = script_with_bad_line(alloc, usize::from(good))?;
     Ok(is_bad_at(alloc, &script, u64::from(good).saturating_add(1)))

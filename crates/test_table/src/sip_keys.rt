@@ -8,7 +8,7 @@ use std::random::RandomSource;
 use text_forms::SipKey;
 
 /// SipHash-1-3 of a message under the key of zeros, as Rust's `DefaultHasher` gives it, and under that of the bytes 0 to 15, as another program
-/// worked it out. That of no bytes stands in Rust's own tests.
+/// worked it out. That of no bytes is in Rust's own tests.
 static HASHES: [(&str, u64, u64); 7] = [
     ("", 0xd1fb_a762_150c_532c, 0xabac_0158_050f_c4dc),
     ("\0", 0x68a9_1412_8e01_e473, 0xc9f4_9bf3_7d57_ca93),

@@ -44,7 +44,7 @@ fn step_of(alloc: Global, step: Do) -> Result<Step, AllocError> {
     })
 }
 
-// The ticket of a bucket's serial, the bucket being that of the text among these.
+// The ticket of a serial in the bucket, among these, of the text.
 fn ticket_in(buckets: Buckets, text: &str, serial: u64) -> u64 {
     match form_of_text::<EmptyStaticAtomSet>(text) {
         TextForm::Dynamic(hash) => {
@@ -54,7 +54,7 @@ fn ticket_in(buckets: Buckets, text: &str, serial: u64) -> u64 {
     }
 }
 
-// The same of the usual number of buckets.
+// The same for the usual number of buckets.
 fn ticket_of(text: &str, serial: u64) -> u64 {
     ticket_in(Buckets::usual(), text, serial)
 }
@@ -64,7 +64,7 @@ type Row = (u32, Do, StepReply);
 
 type Plain = World<EmptyStaticAtomSet>;
 
-// These say nothing of what they do, so that each test is proved in a moment.
+// These say nothing about what they do, so that each test is proved in a moment.
 
 fn linked(entry: u64, ticket: u64) -> StepReply {
     Linked { entry, ticket }
@@ -93,7 +93,7 @@ fn run(world: &mut Plain, steps: &[(u32, Step)], given: &mut Vec<StepReply>) -> 
     world.run(steps, given)
 }
 
-// Makes the steps in one run, and appends what is replied and what has to be.
+// Makes the steps in one run, and appends the replies and what they must be.
 fn run_rows(
     alloc: Global,
     world: &mut Plain,
@@ -109,7 +109,7 @@ fn run_rows(
     run(world, &steps, given)
 }
 
-// Whether the first entries are held so often, and there are no others.
+// Whether the first entries are held this often, and there are no others.
 fn are_held(world: &Plain, held: &[u64]) -> bool {
     for (k, count) in held.iter().enumerate() {
         if world.count(k as u64 + 1) != Some(*count) {
@@ -124,7 +124,7 @@ fn check(rt: &impl Abort, alloc: Global, limits: Limits, rows: &[Row], held: &[u
     check_in(rt, alloc, limits, Buckets::usual(), rows, held);
 }
 
-// By `step` and by `run`: each row's step of its party has that reply, and then the entries are held so often.
+// By `step` and by `run`: each row's step of its party has that reply, and then the entries are held this often.
 fn check_in(
     rt: &impl Abort,
     alloc: Global,
@@ -301,7 +301,7 @@ fn sweeps_of_the_last_buckets(rt: HostRuntime) {
     }
 }
 
-// A party that interns in the only bucket looks at the other text's entry too, and waits for who holds the bucket.
+// A party that interns in the only bucket looks at the other text's entry too, and waits for the party that holds the bucket.
 #[test]
 fn one_bucket_for_all_texts(rt: HostRuntime) {
     let (first, second) = (0x1_0000, 0x2_0000);
@@ -372,7 +372,7 @@ fn push(
     Ok(())
 }
 
-// A linked entry of party 1, and then ten thousand times one holder more by party 2 and one less by party 1.
+// A linked entry of party 1, and then ten thousand times one more holder by party 2 and one fewer by party 1.
 fn push_many(alloc: Global, steps: &mut Vec<(u32, Step)>) -> Result<(), AllocError> {
     push(alloc, steps, 1, Do::Intern("interned"))?;
     push(alloc, steps, 1, Do::Link(true))?;
@@ -395,7 +395,7 @@ fn are_many(replies: &[StepReply]) -> bool {
         && count_of(replies, Given { left: 1 }) == 10_000
 }
 
-// Whether they come of one run.
+// Whether one run gives them.
 fn come_of_one_run(alloc: Global, world: &mut Plain) -> Result<bool, Fault> {
     let mut steps = Vec::new(alloc);
     push_many(alloc, &mut steps)?;

@@ -87,8 +87,8 @@ fn a_word_goes_with_its_last_holder(rt: HostRuntime) {
     check_plain(&rt, rt.alloc(), &LAST_HOLDER);
 }
 
-/// Words by OpenSSL's SipHash: the buckets are 0x2ec, 0x20a and 0x760. The second and the third text keep theirs where the first one
-/// goes, and the third is found by its own.
+/// Words by OpenSSL's SipHash: the buckets are 0x2ec, 0x20a and 0x760. The second and the third text keep theirs when the first one goes, and the
+/// third is found by its own.
 static LAST_PLACE: [Row; 8] = [
     Row::Intern("the first", Ok(0x1_0bb0)),
     Row::Intern("the second", Ok(0x1_0828)),
@@ -105,7 +105,7 @@ fn the_last_text_comes_in_the_place_of_one_that_goes(rt: HostRuntime) {
     check_plain(&rt, rt.alloc(), &LAST_PLACE);
 }
 
-/// Where a text has two holders at most, and is interned or cloned.
+/// When a text may have at most two holders, and is interned or cloned.
 static FULL: [Row; 8] = [
     Row::Intern("interned", Ok(FIRST)),
     Row::Intern("interned", Ok(FIRST)),
@@ -127,7 +127,7 @@ fn a_text_has_no_more_holders_than_its_limit(rt: HostRuntime) {
     check_with(&rt, rt.alloc(), limits, Buckets::usual(), &FULL);
 }
 
-/// "interned" has so many holders, and no more.
+/// "interned" has this many holders, and no more.
 fn check_holders(rt: &impl Abort, alloc: Global, holders: u64) {
     let rows = [
         Row::Intern("interned", Ok(FIRST)),
@@ -147,7 +147,7 @@ fn a_text_has_as_many_holders_as_its_limit(rt: HostRuntime) {
     }
 }
 
-/// Characters of one to four bytes, ten together, doubled nineteen times.
+/// Characters of one to four bytes, ten in all, doubled nineteen times.
 fn large_text(rt: &impl Abort, alloc: Global) -> String {
     let mut text = String::from_str(alloc, "né€𝄞").expect(rt, "room");
     for _ in 0..19 {
@@ -161,7 +161,7 @@ fn intern(rt: &impl Abort, table: &mut Plain, text: &str) -> u64 {
     table.intern(text).expect(rt, "a word")
 }
 
-/// Whether the text is the one entry of the table, of so many bytes, till its word is given.
+/// Whether the text is the only entry of the table, with this many bytes, until its word is given.
 fn is_kept_till_given(rt: &impl Abort, table: &mut Plain, text: &str, bytes: u128) -> bool {
     let word = intern(rt, table, text);
     let is_kept = is_first(word) && has_text(table, word, text) && keeps(table, 1, bytes);
@@ -189,7 +189,7 @@ fn a_text_that_comes_and_goes_has_the_next_ticket(rt: HostRuntime) {
     check_plain(&rt, rt.alloc(), &COME_AND_GO);
 }
 
-/// The buckets with so many bits.
+/// The buckets with this many bits.
 fn buckets_of(rt: &impl Abort, bits: u8) -> Buckets {
     Buckets::new(bits).expect(rt, "bits")
 }
@@ -199,7 +199,7 @@ fn bucket_of_text(buckets: Buckets, text: &str) -> usize {
     usize::from(buckets.bucket_of(hash(text, 0).entry_hash()))
 }
 
-/// Two texts with one bucket: there is one text more than buckets.
+/// Two texts with the same bucket: there is one more text than buckets.
 fn bucket_mates(rt: &impl Abort, alloc: Global, buckets: Buckets) -> (String, String) {
     let mut first = vec![in alloc; None; buckets.number()].expect(rt, "room");
     for number in 0..=buckets.number() {
@@ -239,7 +239,7 @@ fn gives_one_ticket_of(
     gives_one_ticket(rt, &mut table, first, second)
 }
 
-/// Whether that is so of two texts of one of the buckets.
+/// Whether that is so for two texts of one of the buckets.
 fn have_one_ticket(rt: &impl Abort, alloc: Global, buckets: Buckets) -> bool {
     let (first, second) = bucket_mates(rt, alloc, buckets);
     gives_one_ticket_of(rt, alloc, buckets, &first, &second)
@@ -272,7 +272,7 @@ const WORDS: [(u8, u64); 15] = [
     (14, 0x1_c840), // bucket 0x3210
 ];
 
-/// "interned" has this word first in a table of so many bits, and once that is given back the next ticket of its bucket.
+/// "interned" first has this word in a table of this many bits, and once that is given back the next ticket of its bucket.
 fn check_tickets(rt: &impl Abort, alloc: Global, bits: u8, word: u64) {
     let rows = [Row::ComeAndGo("interned", word, 2)];
     check_with(rt, alloc, Limits::greatest(), buckets_of(rt, bits), &rows);

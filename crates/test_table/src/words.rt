@@ -1,4 +1,4 @@
-//! What a table answers of words and of texts, and its holders by words, with values from outside.
+//! What a table returns for words and for texts, and its holders by words, with values from outside.
 
 use crate::assert_that;
 use crate::hashers::keys_of;
@@ -39,7 +39,7 @@ fn inline_words_have_texts_of_their_own(rt: HostRuntime) {
     check_plain(&rt, rt.alloc(), &INLINE);
 }
 
-/// A holder of the static word comes and goes. No text has the word behind it.
+/// A holder of the static word comes and goes. No text has the next word.
 static STATIC: [Row; 8] = [
     Row::Tell(Told::TextOf(2, "sentence")),
     Row::Tell(Told::Found("sentence", Some(2))),
@@ -76,7 +76,7 @@ fn a_dynamic_text_has_a_word_while_it_is_held(rt: HostRuntime) {
     check_plain(&rt, rt.alloc(), &DYNAMIC);
 }
 
-/// Of a word that isn't held, as those of nothing and that of a ticket that no bucket gave, no holder comes and none goes.
+/// A word that isn't held, such as those of nothing and that of a ticket that no bucket gave, gets no holder and loses none.
 static HOLDERS: [Row; 21] = [
     Row::CloneHeld(FIRST, Ok(None)),
     Row::Release(FIRST, false),
@@ -121,8 +121,8 @@ fn a_full_text_is_not_cloned(rt: HostRuntime) {
     check_with(&rt, rt.alloc(), limits, Buckets::usual(), &FULL);
 }
 
-/// Five texts, one of which is short, and one of which comes twice. Once the first one is gone, the last one has its place. Their buckets
-/// by OpenSSL's SipHash are 0x2ec, 0x20a, 0x760 and 0xf21.
+/// Five texts, one of which is short, and one of which is interned twice. Once the first one is gone, the last one has its place. Their buckets by
+/// OpenSSL's SipHash are 0x2ec, 0x20a, 0x760 and 0xf21.
 static ORDER: [Row; 12] = [
     Row::Tell(Told::Lists(&[])),
     Row::Intern("the first", Ok(0x1_0bb0)),
@@ -148,7 +148,7 @@ fn texts_come_in_their_order(rt: HostRuntime) {
     check_plain(&rt, rt.alloc(), &ORDER);
 }
 
-/// Texts at the places of a table, also once the first one is gone.
+/// Texts at the places of a table, also after the first one is gone.
 static PLACES: [Row; 8] = [
     Row::Intern("interned", Ok(FIRST)),
     Row::Intern("tokenised", Ok(0x1_39dc)),
@@ -196,7 +196,7 @@ fn a_cleared_table_gives_no_ticket_again(rt: HostRuntime) {
     check_plain(&rt, rt.alloc(), &CLEARED);
 }
 
-/// Two kinds of names, of which there are no values.
+/// Two kinds of names, which have no values.
 enum File {}
 
 enum Function {}
@@ -221,7 +221,7 @@ fn interns_as<K>(names: &mut Names<K>, text: &str, name: Name<K>) -> bool {
     names.intern(text) == Ok(name)
 }
 
-/// Whether two holders of the name go, and no third one, and it has this text no more.
+/// Whether two holders of the name can be taken, and no third one, and it then no longer has this text.
 fn loses_both<K>(kind: &mut Names<K>, name: Name<K>, text: &str) -> bool {
     kind.release(name) && kind.release(name) && !kind.release(name) && !names(kind, name, text)
 }
@@ -236,7 +236,7 @@ fn finds_none<K>(names: &Names<K>, text: &str, word: u64) -> bool {
     names.name_of(word).is_none() && names.get(text).is_none()
 }
 
-/// Whether the name of a text, interned twice, has the text till both holders are gone.
+/// Whether the name of a text, interned twice, has the text until both holders are gone.
 fn is_named_till_the_last(rt: &impl Abort, files: &mut Names<File>, text: &str) -> bool {
     let name = name_of(rt, files, text);
     names(files, name, text) && interns_as(files, text, name) && loses_both(files, name, text)
@@ -280,7 +280,7 @@ fn is_found_alone(table: &Plain, text: &str, word: u64) -> bool {
         && lists(table, &[(text, 1)])
 }
 
-/// Whether the text is found from when it is interned on, gets a second holder, and is gone with it.
+/// Whether the text is found once it is interned, gets a second holder, and is gone with it.
 fn is_looked_up(table: &mut Plain, text: &str) -> bool {
     let is_new = finds(table, text, None);
     let Ok(word) = table.intern(text) else {
@@ -309,12 +309,12 @@ fn a_large_text_is_looked_up(rt: HostRuntime) {
     assert_that(&rt, is_looked_up_in_a_new_table(&rt, rt.alloc(), &text));
 }
 
-/// What is printed of a word's text in a width of six, of the same in quotes, and of its name.
+/// What is printed for a word's text in a width of six, for the same in quotes, and for its name.
 fn printed(alloc: Global, text: &WordText<'_>, name: Name<File>) -> Result<String, AllocError> {
     format!(in alloc; "{text:>6}|{text:?}|{name:?}")
 }
 
-/// Whether this is printed of a name and its text.
+/// Whether this is printed for a name and its text.
 fn prints(alloc: Global, names: &Names<File>, name: Name<File>, wanted: &str) -> bool {
     let Some(text) = names.text_of(name) else {
         return false;
@@ -336,7 +336,7 @@ fn names_print(rt: HostRuntime) {
     assert_that(&rt, print(&rt, rt.alloc()));
 }
 
-/// Whether the first name stands before the second.
+/// Whether the first name is before the second.
 fn are_ordered(first: Name<File>, second: Name<File>) -> bool {
     first < second && first != second && first.cmp(&first).is_eq()
 }

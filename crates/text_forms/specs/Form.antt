@@ -1,4 +1,4 @@
--- What a word tells of itself.
+-- What a word tells about itself.
 use Rattle.std.specs.Prelude.{◌≡◌, ℕ, Option, Some, None}
 use Rattle.text_forms.specs.declared.word.Form.{Form}
 use Rattle.text_forms.specs.declared.word.Form.TheVariants.{Inline, Static, Dynamic}

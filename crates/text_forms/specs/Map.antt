@@ -14,20 +14,21 @@ pub record Holding : Type 0 where
   pub ticket : ℕ
   pub holders : ℕ
 
+-- the map: how many buckets there are, what is held of each dynamic text, and each bucket's last serial
 pub record InternMap : Type 0 where
   pub buckets : ℕ  -- how many buckets there are
-  pub held : List ℕ → Option Holding  -- of a text, where someone holds it
-  pub last : ℕ → ℕ  -- of a bucket, the serial that it gave last, at first 0
+  pub held : List ℕ → Option Holding  -- of a text, if someone holds it
+  pub last : ℕ → ℕ  -- the last serial that a bucket gave, at first 0
 
 -- nothing is held, and no serial was given
 abbrev pub empty_map : ℕ → InternMap
 empty_map buckets = record { buckets = buckets; held = λ text. None; last = λ bucket. 0 }
 
--- the map with this at the text
+-- the map with this holding for the text
 abbrev pub with_held : InternMap → List ℕ → Option Holding → InternMap
 with_held m text holding = record { buckets = m.buckets; held = update bytes_eq m.held text holding; last = m.last }
 
--- the map with this last serial of the bucket
+-- the map with this as the bucket's last serial
 abbrev pub with_last : InternMap → ℕ → ℕ → InternMap
 with_last m bucket serial = record { buckets = m.buckets; held = m.held; last = λ other. if other == bucket then serial else m.last other }
 
@@ -37,10 +38,11 @@ pub record IsHeldTicket (m : InternMap) (ticket : ℕ) : Type 0 where
   pub holders : ℕ
   pub held : m.held text ≡ Some (record { ticket = ticket; holders = holders })
 
--- so many hold the ticket
+-- this many hold the ticket
 abbrev pub HasHolders : InternMap → ℕ → ℕ → Type 0
 HasHolders m ticket holders = (text : List ℕ) × (m.held text ≡ Some (record { ticket = ticket; holders = holders }))
 
+-- a call of the map: to intern a dynamic text, and to clone or give back a ticket that is held
 pub data MapCall : Type 0 where
   Intern : (text : List ℕ) → MapCall  -- of a dynamic text
   Clone : (ticket : ℕ) → MapCall  -- of a ticket that is held
@@ -56,18 +58,18 @@ one_more had = record { ticket = had.ticket; holders = had.holders + 1 }
 abbrev pub one_less : Holding → Holding
 one_less had = record { ticket = had.ticket; holders = had.holders - 1 }
 
--- what a text has once nobody or somebody holds it
+-- what a text has after a holder gave it up: nothing if nobody holds it any more
 abbrev pub unless_given_up : Holding → Option Holding
 unless_given_up left = if left.holders == 0 then None else Some left
 
--- A text that is held gets one holder more, or is full exactly where its holders are at the limit.
+-- A text that is held gets one holder more, or is full exactly if its holders are at the limit.
 abbrev pub MayAdd : Bounds → InternMap → List ℕ → Holding → MapReply → InternMap → Type 0
 MayAdd limits m text had reply new =
     ((had.holders < limits.holders) × (reply ≡ Ok (one_more had)) × (new ≡ with_held m text (Some (one_more had))))
     ⊎ ((limits.holders ≤ had.holders) × (reply ≡ Err fault.FullCount) × (new ≡ m))
 
--- A text that isn't held gets its bucket's next ticket and one holder, or finds no memory; the bucket's tickets are spent
--- exactly where its last serial is at the limit.
+-- A text that isn't held gets its bucket's next ticket and one holder, or there is no memory; the bucket's tickets are spent exactly if its last
+-- serial is at the limit.
 abbrev pub MayLink : Tables → Bounds → InternMap → List ℕ → MapReply → InternMap → Type 0
 MayLink t limits m text reply new =
     let bucket = bucket_of t m.buckets text in
@@ -82,7 +84,7 @@ abbrev pub MayIntern : Tables → Bounds → InternMap → List ℕ → Option H
 MayIntern t limits m text None reply new = MayLink t limits m text reply new
 MayIntern t limits m text (Some had) reply new = MayAdd limits m text had reply new
 
--- From m the call may be replied to so, and leave new. A refusal leaves m.
+-- From m the call may get this reply and leave new. A refusal leaves m.
 abbrev pub MayReply : Tables → Bounds → InternMap → MapCall → MapReply → InternMap → Type 0
 MayReply t limits m (Intern text) reply new = MayIntern t limits m text (m.held text) reply new
 MayReply t limits m (Clone ticket) reply new =

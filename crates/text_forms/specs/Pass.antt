@@ -2,8 +2,7 @@
 -- finds, and what is left.
 use Rattle.std.specs.Prelude.{◌≡◌, ◌≢◌, ℕ, List, [], ◌∷◌, Option, None, Some}
 
--- What was asked of an entry, and answered: `add` gave a share, found it full or found it dying; `dying` said that it is
--- gone, or that it stays.
+-- What was asked of an entry, and answered: `add` gave a share, found it full or found it dying; `dying` said that it is gone or that it stays.
 pub data PassReply (S : Type 0) : Type 0 where
   added : S → PassReply S
   full : PassReply S
@@ -11,7 +10,7 @@ pub data PassReply (S : Type 0) : Type 0 where
   gone : PassReply S
   stays : PassReply S
 
--- The replies are one for each of these texts, in order, and each was asked as a pass asks: by `add` where its text is
+-- The replies are one for each of these texts, in order, and each was asked as a pass asks: by `add` if its text is
 -- wanted, until one was added or full, and all others by `dying`. A sweep wants none.
 abbrev pub Asked : {S : Type 0} → Option (List ℕ) → List (List ℕ) → List (PassReply S) → Type 0
 Asked wanted [] [] = Unit {0}

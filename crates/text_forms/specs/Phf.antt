@@ -1,5 +1,5 @@
--- SipHash (Aumasson and Bernstein, 2012) as a fold over a text's 64-bit words, and the place that the hashes give a text
--- in static tables (hash, displace and compress: Belazzougui, Botelho and Dietzfelbinger, 2009).
+-- SipHash (Aumasson and Bernstein, 2012) as a fold over a text's 64-bit words, and the place that the hashes give a text in static tables (hash,
+-- displace and compress: Belazzougui, Botelho and Dietzfelbinger, 2009).
 use Rattle.std.specs.Prelude.{ℕ, zero, suc, if◌then◌else◌, ◌+◌, ◌*◌, ◌/◌, ◌%◌, ◌^◌, List, [], ◌∷◌, ◌++◌, length, drop, map, fold, bit_xor, slice_index_or}
 use Rattle.std.specs.Int.{w64, rotate_left}
 use Rattle.std.specs.Str.{bytes_eq}
@@ -41,6 +41,7 @@ round s =
     let b1 = bit_xor (rotate_left w64 a1 17) b2 in
     record { v0 = b0; v1 = b1; v2 = rotate_left w64 b2 32; v3 = b3 }
 
+-- n rounds, one after another
 unfoldable pub rounds : ℕ → Sip → Sip
 rounds zero s = s
 rounds (suc n) s = round (rounds n s)
@@ -49,12 +50,15 @@ rounds (suc n) s = round (rounds n s)
 unfoldable pub xor_v0 : Sip → ℕ → Sip
 xor_v0 s m = record s { v0 = bit_xor s.v0 m }
 
+-- the same, into the second word of the state
 unfoldable pub xor_v1 : Sip → ℕ → Sip
 xor_v1 s m = record s { v1 = bit_xor s.v1 m }
 
+-- the same, into the third
 unfoldable pub xor_v2 : Sip → ℕ → Sip
 xor_v2 s m = record s { v2 = bit_xor s.v2 m }
 
+-- the same, into the fourth
 unfoldable pub xor_v3 : Sip → ℕ → Sip
 xor_v3 s m = record s { v3 = bit_xor s.v3 m }
 
@@ -79,7 +83,7 @@ sip24_of bytes k0 k1 = xor_of (rounds 4 (xor_v2 (absorb_all 2 (start k0 k1) byte
 unfoldable pub written : Sip → List ℕ → Sip
 written s bytes = if bytes_eq bytes (255 ∷ []) then s else absorb_all 1 s bytes
 
--- the 64 bits that SipHash-1-3 gives behind this state
+-- the 64 bits that SipHash-1-3 gives after this state
 unfoldable pub sip13_of : Sip → ℕ
 sip13_of s = xor_of (rounds 3 (xor_v2 s 0xff))
 
@@ -87,6 +91,7 @@ sip13_of s = xor_of (rounds 3 (xor_v2 s 0xff))
 unfoldable pub first_half : List ℕ → ℕ → Sip
 first_half bytes key = rounds 3 (xor_v2 (absorb_all 1 (xor_v1 (start 0 key) 0xee) bytes) 0xee)
 
+-- the state of the second half of these 128 bits
 unfoldable pub second_half : List ℕ → ℕ → Sip
 second_half bytes key = rounds 3 (xor_v1 (first_half bytes key) 0xdd)
 
@@ -102,7 +107,7 @@ hashes_of bytes key = record {
 abbrev pub hash_of_hashes : Hashes → ℕ
 hash_of_hashes h = h.g * 2 ^ 32 + h.f1
 
--- the place among len texts: g picks the pair of displacements, which displace f1 and f2
+-- the place among len texts: g, modulo the number of pairs, picks a pair (d1, d2), and the place is (d2 + f1 * d1 + f2) modulo 2 ^ 32, modulo len
 abbrev pub place_of : Hashes → List (ℕ × ℕ) → ℕ → ℕ
 place_of h disps len =
     let pair = slice_index_or disps (h.g % length disps) (0, 0) in

@@ -13,7 +13,7 @@ pub record Tables : Type 0 where
   pub atoms : List (List ℕ)
   pub hashes : List ℕ
 
--- tables in which a text has a place
+-- tables in which a text has a place: of pairs and of texts there are at least one and fewer than 2 ^ 32, and a hash number for each text
 pub record AreUsable (t : Tables) : Type 0 where
   pub displaced : 0 < length t.disps
   pub listed : 0 < length t.atoms
@@ -29,21 +29,21 @@ place_in t text = place_of (hashes_of text t.key) t.disps (length t.atoms)
 abbrev pub text_at : Tables → ℕ → List ℕ
 text_at t index = slice_index_or t.atoms index []
 
--- tables in which each text is listed once and stands at its place
+-- tables in which each text is listed once, at its place
 pub record IsPerfectTable (t : Tables) : Type 0 where
   pub usable : AreUsable t
   pub distinct : (i j : ℕ) → i < length t.atoms → j < length t.atoms → text_at t i ≡ text_at t j → i ≡ j
   pub placed : (i : ℕ) → i < length t.atoms → place_in t (text_at t i) ≡ i
 
--- the hash of an entry, of which the low bits are its bucket
+-- the hash of an entry, whose low bits are its bucket
 unfoldable pub entry_hash : Tables → List ℕ → ℕ
 entry_hash t text = hash_of_hashes (hashes_of text t.key)
 
--- the bucket that a dynamic text belongs to, of this number of them
+-- the bucket, of this many, that a dynamic text belongs to
 abbrev pub bucket_of : Tables → ℕ → List ℕ → ℕ
 bucket_of t buckets text = entry_hash t text % buckets
 
--- The form of a text. Up to 7 bytes it is inline, with the text itself. A longer text is static if it stands at its place, with
+-- The form of a text. Up to 7 bytes it is inline, with the text itself. A longer text is static if it is at its place, with
 -- that place. Any other is dynamic, with the hash of its entry.
 abbrev pub form_of_text : Tables → List ℕ → TextForm
 form_of_text t text =
@@ -52,17 +52,19 @@ form_of_text t text =
     else Dynamic (entry_hash t text)
     else Inline text
 
--- which form it is
+-- the form is inline
 abbrev pub is_inline_form : TextForm → Bool
 is_inline_form (Inline text) = true
 is_inline_form (Static index) = false
 is_inline_form (Dynamic hash) = false
 
+-- the form is static
 abbrev pub is_static_form : TextForm → Bool
 is_static_form (Inline text) = false
 is_static_form (Static index) = true
 is_static_form (Dynamic hash) = false
 
+-- the form is dynamic
 abbrev pub is_dynamic_form : TextForm → Bool
 is_dynamic_form (Inline text) = false
 is_dynamic_form (Static index) = false
@@ -84,10 +86,11 @@ hash_number_of_form t (Inline text) = inline_word text
 hash_number_of_form t (Static index) = slice_index t.hashes index
 hash_number_of_form t (Dynamic hash) = hash
 
+-- the number that an atom of the text hashes as: the inline word, the hash listed at the static place, or the hash of the entry
 abbrev pub hash_number : Tables → List ℕ → ℕ
 hash_number t text = hash_number_of_form t (form_of_text t text)
 
--- the index is the place of the text that stands there, a text of more than 7 bytes
+-- the index is the place of the text that is listed there, a text of more than 7 bytes
 abbrev pub IsStaticIndex : Tables → ℕ → Type 0
 IsStaticIndex t index = form_of_text t (text_at t index) ≡ Static index
 

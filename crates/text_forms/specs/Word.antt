@@ -1,5 +1,5 @@
--- The word of an atom, 64 bits. Inline and static words lie as in Rust's `string_cache` 0.11.0 on a little-endian
--- machine. A dynamic word is a ticket of this library's own, where the Rust has a pointer.
+-- The word of an atom, 64 bits. Inline and static words are laid out as in Rust's `string_cache` 0.11.0 on a little-endian machine. A dynamic word is
+-- a ticket of this library's own, where the Rust crate has a pointer.
 use Rattle.std.specs.Prelude.{◌≡◌, ℕ, ◌+◌, ◌*◌, ◌^◌, ◌<◌, ◌≤◌, List, length, sum_by}
 use Rattle.std.specs.List.{enumerate_from}
 use Rattle.std.specs.Str.{IsUtf8}
@@ -26,6 +26,7 @@ static_word index = index * 2 ^ 32 + 2
 abbrev pub ticket_of : ℕ → ℕ → ℕ
 ticket_of serial bucket = serial * ticket_unit + bucket * 4
 
+-- a serial that is at least 1 and below `serial_bound`, of a bucket below `most_buckets`
 abbrev pub IsTicket : ℕ → ℕ → Type 0
 IsTicket serial bucket = (1 ≤ serial) × (serial < serial_bound) × (bucket < most_buckets)
 

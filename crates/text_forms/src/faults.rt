@@ -1,4 +1,4 @@
-//! What a call may be refused for.
+//! Why a call may be refused.
 
 ghost use Rattle.std.specs.Prelude.{◌≡◌};
 ghost use Rattle.text_forms.specs.Faults.{fault_number};
@@ -6,7 +6,7 @@ ghost use Rattle.text_forms.specs.Faults.{fault_number};
 use std::alloc::{AllocError, AllocFailed};
 use thiserror::Error;
 
-/// What a call is refused for. A refusal leaves texts, tickets and holders as they were.
+/// Why a call is refused. A refusal leaves texts, tickets and holders as they were.
 #[derive(Clone, Copy, Debug, PartialEq, Eq, Error)]
 pub enum Fault {
     /// A request for memory was refused.

@@ -1,4 +1,4 @@
-//! The form of a text: a word of 64 bits for a short one, an index for one of static tables, and a hash for any other.
+//! The form of a text: a word of 64 bits for a short one, an index for one in static tables, and a hash for any other.
 #![tactic(auto)]
 
 mod faults;

@@ -1,9 +1,9 @@
-//! Numbers as scripts and table texts spell them: decimal, without sign or leading zeros.
+//! Numbers as scripts and table texts spell them: decimal, without a sign or leading zeros.
 
 ghost use Rattle.std.specs.Prelude.{◌≡◌, ◌≢◌, ℕ, ◌^◌, ◌<◌, ◌≤◌, ◌++◌, length, slice_index, decimal, MatchOption};
 ghost use Rattle.std.specs.Bool.{OnTrue, OnFalse};
 
-/// Whether neither a plus nor a zero too many stands in front of what may be a number.
+/// Whether what may be a number has no plus and no extra zero in front.
 fn has_plain_front(bytes: &[u8]) -> bool
     ensures plain { OnTrue result ((slice_index bytes.now 0 ≢ 43)
         × (slice_index bytes.now 0 ≡ 48 → length bytes.now ≤ 1)) }
@@ -19,7 +19,7 @@ fn has_plain_front(bytes: &[u8]) -> bool
     first != b'0' || bytes.len() == 1
 }
 
-/// The number that a text spells: decimal, without sign or leading zero, and below 2^64. `None` where it spells none.
+/// The number that a text spells: decimal, without a sign or leading zeros, and below 2^64. `None` if it spells none.
 pub fn number_of(text: &str) -> Option<u64>
     ensures { MatchOption result ((n : ℕ) → n < 2 ^ 64 → text.now ≢ decimal n)
         (λ n. text.now ≡ decimal n) }
@@ -30,7 +30,7 @@ pub fn number_of(text: &str) -> Option<u64>
     text.parse::<u64>().ok()
 }
 
-/// The number that stands behind `words`, to the end of the text.
+/// The number that follows `words`, up to the end of the text.
 pub fn number_after(text: &str, words: &str) -> Option<u64>
     ensures { MatchOption result ((n : ℕ) → n < 2 ^ 64 → text.now ≢ words.now ++ decimal n)
         (λ n. text.now ≡ words.now ++ decimal n) }

@@ -1,5 +1,5 @@
-//! Static tables whose texts lie in one text. They scale: the checker reads a long text faster than many short ones, so a packed type
-//! may have thousands of texts where a type of listed ones may have some hundreds.
+//! Static tables whose texts are all in one text. They scale: the checker reads one long text faster than many short ones, so a packed type can have
+//! thousands of texts where a type that lists them can have some hundreds.
 
 ghost use Rattle.std.specs.Prelude.{◌≡◌, ◌<◌, ◌≤◌, ℕ, List, length, slice_range, true};
 ghost use Rattle.std.specs.Str.{IsCharBoundary};
@@ -10,7 +10,7 @@ use crate::phf::{hash, place};
 use crate::static_sets::StaticTables;
 use std::marker::PhantomData;
 
-/// Static tables whose texts lie in one text, one after another.
+/// Static tables whose texts are all in one text, one after another.
 #[derive(Clone, Copy)]
 pub struct PackedStrSet {
     /// The key of the hash.
@@ -33,9 +33,9 @@ pub trait PackedAtomSet: Ord {
 
     ghost tables: { Tables };
 
-    /// The tables, the same at each call. Each span begins where the one before it ends, the first at 0, and cuts out a whole text. They
-    /// have at least one pair of displacements and one text, as many hashes as texts, and at most 2^32 - 1 of each. They need not be
-    /// perfect: a text that isn't at its place is dynamic.
+    /// The tables, the same on each call. Each span begins where the one before it ends, the first at 0, and cuts out a whole text. They have at
+    /// least one pair of displacements and one text, as many hashes as texts, and at most 2^32 - 1 of each. They needn't be perfect: a text that
+    /// isn't at its place is dynamic.
     fn get() -> PackedStrSet
         ensures text { result.text.now ≡ text }
         ensures spans { result.spans.now ≡ spans }
@@ -46,10 +46,9 @@ pub trait PackedAtomSet: Ord {
     ghost usable: { AreUsable tables };
 }
 
-/// The static type over packed tables: `Atom<'_, Packed<T>>`, `Set<Packed<T>>` and `Table<Packed<T>>` are as those over any other.
+/// The static type over packed tables: `Atom<'_, Packed<T>>`, `Set<Packed<T>>` and `Table<Packed<T>>` are like those over any other.
 ///
-/// The borrow checker doesn't cover yet a function in which one of these stands by name. Write it over any `S: StaticTables`, and call it
-/// with the type.
+/// The borrow checker doesn't yet cover a function that names one of these. Write the function over any `S: StaticTables`, and call it with the type.
 #[derive(PartialEq, Eq, PartialOrd, Ord)]
 pub struct Packed<P> {
     of: PhantomData<P>,
@@ -84,7 +83,7 @@ impl<P: PackedAtomSet> StaticTables for Packed<P> {
     }
 }
 
-/// What the span at an index cuts out.
+/// The text that the span at an index cuts out.
 #[inline]
 fn packed_text<P: PackedAtomSet>(index: u32) -> &'static str
     requires { index < length P.tables.atoms }

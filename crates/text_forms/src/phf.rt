@@ -73,7 +73,7 @@ impl Sip {
         }
     }
 
-    /// Takes one word in, by `count` rounds.
+    /// Takes in one word, by `count` rounds.
     #[tactic(auto, unfolding(crate::specs::Phf::absorb, crate::specs::Phf::xor_v0, crate::specs::Phf::xor_v3))]
     pub(crate) fn absorb(&mut self, word: u64, count: u32)
         ensures { self.new ≡ absorb count self.old word }
@@ -83,7 +83,7 @@ impl Sip {
         self.v0 ^= word;
     }
 
-    /// Takes all bytes in, eight at a time, by `count` rounds a word.
+    /// Takes in all bytes, eight at a time, by `count` rounds a word.
     pub(crate) fn absorb_all(&mut self, bytes: &[u8], count: u32)
         ensures { self.new ≡ absorb_all count self.old bytes.now }
     {
@@ -102,7 +102,7 @@ impl Sip {
     }
 }
 
-/// The last word of a text: the bytes behind its whole words, then zeros, and in the top byte the length modulo 256.
+/// The last word of a text: the bytes after its whole words, then zeros, and in the top byte the length modulo 256.
 fn last_word(bytes: &[u8], rest: &[u8]) -> u64
     requires { rest.now ≡ drop (length bytes.now / 8 * 8) bytes.now }
     ensures { result ≡ bytes_value rest.now + length bytes.now % 256 * 2 ^ 56 }
@@ -120,7 +120,7 @@ fn tail_word(tail: [u8; 8], gone: u32, len: u8) -> u64
     ensures { result ≡ bytes_value (drop gone tail) + len * 2 ^ 56 }
 {
     let word = u64::from_le_bytes(tail) >> (8 * gone - 8);
-    (word >> 8) + (u64::from(len) << 56) // no shift by 64 at once
+    (word >> 8) + (u64::from(len) << 56) // a single shift by 64 isn't allowed
 }
 
 /// The last word of a text without whole words.
@@ -147,7 +147,7 @@ pub fn sip24(bytes: &[u8], k0: u64, k1: u64) -> u64
 }
 
 /// The hashes of a text under a key: SipHash-1-3 with 128 bits, under the keys 0 and `key`.
-#[inline(always)] // so that where nothing wants the second half, it isn't computed
+#[inline(always)] // so that the second half isn't computed if nothing wants it
 #[tactic(auto, unfolding(crate::specs::Phf::hashes_of, crate::specs::Phf::first_half, crate::specs::Phf::second_half, crate::specs::Phf::xor_v1, crate::specs::Phf::xor_v2))]
 pub fn hash(text: &str, key: u64) -> Hashes
     ensures { result ≡ hashes_of text.now key }
@@ -168,7 +168,7 @@ pub fn hash(text: &str, key: u64) -> Hashes
     }
 }
 
-/// The place of a text with these hashes, in static tables of `len` texts, one at least, that have a displacement at least.
+/// The place of a text with these hashes in static tables of `len` texts, at least one, that have at least one pair of displacements.
 #[inline]
 pub fn place(hashes: &Hashes, disps: &[(u32, u32)], len: u32) -> u32
     requires displaced { 1 ≤ length disps.now }

@@ -8,13 +8,13 @@ use std::hash::{BuildHasher, Hasher};
 use std::io;
 use std::random::RandomSource;
 
-/// What `str` writes behind each text. No text has this byte.
+/// What `str` writes after each text. No text contains this byte.
 const END_OF_TEXT: u8 = 255;
 
-/// A key of SipHash-1-3, 128 bits, under which a map hashes texts, or any other keys. Who doesn't know it can't choose texts that collide
-/// but by chance.
+/// A 128-bit key of SipHash-1-3, under which a map hashes texts or any other keys. Those who don't know it can't choose texts that collide, except by
+/// chance.
 ///
-/// It does what `RandomState` does, and is quicker on texts: it takes the last bytes of one at once, and hashes no end of it, since its length is
+/// It does what `RandomState` does, and is faster on texts: it takes in the last bytes of a text at once, and hashes no end mark, since the length is
 /// hashed.
 #[repr(C)]
 #[derive(Clone, Copy, Drop)]
@@ -24,7 +24,7 @@ pub struct SipKey {
 }
 
 impl SipKey {
-    /// The key that these two numbers make: for runs that are to repeat.
+    /// The key made of these two numbers, for runs that must be repeatable.
     pub fn new(low: u64, high: u64) -> SipKey
         ensures low { result.low ≡ low }
         ensures high { result.high ≡ high }
@@ -32,7 +32,7 @@ impl SipKey {
         SipKey { low, high }
     }
 
-    /// A random key, drawn from the system by `SipKey::drawn(&rt)?`. Where the system has no random bytes, its error.
+    /// A random key, drawn from the system by `SipKey::drawn(&rt)?`. Returns the system's error if it has no random bytes.
     pub fn drawn(source: &impl RandomSource) -> io::Result<SipKey> {
         let mut bytes = [0; 16];
         source.fill_bytes(&mut bytes)?;

@@ -7,7 +7,7 @@ ghost use Rattle.text_forms.specs.Tables.{Tables, AreUsable, AllAreStatic, IsPer
 use crate::phf::{hash, place};
 use crate::word::InlineText;
 
-/// Static tables: each text stands at the place that its hashes and its pair of displacements give it.
+/// Static tables: each text is at the place that its hashes and its pair of displacements give it.
 #[derive(Drop)]
 pub struct PhfStrSet {
     /// The key of the hash.
@@ -33,9 +33,8 @@ impl PhfStrSet {
     }
 }
 
-/// What `PhfStrSet::check` decides, of tables that are borrowed: whether a static type may have them and each text is listed
-/// once, at its place. Then every text of more than 7 bytes in them is static. The hashes are only counted. It takes no memory,
-/// and hashes each text once.
+/// What `PhfStrSet::check` decides, for borrowed tables: whether a static type may have them and each text is listed once, at its place. Then every
+/// text of more than 7 bytes in them is static. The hashes are only counted. It takes no memory, and hashes each text once.
 pub fn check_parts(key: u64, disps: &[(u32, u32)], atoms: &[&str], hashes: &[u64]) -> bool
     ensures perfect { IsTrue result ↔ IsPerfectTable (parts key disps.now atoms.now hashes.now) }
     ensures found { IsTrue result → AllAreStatic (parts key disps.now atoms.now hashes.now) }
@@ -58,12 +57,12 @@ pub fn check_parts(key: u64, disps: &[(u32, u32)], atoms: &[&str], hashes: &[u64
     true
 }
 
-/// What is asked of the tables of a static type, however their texts lie. `StaticAtomSet` gives it for tables that list each text,
-/// `Packed` for those whose texts lie in one.
+/// What is asked of the tables of a static type, however their texts are stored. `StaticAtomSet` gives it for tables that list each text, `Packed`
+/// for those whose texts are all in one.
 pub trait StaticTables: Ord {
     ghost tables: { Tables };
 
-    /// How many texts they have.
+    /// The number of texts that they have.
     fn count() -> u32
         ensures { result ≡ length tables.atoms };
 
@@ -92,8 +91,8 @@ pub trait StaticAtomSet: Ord {
 
     ghost use Rattle.text_forms.specs.PhfStrSet.{tables_of};
 
-    /// Its tables, the same at each call. They have at least one pair of displacements and one text, as many hashes as
-    /// texts, and at most 2^32 - 1 of each. They need not be perfect: a text that isn't at its place is dynamic.
+    /// Its tables, the same on each call. They have at least one pair of displacements and one text, as many hashes as texts, and at most 2^32 - 1 of
+    /// each. They needn't be perfect: a text that isn't at its place is dynamic.
     fn get() -> &'static PhfStrSet
         ensures { tables_of result.now ≡ tables };
 
@@ -129,7 +128,7 @@ impl<S: StaticAtomSet> StaticTables for S {
     }
 }
 
-/// The static set without a text that could be static.
+/// The static set in which no text is static.
 #[derive(PartialEq, Eq, PartialOrd, Ord)]
 pub struct EmptyStaticAtomSet;
 
@@ -157,7 +156,7 @@ impl StaticAtomSet for EmptyStaticAtomSet {
 pub enum TextForm {
     /// Up to 7 bytes: the text itself.
     Inline(InlineText),
-    /// It stands at its place, this index.
+    /// Listed at its place, which is this index.
     Static(u32),
     /// Any other: the hash of its entry.
     Dynamic(u64),
@@ -179,8 +178,7 @@ pub fn form_of_text<S: StaticTables>(text: &str) -> TextForm
     }
 }
 
-/// The static text at an index. `None` where the tables have none there, or one that isn't at its place or has at most
-/// 7 bytes.
+/// The static text at an index. `None` if the tables have none there, or one that isn't at its place or has at most 7 bytes.
 pub fn static_text<S: StaticTables>(index: u32) -> Option<&'static str>
     ensures is_static { IsSome result ↔ IsStaticIndex S.tables index }
     ensures text { IfSome result (λ text. text.now ≡ text_at S.tables index) }

@@ -10,11 +10,11 @@ use std::fmt::{self, Debug, Formatter, Write};
 use std::marker::Model;
 use std::str;
 
-/// The most buckets that tickets tell apart.
+/// The most buckets that tickets can tell apart.
 pub const MOST_BUCKETS: usize = 1 << MOST_BITS;
-/// Serials are below: a ticket has 64 bits.
+/// Serials are below this: a ticket has 64 bits.
 pub const SERIAL_BOUND: u64 = 1 << 48;
-/// Numbers of holders are below.
+/// Numbers of holders are below this.
 pub const HOLDER_BOUND: u64 = 1 << 63;
 
 const BUCKET_SHIFT: u32 = 2; // above the tag
@@ -23,7 +23,7 @@ const SERIAL_SHIFT: u32 = 16; // above the bucket
 
 const MOST_BITS: u8 = 14; // of a bucket
 
-const USUAL_BITS: u8 = 12; // where no other number of buckets is chosen
+const USUAL_BITS: u8 = 12; // if no other number of buckets is chosen
 
 /// A text of at most 7 bytes, as an inline word holds it.
 #[derive(Clone, Copy, PartialEq, Eq)]
@@ -47,7 +47,7 @@ impl Model for InlineText {
 }
 
 impl InlineText {
-    /// A text of at most 7 bytes. `None` above.
+    /// A text of at most 7 bytes. `None` if it is longer.
     #[inline]
     pub fn new(text: &str) -> Option<InlineText>
         ensures short { IsSome result ↔ (length text.now ≤ 7) }
@@ -91,7 +91,7 @@ impl Debug for InlineText {
     }
 }
 
-/// What a word tells of itself.
+/// What a word tells about itself.
 #[derive(Clone, Copy, Debug, PartialEq, Eq)]
 pub enum Form {
     /// The word of this text.
@@ -107,7 +107,7 @@ pub enum Form {
     },
 }
 
-/// The inline word of a text. `None` above 7 bytes.
+/// The inline word of a text. `None` if the text has more than 7 bytes.
 pub fn pack_inline_word(text: &str) -> Option<u64>
     ensures short { IsSome result ↔ (length text.now ≤ 7) }
     ensures word { IfSome result (λ word. word ≡ inline_word text.now) }
@@ -143,7 +143,7 @@ pub fn static_word(index: u32) -> u64
     u64::from(index) << 32 | 2
 }
 
-/// The word of an entry, of the serial that its bucket gave it and the bucket.
+/// The word of an entry, made of the serial that its bucket gave it and the bucket.
 pub fn ticket_word(serial: u64, bucket: u16) -> u64
     requires { IsTicket serial bucket }
     ensures { result ≡ ticket_of serial bucket }
@@ -151,9 +151,9 @@ pub fn ticket_word(serial: u64, bucket: u16) -> u64
     serial << SERIAL_SHIFT | u64::from(bucket) << BUCKET_SHIFT
 }
 
-/// What a word tells of itself. `None` where it is the word of nothing.
+/// What a word tells about itself. `None` if it is the word of nothing.
 ///
-/// Whether a text stands at a static index is a question to the static type.
+/// Whether there is a text at a static index is for the static type to say.
 pub fn form_of(word: u64) -> Option<Form>
     ensures { IsFormOf word result }
 {
@@ -173,7 +173,7 @@ pub fn form_of(word: u64) -> Option<Form>
     }
 }
 
-/// How many buckets there are: 2 to the power of its bits, from 1 bucket to `MOST_BUCKETS`. In a clause it is its bits.
+/// A number of buckets: 2 to the power of its bits, from 1 bucket to `MOST_BUCKETS`. In a clause it is its bits.
 #[derive(Clone, Copy, Debug, PartialEq, Eq)]
 pub struct Buckets {
     bits: u8,
@@ -193,7 +193,7 @@ impl Model for Buckets {
 }
 
 impl Buckets {
-    /// The number of buckets with this number of bits, from 0 to 14. `None` above.
+    /// The number of buckets with this number of bits, from 0 to 14. `None` if there are more.
     pub fn new(bits: u8) -> Option<Buckets>
         ensures range { IsSome result ↔ (bits ≤ most_bits) }
         ensures bits { IfSome result (λ buckets. buckets ≡ bits) }
@@ -270,7 +270,7 @@ impl Limits {
         Some(Limits { holders, serials })
     }
 
-    /// Both limits at their greatest.
+    /// The greatest limits.
     pub fn greatest() -> Limits
         ensures { result ≡ record { holders = holder_bound - 1; serials = serial_bound - 1 } }
     {

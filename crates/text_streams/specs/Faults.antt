@@ -1,4 +1,4 @@
--- Which faults may come, and when.
+-- Which faults may be returned, and when.
 use Rattle.text_streams.specs.declared.faults.AppFault.{AppFault}
 use Rattle.text_streams.specs.declared.faults.AppFault.TheVariants.{Read, Write, Text, Script, Worker, Keys, Intern, Gen}
 use Rattle.string_cache.specs.declared.Fault.{Fault}
@@ -7,13 +7,14 @@ use Rattle.table_generator.specs.declared.tables.GenFault.{GenFault}
 use Rattle.replay_script.specs.declared.faults.ScriptFault.{ScriptFault}
 use Rattle.replay_script.specs.declared.faults.ScriptFault.TheVariants as script
 
+-- the fault is lack of memory
 abbrev pub IsMemory : Fault → Type 0
 IsMemory Memory = Unit {0}
 IsMemory FullCount = ⊥
 IsMemory TicketsSpent = ⊥
 IsMemory NotText = ⊥
 
--- each kind of fault, with what has to hold of one that comes: ⊥ where none does
+-- each kind of fault, with what must hold of one that is returned: ⊥ if none is
 pub record Faults : Type 1 where
   pub reads : Type 0
   pub writes : Type 0
@@ -35,11 +36,11 @@ IsOf faults Keys = faults.keys
 IsOf faults (Intern fault) = faults.interns fault
 IsOf faults (Gen fault) = faults.tables fault
 
--- want of memory alone
+-- lack of memory alone
 abbrev pub memory : Faults
 memory = record { reads = ⊥; writes = ⊥; texts = ⊥; scripts = ⊥; workers = ⊥; keys = ⊥; interns = IsMemory; tables = λ fault. ⊥ }
 
--- of the streams and the text too, as each command has them
+-- those of the streams and the text too, as each command has them
 abbrev pub streams : Faults
 streams = record memory { reads = Unit {0}; writes = Unit {0}; texts = Unit {0} }
 

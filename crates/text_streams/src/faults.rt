@@ -1,4 +1,4 @@
-//! What the program can fail with.
+//! The errors of the program.
 
 ghost use Rattle.std.specs.Prelude.{◌≡◌};
 
@@ -8,7 +8,7 @@ use string_cache::Fault;
 use table_generator::tables::GenFault;
 use thiserror::Error;
 
-/// What a command of the program can fail with.
+/// The errors of the program's commands.
 #[derive(Clone, Copy, Debug, PartialEq, Eq, Error)]
 pub enum AppFault {
     /// The reader failed.
@@ -26,10 +26,10 @@ pub enum AppFault {
     /// A worker's thread couldn't be started.
     #[error("worker not started")]
     Worker,
-    /// The system gave no random keys for the maps of a command that needs them. It comes before anything is read or written.
+    /// The system gave no random keys for the maps of a command that needs them. It is returned before anything is read or written.
     #[error("no random keys")]
     Keys,
-    /// Interning was refused, or the program's own memory.
+    /// Interning was refused, or memory for the program itself.
     #[error("{0}")]
     Intern(Fault),
     /// No tables were made.

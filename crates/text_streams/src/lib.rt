@@ -1,5 +1,5 @@
-//! Bytes that are read and written whole, over readers and writers that remember that they failed or ended, and what a
-//! program over them can fail with.
+//! Reads and writes whole inputs and outputs, over readers and writers that remember that they failed or ended, and the errors of a program over
+//! them.
 #![tactic(auto)]
 
 pub mod faults;

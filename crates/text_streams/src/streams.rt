@@ -12,20 +12,19 @@ use std::alloc::Global;
 use std::io;
 use std::io::{Read, Write};
 
-/// The most bytes that one read asks for, and about as many as one write gives.
+/// The most bytes that one read asks for, and about as many as one write passes on.
 pub const PIECE: usize = 65536;
 
-/// A reader that remembers that it failed, and that it ended.
+/// A reader that remembers whether it failed, and whether it ended.
 pub trait Source {
-    // The bytes that reads give from here on, where they are known.
+    // The bytes that reads give from here on, if they are known.
     ghost remaining: { Self → Option (List ℕ) };
 
     ghost has_failed: { Self → Bool };
 
     ghost has_ended: { Self → Bool };
 
-    /// Reads as `std::io::Read` does. An `Err` is remembered as a failure, and a read for at least one byte that gave
-    /// none as the end.
+    /// Reads as `std::io::Read` does. An `Err` is remembered as a failure, and a read for at least one byte that gave none is remembered as the end.
     fn read(&mut self, buf: &mut [u8]) -> io::Result<usize>
         ensures bound { ReadsAtMost result buf.new }
         ensures bytes { ReadConsumes (remaining self.old) (remaining self.new) result buf.new }
@@ -36,14 +35,14 @@ pub trait Source {
     fn failed(&self) -> bool
         ensures { result ≡ has_failed self.now };
 
-    /// Whether a read came to the end.
+    /// Whether a read reached the end.
     fn ended(&self) -> bool
         ensures { result ≡ has_ended self.now };
 }
 
-/// A writer that remembers that it failed.
+/// A writer that remembers whether it failed.
 pub trait Sink {
-    // The bytes that the writer holds, where they are known.
+    // The bytes that the writer holds, if they are known.
     ghost contents: { Self → Option (List ℕ) };
 
     ghost has_failed: { Self → Bool };
@@ -144,7 +143,7 @@ impl<W: Write> Sink for Io<W> {
     }
 }
 
-/// All bytes that the reader has left. `Read` where it failed, and `Intern(Memory)` where they found no room.
+/// All bytes that the reader has left. `Read` if it failed, and `Intern(Memory)` if there is no room for them.
 pub fn read_all<S: Source>(alloc: Global, reader: &mut S) -> Result<Vec<u8>, AppFault>
     requires { S.has_failed reader.old ≡ false }
     ensures ended { OnOk result (S.has_ended reader.new ≡ true) }
@@ -166,7 +165,7 @@ pub fn read_all<S: Source>(alloc: Global, reader: &mut S) -> Result<Vec<u8>, App
     }
 }
 
-/// All that the reader has left, as a text. `Text` where it isn't UTF-8, and otherwise the faults of `read_all`.
+/// All that the reader has left, as a text. `Text` if it isn't UTF-8, and otherwise the errors of `read_all`.
 pub fn read_text<S: Source>(alloc: Global, reader: &mut S) -> Result<String, AppFault>
     requires { S.has_failed reader.old ≡ false }
     ensures ended { OnOk result (S.has_ended reader.new ≡ true × IsAtEnd (S.remaining reader.new)) }
@@ -185,7 +184,7 @@ pub fn read_text<S: Source>(alloc: Global, reader: &mut S) -> Result<String, App
     }
 }
 
-/// Writes all the bytes. `Write` where the writer failed, which then has a beginning of them.
+/// Writes all the bytes. `Write` if the writer failed; it then has a beginning of them.
 pub fn write_whole<K: Sink>(writer: &mut K, bytes: &[u8]) -> Result<(), AppFault>
     requires { K.has_failed writer.old ≡ false }
     ensures ok { OnOk result (Appends (K.contents writer.old) (K.contents writer.new) bytes.now) }
@@ -207,8 +206,8 @@ pub fn write_whole<K: Sink>(writer: &mut K, bytes: &[u8]) -> Result<(), AppFault
     Ok(())
 }
 
-/// Writes what is pending once it has the bytes of a piece, and then nothing is pending. `Write` where the writer failed, which then has a
-/// beginning of it.
+/// Writes what is pending once that has the bytes of a piece, and then nothing is pending. `Write` if the writer failed; it then has a beginning of
+/// that.
 pub fn write_full<K: Sink>(writer: &mut K, pending: &mut String) -> Result<(), AppFault>
     requires { K.has_failed writer.old ≡ false }
     ensures ok { OnOk result (Moves (K.contents writer.old) (K.contents writer.new) (string_bytes pending.old) (string_bytes pending.new)) }

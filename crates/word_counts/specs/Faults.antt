@@ -1,4 +1,4 @@
--- Which faults of counting words may come.
+-- Which faults counting words may return.
 use Rattle.string_cache.specs.Faults.{IsInternFault}
 use Rattle.text_streams.specs.declared.faults.AppFault.{AppFault}
 use Rattle.text_streams.specs.Faults.{IsOf, memory}

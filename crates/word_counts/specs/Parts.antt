@@ -1,4 +1,4 @@
--- Words of private contracts of count: parts of a text's words, and a text cut into sections between its words.
+-- Terms of count's private contracts: parts of a text's words, and a text cut into sections between its words.
 use Rattle.std.specs.Prelude.{◌≡◌, ℕ, ◌<◌, ◌^◌, List, [], ◌∷◌, length, drop, take}
 use Rattle.std.specs.List.{All, flat_map}
 use Rattle.word_counts.specs.Words.{words}
@@ -17,7 +17,7 @@ words_of_parts parts = flat_map words_of_part parts
 abbrev pub words_of_sections : List Section → List (List ℕ)
 words_of_sections sections = flat_map (λ section. words section.own.now) sections
 
--- the text from a section on has the words of this one and of those behind it
+-- the text from a section on has the words of this one and of those after it
 abbrev pub HaveRests : List Section → Type 0
 HaveRests [] = Unit {0}
 HaveRests (section ∷ sections) = (words section.rest.now ≡ words_of_sections (section ∷ sections)) × HaveRests sections
@@ -25,6 +25,6 @@ HaveRests (section ∷ sections) = (words section.rest.now ≡ words_of_sections
 -- sections of a text, in order
 pub record AreSections (sections : List Section) : Type 0 where
   pub rests : HaveRests sections
-  -- each says how many words it has, and all have so few that their number fits
+  -- each says how many words it has, and all together have so few that their number fits
   pub numbers : All (λ section. section.words ≡ length (words section.own.now)) sections
   pub few : length (words_of_sections sections) < 2 ^ 63

@@ -1,4 +1,4 @@
--- A map from words to how often each came, with an atom of each.
+-- A map from words to how often each occurred, with an atom of each.
 use Rattle.std.specs.Prelude.{◌≡◌, ℕ, ◌+◌, ◌<◌, List, if◌then◌else◌}
 use Rattle.std.specs.HashMap.{HashMap, get_by, IsUnique}
 use Rattle.std.specs.List.{All}
@@ -17,7 +17,7 @@ module _ {S : Type 0} where
   abbrev pub AddsTo : HashMap (Bor (List ℕ)) (AtomValue × ℕ) S → HashMap (Bor (List ℕ)) (AtomValue × ℕ) S → List ℕ → ℕ → Type 0
   AddsTo old new word n = (other : List ℕ) → number_of new other ≡ number_of old other + (if bytes_eq other word then n else 0)
 
-  -- each word stands once, with an atom of its own text and a number above zero
+  -- each word is there once, with an atom of its own text and a number above zero
   pub record IsLabelled (tally : HashMap (Bor (List ℕ)) (AtomValue × ℕ) S) : Type 0 where
     pub distinct : IsUnique (λ word other. bytes_eq word.now other.now) tally
     pub own : All (λ entry. (entry.1.0.text ≡ entry.0.now) × (0 < entry.1.1)) tally.entries

@@ -1,4 +1,4 @@
--- How often each word stands in a list of words.
+-- How often each word occurs in a list of words.
 use Rattle.std.specs.Prelude.{◌≡◌, ℕ, List, [], ◌∷◌, ◌↔◌, length, map}
 use Rattle.std.specs.BTreeSet.{insert_key}
 use Rattle.std.specs.Cmp.Lexicographic.{slice_cmp}
@@ -18,9 +18,9 @@ distinct_words (word ∷ rest) = insert_key (slice_cmp nat_cmp) (distinct_words 
 abbrev pub word_counts : List (List ℕ) → List (List ℕ × ℕ)
 word_counts words = map (λ word. (word, times_seen words word)) (distinct_words words)
 
--- The same in other words.
+-- The same in other words: the words rise, they are those of the list, each number is that of the word's places, and the numbers add up to all.
 pub record AreWordCounts (words : List (List ℕ)) (counts : List (List ℕ × ℕ)) : Type 0 where
-  -- the words rise, so none comes twice, and they are those of the list
+  -- the words are in ascending order, so none is there twice, and they are those of the list
   pub in_order : IsStrictlySortedBy (slice_cmp nat_cmp) (keys_of counts)
   pub member : (word : List ℕ) → Contains (keys_of counts) word ↔ Contains words word
   -- each number is that of the word's places, and together they are as many as there are words

@@ -8,7 +8,7 @@ abbrev pub cons_first : ℕ → List (List ℕ) → List (List ℕ)
 cons_first c [] = (c ∷ []) ∷ []
 cons_first c (part ∷ parts) = (c ∷ part) ∷ parts
 
--- the parts of the characters round their white space, one more than there are white characters
+-- the parts of the characters around their white space, one more than there are white space characters
 abbrev pub parts : List ℕ → List (List ℕ)
 parts [] = [] ∷ []
 parts (c ∷ cs) = if is_whitespace c then [] ∷ parts cs else cons_first c (parts cs)
@@ -22,7 +22,7 @@ has_chars (c ∷ cs) = true
 abbrev pub char_words : List ℕ → List (List ℕ)
 char_words cs = filter has_chars (parts cs)
 
--- the words of a text, as bytes
+-- the words of a text, as bytes: the longest runs of characters that aren't white space (`char::is_whitespace`)
 abbrev pub words : List ℕ → List (List ℕ)
 words text = map encode_utf8_all (char_words (chars text))
 

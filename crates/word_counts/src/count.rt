@@ -28,12 +28,11 @@ pub trait Gate: Sync {
     /// Called by a worker before it interns the words of its piece.
     fn enter<R: Wait>(&self, rt: &R, piece: u32);
 
-    /// Called by a worker once it has, or was refused, while it holds an atom of each of its words, and of each place of a
-    /// dynamic one.
+    /// Called by a worker once it has done so or was refused, while it holds an atom of each of its words and of each place of a dynamic one.
     fn leave<R: Wait>(&self, rt: &R, piece: u32);
 }
 
-/// A gate that holds nobody.
+/// A gate that holds nobody up.
 pub struct Open;
 
 impl Gate for Open {
@@ -42,7 +41,7 @@ impl Gate for Open {
     fn leave<R: Wait>(&self, _rt: &R, _piece: u32) {}
 }
 
-/// An atom of each word and how often the word came, in the order of texts.
+/// An atom of each word and how often the word occurred, in the order of texts.
 pub type WordCounts<'e, Static> = Vec<(Atom<'e, Static>, u64)>;
 
 /// Each distinct word of the text once, in the order of bytes, with the number of its places.
@@ -50,12 +49,11 @@ pub type WordCounts<'e, Static> = Vec<(Atom<'e, Static>, u64)>;
 /// The words are cut into `n` pieces, in order and about equally long, and each goes to a worker with a thread of its own.
 /// It interns every place of every word in the set, repeated ones again, between the gate's two calls.
 ///
-/// `keys` are those under which words are hashed while they are counted. What is returned doesn't depend on them. If they are random, as
-/// `RandomState::new` draws them, nobody can choose a text that slows the counting down.
+/// Words are hashed under `keys` while they are counted. What is returned doesn't depend on them. If they are random, as `RandomState::new` draws
+/// them, nobody can choose a text that slows down the counting.
 ///
-/// `Worker` comes where a worker's thread couldn't be started, and `Intern` where interning was refused, or memory. Where several
-/// workers are refused it is the fault of the lowest piece. After a fault no worker is left running, and none of their
-/// atoms is held.
+/// `Worker` if a worker's thread couldn't be started, and `Intern` if interning or memory was refused. If several workers are refused, the fault is
+/// that of the lowest piece. After a fault no worker is left running, and none of their atoms is held.
 pub fn count<'s, R: Threads + Wait + Sync, Static: StaticTables + Send + Sync, G: Gate>(
     rt: &'s R,
     set: &'s Set<Static>,

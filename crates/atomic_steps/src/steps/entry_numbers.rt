@@ -33,7 +33,7 @@ fn spot_of(numbers: &[u64], number: u64) -> Option<usize>
     place_in(numbers, number)
 }
 
-/// The entry of that number, counted from 1.
+/// The entry with that number, counted from 1.
 fn entry_of(entries: &[WorldEntry], number: u64) -> Option<&WorldEntry>
     ensures { option_map (λ entry. entry.now) result ≡ entry_at entries.now number }
 {
@@ -83,7 +83,7 @@ impl EntryNumbers {
         }
     }
 
-    /// Adds a number at the end. `Memory` where it finds no room, and then nothing changes.
+    /// Adds a number at the end. `Memory` if there is no room, and then nothing changes.
     pub fn add(&mut self, number: u64) -> Result<(), Fault>
         ensures ok { OnOk result (self.new ≡ self.old ++ number ∷ []) }
         ensures err { RefusesUnchanged self.old result self.new }
@@ -93,7 +93,7 @@ impl EntryNumbers {
         Ok(())
     }
 
-    /// Takes the first place of the number out.
+    /// Takes out the first place of the number.
     pub fn take_out(&mut self, number: u64)
         ensures { self.new ≡ without_one number self.old }
     {

@@ -1,4 +1,4 @@
-//! What a party does that holds a bucket.
+//! What a party that holds a bucket does.
 
 ghost use Rattle.std.specs.Prelude.{◌≡◌, ◌==◌, ◌++◌, ◌∷◌, [], IfOk, OnOk, OnErr, Some, IsSome, is_some};
 ghost use Rattle.std.specs.String.{string_bytes};
@@ -51,7 +51,7 @@ impl PartyPass {
         self.wanted.is_some()
     }
 
-    /// Notes that the entry was found dying. `Memory` changes nothing.
+    /// Notes that the entry was found dying. After `Memory` nothing has changed.
     pub fn find_dying(&mut self, number: u64) -> Result<(), Fault>
         ensures ok { OnOk result (self.new ≡ finds_dying self.old number) }
         ensures err { RefusesUnchanged self.old result self.new }
@@ -61,7 +61,7 @@ impl PartyPass {
         Ok(())
     }
 
-    /// Notes that the entry was looked at. `Memory` changes nothing.
+    /// Notes that the entry was looked at. After `Memory` nothing has changed.
     pub fn look_at(&mut self, number: u64) -> Result<(), Fault>
         ensures ok { OnOk result (self.new ≡ looks_at self.old number) }
         ensures err { RefusesUnchanged self.old result self.new }
@@ -78,7 +78,7 @@ impl PartyPass {
         self.wanted = None;
     }
 
-    /// A new entry of that number is listed and looked at, and the pass decides: its text. All growth comes before the first
+    /// Adds the number of a new entry to the list and to those looked at, and decides. Returns the pass's text. All growth comes before the first
     /// change.
     pub fn link(&mut self, number: u64, listed: &mut EntryNumbers) -> Result<String, Fault>
         requires { IsSome self.old.wanted }

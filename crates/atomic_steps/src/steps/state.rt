@@ -1,4 +1,4 @@
-//! What a world keeps. No bag of tickets is kept: an entry's count is how often the bag has its ticket.
+//! What a world keeps. It keeps no bag of tickets: an entry's count is how often the bag has its ticket.
 
 ghost use Rattle.std.specs.Prelude.{◌≡◌, ℕ, ◌%◌, ◌^◌, ◌<◌, ◌≤◌, ◌==◌, ◌&&◌, not, nat_lt, List, length, IfOk, OnErr, MatchOption, IfSome, IfNone, is_none, slice_get, Some, None, true, false};
 ghost use Rattle.std.specs.List.{position, list_all};
@@ -27,7 +27,7 @@ pub struct State {
     buckets: Buckets,
     lasts: Vec<u64>,
     entries: Vec<WorldEntry>,
-    /// Of each bucket the numbers of its linked entries.
+    /// For each bucket, the numbers of its linked entries.
     linked: Vec<EntryNumbers>,
     passes: Vec<PartyPass>,
 }
@@ -45,7 +45,7 @@ impl Model for State {
     ghost invariant = { λ a. AreListsKept a.buckets a.entries.items a.lasts.items a.linked.items };
 }
 
-/// Where the party's pass stands among them.
+/// Where the party's pass is among them.
 fn place_of(passes: &[PartyPass], party: u32) -> Option<usize>
     ensures { result ≡ position (λ pass. pass.party == party) passes.now }
 {
@@ -59,7 +59,7 @@ fn is_free(passes: &[PartyPass], bucket: u16) -> bool
     passes.iter().all(|pass| pass.bucket != bucket)
 }
 
-/// That many empty lists. `Memory` where they find no room.
+/// That many empty lists. `Memory` if there is no room for them.
 fn empty_lists(alloc: Global, count: usize) -> Result<Vec<EntryNumbers>, Fault>
     ensures ok { IfOk result (λ lists. length lists.items ≡ count) }
     ensures err { OnErr result (result ≡ Err Fault.Memory) }
@@ -74,7 +74,7 @@ fn empty_lists(alloc: Global, count: usize) -> Result<Vec<EntryNumbers>, Fault>
 impl State {
     ghost use Rattle.atomic_steps.specs.World as world;
 
-    /// A state with these limits and buckets, without entries or passes. `Memory` where it finds no room.
+    /// A state with these limits and buckets, without entries or passes. `Memory` if there is no room.
     pub fn new(alloc: Global, limits: Limits, buckets: Buckets) -> Result<State, Fault>
         ensures ok { IfOk result (λ state. state ≡ opening limits (2 ^ buckets)) }
         ensures few { (1 ≤ 2 ^ buckets) × (2 ^ buckets ≤ most_buckets) }
@@ -95,14 +95,14 @@ impl State {
 
     // ---- what is there
 
-    /// Where the party's pass stands, if it has one.
+    /// Where the party's pass is, if it has one.
     fn pass_place(&self, party: u32) -> Option<usize>
         ensures { MatchOption result (pass_of self.now party ≡ None) (λ at. PassAt self.now party at) }
     {
         place_of(&self.passes, party)
     }
 
-    /// Where the entry of that number stands, counted from 1.
+    /// Where the entry with that number, counted from 1, is.
     fn entry_place(&self, number: u64) -> Option<usize>
         ensures { MatchOption result (entry_at self.now.entries number ≡ None) (λ k. EntryAt self.now number k) }
     {
@@ -122,7 +122,7 @@ impl State {
         self.buckets.bucket_of(hash)
     }
 
-    /// The bucket of that number, where there is one.
+    /// The bucket with that number, if there is one.
     fn bucket_at(&self, number: u32) -> Option<u16>
         ensures some { IfSome result (λ bucket. (bucket ≡ number) × (nat_lt number (length self.now.lasts) ≡ true) × (bucket < most_buckets)) }
         ensures none { IfNone result (nat_lt number (length self.now.lasts) ≡ false) }
@@ -169,7 +169,7 @@ impl State {
         entry.count
     }
 
-    /// How many hold the entry. `None` where no entry has the number.
+    /// How many hold the entry. `None` if no entry has the number.
     pub fn count(&self, entry: u64) -> Option<u64>
         ensures { result ≡ option_map (λ entry. entry.count) (entry_at self.now.entries entry) }
     {

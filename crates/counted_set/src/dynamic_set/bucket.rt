@@ -29,13 +29,13 @@ use text_forms::Fault;
 use text_forms::static_sets::StaticTables;
 use text_forms::word::{Buckets, Limits, ticket_word};
 
-/// What one lock of a set holds: entries, newest first, and the serial that it gave last.
+/// What one lock of a set holds: entries, newest first, and the last serial that it gave.
 ///
-/// It is one of some number of buckets. Each entry names that number, its hash is that of its text, its ticket is that of its serial in
-/// the bucket of the hash, and no serial is given twice. Which lock a bucket stands under isn't known here.
+/// It is one of some number of buckets. Each entry names that number, its hash is that of its text, its ticket is that of its serial in the bucket of
+/// the hash, and no serial is given twice. Which lock a bucket is under isn't known here.
 ///
-/// Its entries are at rest: a walk over them takes them out, and puts them back. So it has 24 bytes. A share may be added to each by a
-/// grant of the second type.
+/// Its entries are at rest: a walk over them takes them out, and puts them back. So it has 24 bytes. A share may be added to each entry by a grant of
+/// the second type.
 pub struct Bucket<Static: StaticTables, G: Grant = FreeGrant> {
     nodes: StoredChain<Pack<Entry>>,
     last: u64,
@@ -72,7 +72,7 @@ impl<Static: StaticTables, G: Grant> Drop for Bucket<Static, G> {
 }
 
 impl<Static: StaticTables, G: Grant> Bucket<Static, G> {
-    /// A bucket without entries, which has given no serial: one of this many.
+    /// An empty bucket, one of this many, which has given no serial yet.
     pub fn new(alloc: Global, buckets: Buckets) -> Self
         ensures { result ≡ record { bits = buckets; entries = []; last = 0 } }
     {
@@ -86,7 +86,7 @@ impl<Static: StaticTables, G: Grant> Bucket<Static, G> {
         }
     }
 
-    /// How many entries are linked. The bucket is as it was.
+    /// The number of entries that are linked. The bucket stays as it was.
     #[doc(hidden)]
     pub fn len(&mut self) -> usize
         ensures number { result ≡ length self.old.entries }
@@ -98,7 +98,7 @@ impl<Static: StaticTables, G: Grant> Bucket<Static, G> {
         number
     }
 
-    /// Takes its entries out, for a walk over them, which begins at the first. It has none until it gets them back.
+    /// Takes out its entries for a walk, which begins at the first. The bucket has none until it gets them back.
     fn take_entries(&mut self) -> Entries
         ensures entries { result ≡ at_start self.old.entries }
         ensures kept { IsKept Static.tables G.may self.old }
@@ -110,7 +110,7 @@ impl<Static: StaticTables, G: Grant> Bucket<Static, G> {
         Entries::open(nodes, number, self.alloc)
     }
 
-    /// Puts entries back, from the first on, in the place of those that it had.
+    /// Puts entries back, from the first on, replacing those that it had.
     fn put_entries(&mut self, entries: Entries)
         requires { IsKept Static.tables G.may (record { bits = self.old.bits; entries = entries.passed ++ entries.left; last = self.old.last }) }
         ensures { self.new ≡ record { bits = self.old.bits; entries = entries.passed ++ entries.left; last = self.old.last } }
@@ -120,11 +120,11 @@ impl<Static: StaticTables, G: Grant> Bucket<Static, G> {
         self.number = number;
     }
 
-    /// One pass over all entries, which looks for the text: asks `counts` about each in order, and unlinks those that it
-    /// answers as dying. Entries of the text are asked by `add` until one was added or is full, and all others by `dying`.
-    /// `hash` is that of the text: its `entry_hash` under the key of the tables.
+    /// One pass over all entries, which looks for the text: asks `counts` about each in order, and unlinks those that it reports as dying. Entries of
+    /// the text are asked by `add` until one was added or is full, and all others by `dying`. `hash` is that of the text: its `entry_hash` under the
+    /// key of the tables.
     ///
-    /// It takes no memory. What stays linked stays in order. The grant is spent where a share was added, and is there again otherwise.
+    /// It takes no memory. What stays linked stays in order. The grant is spent if a share was added, and handed back otherwise.
     pub fn pass<R: Wait, C: Counts<G>>(
         &mut self,
         rt: &R,
@@ -144,7 +144,7 @@ impl<Static: StaticTables, G: Grant> Bucket<Static, G> {
         answer
     }
 
-    /// One pass over all entries, which looks for no text: asks `counts` of each by `dying`, and unlinks those that are.
+    /// One pass over all entries, which looks for no text: asks `counts` about each by `dying`, and unlinks those that are.
     pub fn prune<C: Counts<G>>(&mut self, counts: &mut C)
         ensures pass { IsPass C.gives None counts.old self.old.entries absent counts.new self.new.entries }
         ensures bits { self.new.bits ≡ self.old.bits }
@@ -155,8 +155,8 @@ impl<Static: StaticTables, G: Grant> Bucket<Static, G> {
         self.put_entries(entries);
     }
 
-    /// Calls `visit` once for each entry, newest first, with its text and the number of its holders as one look at its count reads it.
-    /// The bucket is as it was.
+    /// Calls `visit` once for each entry, newest first, with its text and the number of its holders as one look at its count reads it. The bucket
+    /// stays as it was.
     pub fn for_each<F: FnMut(&str, u64)>(&mut self, visit: &mut F)
         requires { F.IsAlwaysCallable visit.old }
         ensures callable { F.IsAlwaysCallable visit.new }
@@ -168,7 +168,7 @@ impl<Static: StaticTables, G: Grant> Bucket<Static, G> {
         self.put_entries(entries);
     }
 
-    /// How many bytes its nodes have, and the cells of its entries with their texts. The bucket is as it was.
+    /// The bytes of its nodes, and of the cells of its entries with their texts. The bucket stays as it was.
     pub fn memory(&mut self) -> u128
         ensures memory { IsMemory self.old.entries result }
         ensures same { self.new ≡ self.old }
@@ -179,11 +179,11 @@ impl<Static: StaticTables, G: Grant> Bucket<Static, G> {
         bytes
     }
 
-    /// Links one new entry as the first, with the next serial, and gives its only share. `hash` is that of the text,
-    /// as for `pass`. The entry has the limit of holders that is handed in.
+    /// Links a new entry as the first, with the next serial, and returns its only share. `hash` is that of the text, as for `pass`. The entry's limit
+    /// of holders is that of `limits`.
     ///
-    /// `TicketsSpent` comes exactly where the last serial isn't below the limit, and otherwise `Memory` alone. A refusal
-    /// leaves the bucket as it was, and hands the grant back.
+    /// Returns `TicketsSpent` exactly if the last serial isn't below the limit; any other refusal is `Memory`. A refusal leaves the bucket as it was,
+    /// and hands the grant back.
     pub fn link(
         &mut self,
         text: &str,
@@ -216,7 +216,7 @@ impl<Static: StaticTables, G: Grant> Bucket<Static, G> {
         Ok(self.link_shared(entry, share, serial)?)
     }
 
-    /// The entry of a text that is linked next, which has the next serial, and its only share. `hash` is that of the text.
+    /// The entry of the text to link next, with the next serial, and its only share. `hash` is that of the text.
     fn made_entry(
         &self,
         serial: u64,
@@ -237,7 +237,7 @@ impl<Static: StaticTables, G: Grant> Bucket<Static, G> {
         Entry::new::<G>(self.alloc, self.buckets, ticket, text, hash, holders)
     }
 
-    /// Links an entry as the first, which has this serial, and gives its only share. A refusal changes nothing.
+    /// Links an entry with this serial as the first, and returns its only share. A refusal changes nothing.
     fn link_shared(&mut self, entry: Entry, share: Share, serial: u64) -> Result<Share, AllocError>
         requires { IsKept Static.tables G.may (record { bits = self.old.bits; entries = entry ∷ self.old.entries; last = serial }) }
         ensures linked { IfOk result (λ s. (s ≡ share) × (self.new ≡ record { bits = self.old.bits; entries = entry ∷ self.old.entries; last = serial })) }
@@ -252,7 +252,7 @@ impl<Static: StaticTables, G: Grant> Bucket<Static, G> {
         Ok(share)
     }
 
-    /// Links an entry as the first, which has this serial. A refusal changes nothing, and gives the entry back.
+    /// Links an entry with this serial as the first. A refusal changes nothing, and gives the entry back.
     fn link_entry(&mut self, entry: Entry, serial: u64) -> Result<(), AllocFailed<Entry>>
         requires { IsKept Static.tables G.may (record { bits = self.old.bits; entries = entry ∷ self.old.entries; last = serial }) }
         ensures linked { IfOk result (λ _. self.new ≡ record { bits = self.old.bits; entries = entry ∷ self.old.entries; last = serial }) }
@@ -272,8 +272,8 @@ impl<Static: StaticTables, G: Grant> Bucket<Static, G> {
         }
     }
 
-    /// A pass for the text by counts whose shares are those of entries, and no more: nothing is linked. `hash` is that of the text, as for
-    /// `pass`. Where the counts give shares of the entries that they are asked about, what it finds is a share of the text.
+    /// A pass for the text, by counts whose shares are those of entries, and no more: nothing is linked. `hash` is that of the text, as for `pass`.
+    /// If the counts give shares of the entries that they are asked about, what it finds is a share of the text.
     pub fn find<R: Wait, C: Counts<G, Share = Share>>(
         &mut self,
         rt: &R,
@@ -292,12 +292,10 @@ impl<Static: StaticTables, G: Grant> Bucket<Static, G> {
         self.pass(rt, text, hash, counts, grant)
     }
 
-    /// A pass for the text, which goes on to `link` where it is absent. `hash` is that of the text, as for
-    /// `pass`.
+    /// A pass for the text, which goes on to `link` if it is absent. `hash` is that of the text, as for `pass`.
     ///
-    /// It gives the share that the pass found, and `FullCount` where the pass found the entry full. Other refusals are those
-    /// of `link`. Where the counts give shares of the entries that they are asked about, the share is of the text. A refusal hands the grant
-    /// back.
+    /// Returns the share that the pass found, and `FullCount` if the pass found the entry full. Other refusals are those of `link`. If the counts
+    /// give shares of the entries that they are asked about, the share is of the text. A refusal hands the grant back.
     pub fn intern<R: Wait, C: Counts<G, Share = Share>>(
         &mut self,
         rt: &R,
@@ -357,8 +355,8 @@ fn pass_left<R: Wait, G: Grant, C: Counts<G>>(
     Pass::Absent(unspent)
 }
 
-// Goes on after this reply about the next entry, which is of the text. It takes out an entry that is dying, and the pass has no answer
-// yet. Any other reply is the answer, and those after the entry which are dying are taken out.
+// Goes on after this reply about the next entry, which is of the text. A dying entry is taken out, and the pass has no answer yet. Any other reply is
+// the answer, and dying entries after this one are taken out.
 #[inline]
 fn go_on_after<G: Grant, C: Counts<G>>(
     reply: CountReply<C::Share, C::Gone, C::Full, G>,
@@ -385,7 +383,7 @@ fn go_on_after<G: Grant, C: Counts<G>>(
     }
 }
 
-// Passes entries of the next node by that haven't the hash, and takes out the first that is dying.
+// Passes the entries of the next node that don't have the hash, and takes out the first that is dying.
 #[inline(always)] // as `keep_quiet` is
 fn pass_others<G: Grant, C: Counts<G>>(hash: u64, entries: &mut Entries, counts: &mut C)
     ensures { PassesOthers C.gives C.shows_gone (Some hash) counts.old entries.old counts.new entries.new }
@@ -398,7 +396,7 @@ fn pass_others<G: Grant, C: Counts<G>>(hash: u64, entries: &mut Entries, counts:
     }
 }
 
-// Takes out those after the next entry which are dying. Often there are none after it, and then nothing moves.
+// Takes out the dying entries after the next one. Often there are none after it, and then nothing moves.
 #[inline]
 fn prune_after<G: Grant, C: Counts<G>>(decided: &mut Entries, counts: &mut C)
     requires { 0 < length decided.old.left }
@@ -409,7 +407,7 @@ fn prune_after<G: Grant, C: Counts<G>>(decided: &mut Entries, counts: &mut C)
     }
 }
 
-// Passes the next entry by, and takes out those after it which are dying.
+// Passes the next entry, and takes out the dying ones after it.
 #[inline(never)]
 fn prune_behind<G: Grant, C: Counts<G>>(decided: &mut Entries, counts: &mut C)
     requires { 0 < length decided.old.left }
@@ -419,7 +417,7 @@ fn prune_behind<G: Grant, C: Counts<G>>(decided: &mut Entries, counts: &mut C)
     prune_left(decided, counts);
 }
 
-// Takes out those of the entries that are left which are dying.
+// Takes out the dying ones among the entries that are left.
 fn prune_left<G: Grant, C: Counts<G>>(entries: &mut Entries, counts: &mut C)
     ensures { IsPassLeft C.gives None counts.old entries.old absent counts.new entries.new }
 {

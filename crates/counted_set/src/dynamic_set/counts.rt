@@ -4,10 +4,10 @@ use super::share::{Entry, Share};
 use counted_cell::{AtLimit, Grant, NoShares};
 use std::sync::Wait;
 
-/// What `add` answers about an entry. An answer without a share has what shows it, and the grant, which wasn't spent.
+/// What `add` answers about an entry. An answer without a share has what shows why, and the grant, which wasn't spent.
 #[derive(Drop)]
 pub enum CountReply<S, D, F, G> {
-    /// It has one share more, this one.
+    /// It has one more share, this one.
     Added(S),
     /// It has no share left, and gets none any more.
     Dying(D, G),
@@ -15,10 +15,10 @@ pub enum CountReply<S, D, F, G> {
     Full(F, G),
 }
 
-/// What a pass for a text finds. Where it adds no share, it hands the grant back.
+/// What a pass for a text finds. If it adds no share, it hands the grant back.
 #[derive(Drop)]
 pub enum Pass<S, G> {
-    /// An entry of the text got one share more, this one.
+    /// An entry of the text got one more share, this one.
     Found(S),
     /// An entry of the text has as many shares as it may have.
     Full(G),
@@ -26,7 +26,7 @@ pub enum Pass<S, G> {
     Absent(G),
 }
 
-/// Who is asked about the counts of entries. An addition takes a grant, and spends it or hands it back.
+/// What is asked about the counts of entries. An addition takes a grant, and spends it or hands it back.
 pub trait Counts<G: Grant> {
     ghost use Rattle.text_forms.specs.Pass.{PassReply};
     ghost use Rattle.counted_set.specs.Chain.{Linked};
@@ -42,16 +42,16 @@ pub trait Counts<G: Grant> {
     /// What shows that an entry has as many shares as it may have.
     type Full: Drop;
 
-    /// By which replies about an entry `add` and `dying` leave which counts.
+    /// Which counts `add` and `dying` leave after which replies about an entry.
     ghost gives: { Self → Linked → PassReply Self.Share → Self → Type 0 };
 
-    /// What shows of an entry that it has no share left.
+    /// What shows that an entry has no share left.
     ghost shows_gone: { Linked → Self.Gone → Type 0 };
 
-    /// What shows of an entry that it has as many as it may have.
+    /// What shows that an entry has as many shares as it may have.
     ghost shows_full: { Linked → Self.Full → Type 0 };
 
-    /// One share more of the entry, unless it is dying or full.
+    /// Adds a share of the entry, unless it is dying or full.
     fn add<R: Wait>(
         &mut self,
         rt: &R,
@@ -69,8 +69,8 @@ pub trait Counts<G: Grant> {
         ensures dying { IfSome result (shows_gone entry.now) };
 }
 
-/// The counts that the entries have themselves. What is added is a share of the entry: by a single try, and where that gives none, by what the
-/// entry's `add` asks. Each answer is of that entry's own cell.
+/// The counts that the entries themselves have. A share of the entry is added by a single try, and if that gives none, as the entry's `add` does.
+/// Each answer is about that entry's own cell.
 #[derive(Drop)]
 pub struct OwnCounts;
 

@@ -16,7 +16,7 @@ use std::alloc::{AllocFailed, Global};
 use std::marker::Model;
 use std::mem::size_of;
 
-/// How many bytes a node has.
+/// The bytes of a node.
 pub(super) const NODE_SIZE: usize = size_of::<Node<Pack<Entry>>>();
 
 /// Each node has one entry or more, and the place is before the entry `at` of the first node that is left.
@@ -50,7 +50,7 @@ impl Entries {
         }
     }
 
-    /// Puts them to rest, from the first on: their nodes, and how many these are.
+    /// Puts them to rest, from the first on. Returns their nodes and the number of these.
     pub(super) fn store(mut self) -> (StoredChain<Pack<Entry>>, u32)
         ensures entries { joined result.0 ≡ self.passed ++ self.left }
         ensures stored { AreStored result.1 result.0 }
@@ -60,7 +60,7 @@ impl Entries {
         chain.store()
     }
 
-    /// How many nodes have an entry that is left.
+    /// The number of nodes that have an entry left.
     pub(super) fn nodes_left(&self) -> usize
         ensures few { result ≤ length self.now.left }
         ensures some { 0 < length self.now.left → 0 < result }
@@ -68,7 +68,7 @@ impl Entries {
         self.chain.remaining()
     }
 
-    /// Whether there is an entry behind the next.
+    /// Whether there is an entry after the next.
     #[inline]
     pub(super) fn has_more(&self) -> bool
         ensures { IsTrue result ↔ (1 < length self.now.left) }
@@ -90,7 +90,7 @@ impl Entries {
         }
     }
 
-    /// Passes the next entry by.
+    /// Passes the next entry.
     pub(super) fn keep(&mut self)
         requires { 0 < length self.old.left }
         ensures { self.new ≡ passed_by self.old self.old.left }
@@ -107,8 +107,8 @@ impl Entries {
         }
     }
 
-    /// Asks the entries that are left of the first node whether they are dying, in order, and passes those by that aren't, until one is or
-    /// has the wanted hash: that one is then the next. `None` where no entry is left.
+    /// Asks the entries that are left of the first node whether they are dying, in order, and passes those that aren't, until one is or has the
+    /// wanted hash: that one is then the next. `None` if no entry is left.
     #[inline(always)] // so that what is wanted is known in its loops
     pub(super) fn keep_quiet<G: Grant, C: Counts<G>>(
         &mut self,
@@ -135,7 +135,7 @@ impl Entries {
         }
     }
 
-    /// Takes the next entry out, which has no share left, as the counts show, and frees it, and its node where that has no other.
+    /// Takes out the next entry, which has no share left, as the counts show, and frees it, and its node too if that has no other.
     pub(super) fn take_out<G: Grant, C: Counts<G>>(&mut self, _gone: C::Gone)
         requires { ShowsFirst C.shows_gone _gone self.old.left }
         ensures { self.new ≡ taken_out self.old self.old.left }
@@ -143,7 +143,7 @@ impl Entries {
         self.remove_next();
     }
 
-    /// The same without a look at what shows it.
+    /// The same without what shows it.
     #[inline]
     fn remove_next(&mut self)
         requires { 0 < length self.old.left }
@@ -172,8 +172,7 @@ impl Entries {
         self.at = 0;
     }
 
-    /// Adds an entry as the first one: to the first node where that has room, and else in a new node. A refusal changes
-    /// nothing, and gives the entry back.
+    /// Adds an entry as the first: to the first node if that has room, otherwise in a new node. A refusal changes nothing, and gives the entry back.
     pub(super) fn add_head(&mut self, entry: Entry) -> Result<(), AllocFailed<Entry>>
         requires { self.old.passed ≡ [] }
         ensures added { IfOk result (λ _. self.new ≡ at_start (entry ∷ self.old.left)) }

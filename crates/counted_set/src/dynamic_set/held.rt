@@ -11,8 +11,8 @@ use std::marker::{Model, PhantomData};
 use std::sync::Wait;
 use text_forms::static_sets::StaticTables;
 
-/// One share of a cell, with the set that it is of. Its drop takes it off the count: this very share, as its number shows, and no other
-/// one. In a clause it is its cell, and its number.
+/// One share of a cell, with its set. Its drop takes it off the count: this very share, as its number shows, and no other. In a clause it is its cell
+/// and its number.
 struct SetShare<'s, Static: StaticTables> {
     share: CellShare,
     set: &'s Set<Static>,
@@ -36,7 +36,7 @@ impl<'s, Static: StaticTables> Drop for SetShare<'s, Static> {
 }
 
 impl<'s, Static: StaticTables> SetShare<'s, Static> {
-    /// Takes the share off the count, and tries the bucket's lock where it was the last.
+    /// Takes the share off the count, and tries the bucket's lock if it was the last.
     #[inline]
     fn give(self) -> Receipt
         ensures { (result.name ≡ self.entry.cell.name) × (result.number ≡ self.entry.number) }
@@ -55,10 +55,10 @@ impl<'s, Static: StaticTables> SetShare<'s, Static> {
     }
 }
 
-/// One share of an entry, with the set that it is of.
+/// One share of an entry, with its set.
 ///
-/// Its drop, which is that of its `SetShare`, subtracts one and never waits. Where it was the entry's last share, the bucket's lock is
-/// tried once; if it was free, dying entries are taken out of the bucket, and otherwise the next pass over the bucket does that.
+/// Its drop, which is that of its `SetShare`, subtracts one and never waits. If it was the entry's last share, the bucket's lock is tried once; if
+/// that was free, dying entries are taken out of the bucket, and otherwise the next pass over the bucket does that.
 #[derive(Drop)]
 pub struct Held<'s, Static: StaticTables> {
     own: SetShare<'s, Static>,
@@ -92,7 +92,7 @@ impl<'s, Static: StaticTables> Held<'s, Static> {
         }
     }
 
-    /// The share alone. `of_share` makes the same of it again, with the same set.
+    /// The share alone. `of_share` turns it back into the same, with the same set.
     #[doc(hidden)]
     #[inline]
     pub fn into_share(self) -> HeldShare<Static>
@@ -105,7 +105,7 @@ impl<'s, Static: StaticTables> Held<'s, Static> {
         }
     }
 
-    /// The share with its set, which is the one that it was taken from.
+    /// The share with its set again, which is the one that it was taken from.
     #[doc(hidden)]
     #[inline]
     pub fn of_share(share: HeldShare<Static>, set: &'s Set<Static>) -> Held<'s, Static>
@@ -143,7 +143,7 @@ impl<'s, Static: StaticTables> Held<'s, Static> {
         self.own.share.label().hash
     }
 
-    /// A permit for one share more, where the entry's cell gets more, as each does that a set interned. It does nothing when it runs.
+    /// A permit for one more share. The entry's cell must get more, as each that a set interned does. It does nothing when it runs.
     #[inline]
     pub fn permit(&self) -> Permit
         requires { self.now.name.grows ≡ true }
@@ -152,9 +152,8 @@ impl<'s, Static: StaticTables> Held<'s, Static> {
         self.own.share.permit()
     }
 
-    /// One share more of the same entry, for the permit, by a single try that waits for nothing. The permit is there again where another step
-    /// on the count came between, or the entry has as many as it may have: then nothing has changed. `clone_share` tries on, and tells a
-    /// full count.
+    /// Adds a share of the same entry, for the permit, by a single try that waits for nothing. The permit is handed back if another step on the count
+    /// came between, or the entry has as many as it may have: then nothing has changed. `clone_share` keeps trying, and reports a full count.
     #[inline]
     pub fn try_clone_share(&self, permit: Permit) -> Result<Held<'s, Static>, Permit>
         requires { permit.name ≡ self.now.name }
@@ -167,8 +166,8 @@ impl<'s, Static: StaticTables> Held<'s, Static> {
         }
     }
 
-    /// One share more of the same entry, for the permit. It is refused only where the entry has as many as it may have, as the error shows:
-    /// then the permit is there again, and nothing has changed.
+    /// Adds a share of the same entry, for the permit. It is refused only if the entry has as many as it may have, as the error shows: then the
+    /// permit is handed back, and nothing has changed.
     #[cold]
     #[inline(never)]
     pub fn clone_share<R: Wait>(
@@ -201,9 +200,9 @@ impl<'s, Static: StaticTables> Held<'s, Static> {
     }
 }
 
-/// One share of an entry, without its set, for who holds many shares of one set.
+/// One share of an entry, without its set, for holders of many shares of one set.
 ///
-/// It has no drop, so that none can be lost or given twice: it ends as a `Held`, which `Held::of_share` makes of it.
+/// It has no drop, so that none can be lost or given twice: it ends as a `Held`, into which `Held::of_share` turns it.
 #[doc(hidden)]
 pub struct HeldShare<Static: StaticTables> {
     counted: CellShare,
@@ -230,7 +229,7 @@ impl<Static: StaticTables> HeldShare<Static> {
         self.counted.text()
     }
 
-    /// A permit for one share more, as `Held::permit` gives it.
+    /// A permit for one more share, as `Held::permit` gives it.
     #[inline]
     pub fn permit(&self) -> Permit
         requires { self.now.name.grows ≡ true }
@@ -239,7 +238,7 @@ impl<Static: StaticTables> HeldShare<Static> {
         self.counted.permit()
     }
 
-    /// One share more of the same entry, for the permit, with its set, which is the one that this share was taken from. It is refused as
+    /// Adds a share of the same entry, for the permit, with its set, which is the one that this share was taken from. It is refused as
     /// `Held::clone_share` is.
     pub fn clone_held<'s, R: Wait>(
         &self,

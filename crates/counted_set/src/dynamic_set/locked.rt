@@ -1,4 +1,4 @@
-//! Calls of one bucket behind its lock. They are stated for every grant, so none can add a share but the one that it gives.
+//! Calls of one bucket behind its lock. They are stated for every grant, so none can add any share but the one that it returns.
 
 ghost use Rattle.std.specs.Prelude.{◌≡◌, IfOk, IfErr};
 ghost use Rattle.text_forms.specs.Faults.{IsInternFault};
@@ -15,7 +15,7 @@ use text_forms::Fault;
 use text_forms::static_sets::StaticTables;
 use text_forms::word::Limits;
 
-/// A share of the entry of a text with this hash, which is linked within these limits where there is none. A refusal hands the grant back.
+/// A share of the entry of a text with this hash, which is linked within these limits if there is none. A refusal hands the grant back.
 pub(super) fn intern_behind<Static: StaticTables, G: Grant, R: Wait>(
     rt: &R,
     lock: &Mutex<Bucket<Static, G>>,

@@ -1,4 +1,4 @@
-//! Asks the entries of a node in order, as long as they stay. Straight on from place to place, since a walk over a bucket does little else.
+//! Asks the entries of a node in order, as long as they stay. It goes straight from place to place, since a walk over a bucket does little else.
 
 ghost use Rattle.std.specs.Prelude.{◌≡◌, ◌≤◌, ◌<◌, ◌∷◌, ◌↔◌, [], IsTrue, Some, length, drop};
 ghost use Rattle.counted_set.specs.Quiet.{Meets};
@@ -9,18 +9,18 @@ use super::share::Entry;
 use counted_cell::Grant;
 use node_chain::Pack;
 
-/// What a walk over entries meets that ends it. An entry that was asked and isn't dying is quiet.
+/// What ends a walk over entries. An entry that was asked and isn't dying is quiet.
 #[derive(Drop)]
 pub(super) enum Met<D> {
     /// Nothing: all are quiet.
     Nothing,
-    /// The entry at this place of its node, which was asked, and is dying, as the other shows.
+    /// The entry at this place of its node was asked, and is dying, as the second value shows.
     Dying(usize, D),
-    /// The entry at this place of its node, which has the wanted hash. It wasn't asked.
+    /// The entry at this place of its node has the wanted hash. It wasn't asked.
     Alike(usize),
 }
 
-/// Asks the entries of a node from a place on, at which there is one, until one is dying or has the wanted hash.
+/// Asks the entries of a node from a place on, where there must be one, until one is dying or has the wanted hash.
 pub(super) fn meet_from<G: Grant, C: Counts<G>>(
     node: &Pack<Entry>,
     place: usize,
@@ -55,7 +55,7 @@ fn meet_all<G: Grant, C: Counts<G>>(
     }
 }
 
-// Those behind the first.
+// Those after the first.
 fn meet_from_second<G: Grant, C: Counts<G>>(
     node: &Pack<Entry>,
     wanted: Option<u64>,
@@ -72,7 +72,7 @@ fn meet_from_second<G: Grant, C: Counts<G>>(
     }
 }
 
-// Those behind the second.
+// Those after the second.
 fn meet_from_third<G: Grant, C: Counts<G>>(
     node: &Pack<Entry>,
     wanted: Option<u64>,
@@ -89,7 +89,7 @@ fn meet_from_third<G: Grant, C: Counts<G>>(
     }
 }
 
-// The fourth, behind which there is none.
+// The fourth, which is the last.
 fn meet_fourth<G: Grant, C: Counts<G>>(
     node: &Pack<Entry>,
     wanted: Option<u64>,
@@ -123,7 +123,7 @@ fn meet<G: Grant, C: Counts<G>>(
     }
 }
 
-// Whether a hash is wanted, and is the entry's.
+// Whether a hash is wanted and is the entry's.
 fn is_alike(entry: &Entry, wanted: Option<u64>) -> bool
     ensures { IsTrue result ↔ (wanted ≡ Some entry.now.hash) }
 {

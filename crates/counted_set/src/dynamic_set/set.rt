@@ -19,8 +19,8 @@ use text_forms::Fault;
 use text_forms::static_sets::StaticTables;
 use text_forms::word::{Buckets, Limits};
 
-/// The dynamic texts of a static type, in buckets by their hashes. Threads share it. In a clause it is its limits and the bits of
-/// the number of its buckets.
+/// The dynamic texts of a static type, in buckets by their hashes. Threads share it. In a clause it is its limits and the bits of its number of
+/// buckets.
 #[derive(Drop)]
 pub struct Set<Static: StaticTables> {
     buckets: Vec<Mutex<Bucket<Static>>>,
@@ -41,7 +41,7 @@ impl<Static: StaticTables> Model for Set<Static> {
 }
 
 impl<Static: StaticTables> Set<Static> {
-    /// A set without texts, with the greatest limits and the usual number of buckets. It is refused for `Memory` alone.
+    /// An empty set with the greatest limits and the usual number of buckets. The only error is `Memory`.
     pub fn new(alloc: Global) -> Result<Self, Fault>
         ensures limits { IfOk result (λ set. set.limits ≡ record { holders = holder_bound - 1; serials = serial_bound - 1 }) }
         ensures bits { IfOk result (λ set. set.bits ≡ usual_bits) }
@@ -50,7 +50,7 @@ impl<Static: StaticTables> Set<Static> {
         Self::with_limits(alloc, Limits::greatest())
     }
 
-    /// A set without texts, with these limits and the usual number of buckets. It is refused for `Memory` alone.
+    /// An empty set with these limits and the usual number of buckets. The only error is `Memory`.
     pub fn with_limits(alloc: Global, limits: Limits) -> Result<Self, Fault>
         ensures limits { IfOk result (λ set. set.limits ≡ limits) }
         ensures bits { IfOk result (λ set. set.bits ≡ usual_bits) }
@@ -59,7 +59,7 @@ impl<Static: StaticTables> Set<Static> {
         Self::with_buckets(alloc, limits, Buckets::usual())
     }
 
-    /// A set without texts, with these limits and this many buckets. It is refused for `Memory` alone.
+    /// An empty set with these limits and this many buckets. The only error is `Memory`.
     pub fn with_buckets(alloc: Global, limits: Limits, buckets: Buckets) -> Result<Self, Fault>
         ensures limits { IfOk result (λ set. set.limits ≡ limits) }
         ensures bits { IfOk result (λ set. set.bits ≡ buckets) }
@@ -73,7 +73,7 @@ impl<Static: StaticTables> Set<Static> {
         })
     }
 
-    /// This many buckets without entries, each behind a lock. It is refused for `Memory` alone.
+    /// This many empty buckets, each behind a lock. The only error is `Memory`.
     fn empty_buckets(alloc: Global, count: Buckets) -> Result<Vec<Mutex<Bucket<Static>>>, Fault>
         ensures number { IfOk result (λ buckets. vec_len buckets ≡ 2 ^ count) }
         ensures refused { IfErr result (λ fault. fault ≡ Fault.Memory) }
@@ -85,7 +85,7 @@ impl<Static: StaticTables> Set<Static> {
         Ok(buckets)
     }
 
-    /// The limits of its entries' holders and of its buckets' serials.
+    /// The limits on its entries' holders and its buckets' serials.
     pub fn limits(&self) -> Limits
         ensures { result ≡ self.now.limits }
     {
@@ -97,7 +97,7 @@ impl<Static: StaticTables> Set<Static> {
         self.alloc
     }
 
-    /// The buckets, each behind its lock, for who tests the design: what holds a lock keeps all others waiting.
+    /// The buckets, each behind its lock, for tests of the design: whoever holds a lock keeps all others waiting.
     #[doc(hidden)]
     pub fn buckets(&self) -> &[Mutex<Bucket<Static>>]
         ensures { length result.now ≡ 2 ^ self.now.bits }
@@ -105,16 +105,16 @@ impl<Static: StaticTables> Set<Static> {
         self.buckets.as_slice()
     }
 
-    /// Takes each bucket once, from the first to the last, with one pass over it: entries without shares go.
+    /// Makes one pass over each bucket, from the first to the last: entries without shares are taken out.
     pub fn sweep<R: Wait>(&self, rt: &R) {
         for bucket in &self.buckets {
             bucket.lock(rt).prune(&mut OwnCounts);
         }
     }
 
-    /// How many entries are linked: the sum over the buckets, each read under its lock.
+    /// The number of entries that are linked: the sum over the buckets, each read under its lock.
     ///
-    /// Beside other threads, which may link and unlink between one bucket and the next, nothing is said of the sum.
+    /// While other threads link and unlink between one bucket and the next, nothing is said about the sum.
     pub fn linked<R: Wait>(&self, rt: &R) -> u128 {
         let mut sum = 0u128;
         for bucket in &self.buckets {
@@ -126,9 +126,9 @@ impl<Static: StaticTables> Set<Static> {
     /// Calls `visit` once for each entry that is linked, with its text and the number of its holders as one look at its count reads
     /// it: bucket by bucket, from the first to the last, each under its lock, and newest first within a bucket.
     ///
-    /// An entry that nobody holds any more may still be linked: its number is 0. Beside other threads, which may link and unlink between
-    /// one bucket and the next, and count up and down at any time, nothing is said of what is visited. A `visit` that waits for the lock of
-    /// the bucket, as one that interns a text may, waits for ever; it may clone and drop atoms.
+    /// An entry that nobody holds any more may still be linked: its number is 0. While other threads link and unlink between one bucket and the next,
+    /// and count up and down at any time, nothing is said about what is visited. A `visit` that waits for the bucket's lock, as one that interns a
+    /// text may, waits forever; it may clone and drop atoms.
     pub fn for_each<R: Wait, F: FnMut(&str, u64)>(&self, rt: &R, mut visit: F)
         requires { F.IsAlwaysCallable visit }
     {
@@ -137,10 +137,10 @@ impl<Static: StaticTables> Set<Static> {
         }
     }
 
-    /// How many bytes the set has asked for and still holds: its buckets with their locks, their nodes, and the cells of the entries that
-    /// are linked, with their texts. Each bucket is read under its lock.
+    /// The bytes that the set has asked for and still holds: its buckets with their locks, their nodes, and the cells of the entries that are linked,
+    /// with their texts. Each bucket is read under its lock.
     ///
-    /// The set itself, which lies where its owner has it, isn't counted. Beside other threads, nothing is said of the sum.
+    /// The set itself, which is wherever its owner keeps it, isn't counted. While other threads use the set, nothing is said about the sum.
     pub fn memory<R: Wait>(&self, rt: &R) -> u128 {
         let bucket_size = size_of::<Mutex<Bucket<Static>>>() as u128;
         let mut sum = bucket_size.saturating_mul(self.buckets.capacity() as u128);
@@ -150,7 +150,7 @@ impl<Static: StaticTables> Set<Static> {
         sum
     }
 
-    /// A share of the entry of a text with this hash, in the bucket of the hash. Atoms ask for it.
+    /// A share of the entry of a text with this hash, in the bucket of the hash. Atoms call this.
     #[doc(hidden)]
     pub fn intern_hashed<'s, R: Wait>(
         &'s self,
@@ -170,8 +170,7 @@ impl<Static: StaticTables> Set<Static> {
         }
     }
 
-    /// A share of the entry of a text with this hash, in the bucket of the hash, if one is linked there that isn't dying. Atoms ask
-    /// for it.
+    /// A share of the entry of a text with this hash, in the bucket of the hash, if one is linked there that isn't dying. Atoms call this.
     #[doc(hidden)]
     pub fn find_hashed<'s, R: Wait>(
         &'s self,
@@ -198,7 +197,7 @@ impl<Static: StaticTables> Set<Static> {
         &self.buckets[usize::from(self.count.bucket_of(hash))]
     }
 
-    /// Gives a share back. Where it was its entry's last, tries the lock of the entry's bucket, once, and prunes the bucket.
+    /// Gives a share back. If it was its entry's last, tries the lock of the entry's bucket once, and prunes the bucket.
     #[inline]
     pub(super) fn give_back(&self, share: CellShare) -> Receipt
         ensures { (result.name ≡ share.cell.name) × (result.number ≡ share.number) }
@@ -211,8 +210,8 @@ impl<Static: StaticTables> Set<Static> {
         receipt
     }
 
-    /// Tries the lock of a hash's bucket, once, and prunes the bucket. It stands apart, so that the end of a share that isn't the
-    /// last stays short.
+    /// Tries the lock of a hash's bucket once, and prunes the bucket. It is a separate function so that the end of a share that isn't the last stays
+    /// short.
     #[cold]
     #[inline(never)]
     fn try_prune(&self, hash: u64) {

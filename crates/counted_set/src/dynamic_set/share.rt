@@ -1,4 +1,4 @@
-//! Counted entries, and the shares of them.
+//! Counted entries, and their shares.
 
 ghost use Rattle.std.specs.Prelude.{◌≡◌, true, ◌≤◌, ◌<◌, ◌^◌, ◌↔◌, length, IsTrue, IfOk, IfSome};
 ghost use Rattle.text_forms.specs.Layout.{holder_bound};
@@ -16,12 +16,11 @@ use std::marker::Model;
 use std::sync::Wait;
 use text_forms::word::Buckets;
 
-/// An entry of a bucket: the one owner of a counted cell, which has the text, its hash, the ticket and the count of the entry's
-/// shares in one block. The count goes up only from one or more, and below the entry's limit of holders: an entry without shares
-/// is dying, and gets none any more.
+/// An entry of a bucket: the one owner of a counted cell, which has the text, its hash, the ticket and the count of the entry's shares in one block.
+/// The count goes up only from one or more and below the entry's limit of holders: an entry without shares is dying, and never gets any again.
 ///
-/// Its end frees the block where the count reads 0, and leaves it for ever otherwise. It is one pointer: a pass over a bucket asks
-/// each entry's count, which lies beside the hash.
+/// Its end frees the block if the count reads 0, and leaves it forever otherwise. It is one pointer: a pass over a bucket asks each entry's count,
+/// which is next to the hash.
 #[derive(Drop)]
 pub struct Entry {
     owner: Owner<Global>,
@@ -39,8 +38,8 @@ impl Model for Entry {
 impl Entry {
     ghost use Rattle.counted_set.specs.Share.{linked_of};
 
-    /// An entry of this text in one of this many buckets, and its first share. It makes a copy of the text. There may be as many
-    /// shares as `holders`, each by a grant.
+    /// An entry of this text in one of this many buckets, and its first share. It copies the text. There may be up to `holders` shares, each by a
+    /// grant.
     pub(super) fn new<G: Grant>(
         alloc: Global,
         buckets: Buckets,
@@ -78,7 +77,7 @@ impl Entry {
         self.owner.text()
     }
 
-    /// How many bytes its cell has, the text among them.
+    /// The bytes of its cell, including the text.
     pub(super) fn cell_size(&self) -> usize
         ensures exact { result ≡ block_size (length self.now.text) }
         ensures few { result < 2 ^ 63 }
@@ -86,7 +85,7 @@ impl Entry {
         self.owner.block_size()
     }
 
-    /// How many shares there are, as one look at the count reads it.
+    /// The number of shares, as one look at the count reads it.
     pub(super) fn holders(&self) -> u64 {
         self.owner.count().shares()
     }
@@ -105,10 +104,10 @@ impl Entry {
         self.has_hash(hash) && self.owner.text() == text
     }
 
-    /// One share more, unless the entry is dying or has as many as it may have: what its cell answers. It spends the grant, or hands it back.
+    /// Adds a share, unless the entry is dying or has as many as it may have: returns what its cell answers. It spends the grant, or hands it back.
     ///
-    /// `Added` gives a share of this entry. `Dying` comes only where the count was read as 0, so that no share is left and none will
-    /// ever be, and `Full` only where it was read as the entry's limit; both change nothing.
+    /// `Added` gives a share of this entry. `Dying` is returned only if the count was read as 0, so that no share is left and none ever will be, and
+    /// `Full` only if it was read as the entry's limit; both change nothing.
     pub fn add<R: Wait, G: Grant>(
         &self,
         rt: &R,
@@ -150,7 +149,7 @@ impl Entry {
         }
     }
 
-    /// What shows that no share is left, if none is. Then none will ever be.
+    /// What shows that no share is left, if none is. Then none ever will be.
     pub fn dying(&self) -> Option<NoShares>
         ensures { IfSome result (λ none. none ≡ self.now.name) }
     {
@@ -158,8 +157,8 @@ impl Entry {
     }
 }
 
-/// One share of a cell. Its drop takes it off the count: this very share, as its number shows, and no other one.
-/// In a clause it is its cell, and its number.
+/// One share of a cell. Its drop takes it off the count: this very share, as its number shows, and no other. In a clause it is its cell and its
+/// number.
 struct OwnShare {
     share: CellShare,
 }

@@ -6,7 +6,7 @@ ghost use Rattle.counted_set.specs.Visits.{CalledAtText, VisitsEach};
 
 use super::entries::{Entries, NODE_SIZE};
 
-/// Calls `visit` at the text of each entry, with the number of its holders.
+/// Calls `visit` on the text of each entry, with the number of its holders.
 #[tactic(auto, using(crate::proofs::Visits::same_again))]
 pub(super) fn visit_each<F: FnMut(&str, u64)>(entries: &mut Entries, visit: &mut F)
     requires start { entries.old.passed ≡ [] }
@@ -19,7 +19,7 @@ pub(super) fn visit_each<F: FnMut(&str, u64)>(entries: &mut Entries, visit: &mut
     entries.rewind();
 }
 
-/// How many entries there are.
+/// The number of entries.
 #[tactic(auto, using(crate::proofs::Visits::same_again))]
 pub(super) fn number_of(entries: &mut Entries) -> usize
     requires start { entries.old.passed ≡ [] }
@@ -32,7 +32,7 @@ pub(super) fn number_of(entries: &mut Entries) -> usize
     number
 }
 
-/// How many bytes the nodes have, and the cells of the entries.
+/// The bytes of the nodes and of the cells of the entries.
 #[tactic(auto, using(crate::proofs::Visits::same_again, crate::proofs::Visits::is_memory))]
 pub(super) fn memory_of(entries: &mut Entries) -> u128
     requires start { entries.old.passed ≡ [] }
@@ -46,7 +46,7 @@ pub(super) fn memory_of(entries: &mut Entries) -> u128
     nodes * NODE_SIZE as u128 + cells
 }
 
-// Calls `visit` at the text of each entry that is left, with the number of its holders, and passes it by.
+// Calls `visit` on the text of each entry that is left, with the number of its holders, and passes it.
 #[tactic(auto, using(crate::proofs::Visits::visited_all))]
 fn visit_left<F: FnMut(&str, u64)>(entries: &mut Entries, visit: &mut F)
     requires { F.IsAlwaysCallable visit.old }
@@ -69,7 +69,7 @@ fn visit_one<F: FnMut(&str, u64)>(visit: &mut F, text: &str, holders: u64)
     visit(text, holders);
 }
 
-// How many entries are left. It passes all by.
+// The number of entries that are left. It passes them all.
 fn number_left(entries: &mut Entries) -> usize
     requires { length entries.old.left < 2 ^ 64 }
     ensures number { result ≡ length entries.old.left }
@@ -83,7 +83,7 @@ fn number_left(entries: &mut Entries) -> usize
     number
 }
 
-// How many bytes the cells of the entries that are left have. It passes all by.
+// The bytes of the cells of the entries that are left. It passes them all.
 fn cells_left(entries: &mut Entries) -> u128
     requires { length entries.old.left < 2 ^ 64 }
     ensures sum { result ≡ cells_size entries.old.left }

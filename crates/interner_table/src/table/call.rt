@@ -15,16 +15,16 @@ pub enum Call {
     Give(u64),
 }
 
-/// What a table replies to a call.
+/// A table's reply to a call.
 #[derive(Clone, Copy, Debug, PartialEq, Eq)]
 pub enum TableReply {
     /// The word that was interned or cloned.
     Word(u64),
-    /// The holder is taken.
+    /// The holder was taken.
     Given,
-    /// The word isn't held, and nothing is changed.
+    /// The word isn't held, and nothing changed.
     NotHeld,
-    /// The call was refused, and nothing is changed.
+    /// The call was refused, and nothing changed.
     Refused(Fault),
 }
 

@@ -1,4 +1,4 @@
-//! What a table keeps of a text.
+//! What a table keeps for a text.
 
 ghost use Rattle.std.specs.Prelude.{◌≡◌, ◌<◌, Some, slice_get};
 ghost use Rattle.indexmap.specs.IndexMap.{with_value_at, IsUnique, index_map_len, values};
@@ -9,7 +9,7 @@ use indexmap::IndexMap;
 use std::hash::BuildHasher;
 use std::marker::Model;
 
-/// The ticket of a text, and how many hold it.
+/// The ticket of a text, and the number of its holders.
 #[derive(Drop)]
 pub struct Holding {
     ticket: u64,
@@ -39,7 +39,7 @@ impl Holding {
         self.ticket
     }
 
-    /// How many hold it.
+    /// The number of its holders.
     pub fn holders(&self) -> u64
         ensures { result ≡ self.now.holders }
     {
@@ -47,7 +47,7 @@ impl Holding {
     }
 }
 
-/// Lets this number of holders have the text at a place.
+/// Sets the number of holders of the text at a place.
 pub fn write_holders<H: BuildHasher>(
     entries: &mut IndexMap<String, Holding, H>,
     at: usize,

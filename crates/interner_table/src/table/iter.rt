@@ -23,7 +23,7 @@ pub struct HeldText<'t> {
     pub text: &'t str,
     /// Its word, a ticket.
     pub word: u64,
-    /// How many hold it, at least 1.
+    /// The number of its holders, at least 1.
     pub holders: u64,
 }
 
@@ -90,8 +90,8 @@ impl<S: StaticTables, H: BuildHasher> Table<S, H> {
     ghost use Rattle.interner_table.specs.HeldText.{pair_of};
     ghost use Rattle.interner_table.specs.Kept.{Pair, map_of};
 
-    /// The dynamic texts that are held, each once, with its word and its holders. They come in the order in which they were
-    /// interned, but that where a text goes, the last one comes in its place: the same calls give the same order.
+    /// The dynamic texts that are held, each once, with its word and its holders. They are in the order in which they were interned, except that when
+    /// a text is taken out, the last one takes its place: the same calls give the same order.
     pub fn iter(&self) -> Iter<'_>
         ensures texts { result ≡ self.now.pairs }
         ensures held { (at : ℕ) (pair : Pair) → slice_get self.now.pairs at ≡ Some pair → (map_of self.now).held pair.0 ≡ Some pair.1 }
@@ -102,7 +102,7 @@ impl<S: StaticTables, H: BuildHasher> Table<S, H> {
         }
     }
 
-    /// The dynamic text at a place of that order, from 0 on. `None` past the last.
+    /// The dynamic text at a place in that order, counted from 0. `None` past the last.
     pub fn nth(&self, at: usize) -> Option<HeldText<'_>>
         ensures { MatchOption result (slice_get self.now.pairs at ≡ None) (λ held. slice_get self.now.pairs at ≡ Some (pair_of held)) }
     {

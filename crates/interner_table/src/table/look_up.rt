@@ -1,4 +1,4 @@
-//! What a table tells of its texts and of words.
+//! What a table tells about its texts and about words.
 
 ghost use Rattle.std.specs.Prelude.{IsTrue, ◌≡◌, ℕ, ◌↔◌, IfSome, IsSome, MatchOption, List, None, Some, slice_get, length};
 ghost use Rattle.std.specs.List.{IsDistinct, sum_by};
@@ -17,8 +17,8 @@ impl<S: StaticTables, H: BuildHasher> Table<S, H> {
     ghost use Rattle.interner_table.specs.Kept.{Pair, map_of, IsSoundMap};
     ghost use Rattle.interner_table.specs.WordText.{text_in};
 
-    /// The word of a text that has one: that of an inline or a static text, or the ticket of a dynamic text that is held. `None`
-    /// exactly where the text is dynamic and isn't held. No holder is added.
+    /// The word of a text that has one: that of an inline or a static text, or the ticket of a dynamic text that is held. `None` exactly if the text
+    /// is dynamic and isn't held. No holder is added.
     #[tactic(auto, unfolding(crate::specs::Table::IsHeld))]
     pub fn get(&self, text: &str) -> Option<u64>
         ensures word { MatchOption result ((word : ℕ) → ¬ (HasWord S.tables (map_of self.now) text.now word)) (λ word. HasWord S.tables (map_of self.now) text.now word) }
@@ -36,7 +36,7 @@ impl<S: StaticTables, H: BuildHasher> Table<S, H> {
         }
     }
 
-    /// The text of a word that is held: an inline word's own, and else one that is lent. `None` for any other number.
+    /// The text of a word that is held: an inline word's own, otherwise one that is lent. `None` for any other number.
     #[tactic(auto, unfolding(crate::specs::Table::IsHeld))]
     pub fn text_of(&self, word: u64) -> Option<WordText<'_>>
         ensures held { IsSome result ↔ IsHeld S.tables (map_of self.now) word }
@@ -63,8 +63,7 @@ impl<S: StaticTables, H: BuildHasher> Table<S, H> {
         self.find_text(word)
     }
 
-    /// Whether a word is held: an inline word always is, a static word where the static type has its text, and a ticket where
-    /// someone holds it.
+    /// Whether a word is held: an inline word always is, a static word if the static type has its text, and a ticket if someone holds it.
     pub fn holds(&self, word: u64) -> bool
         ensures { IsTrue result ↔ IsHeld S.tables (map_of self.now) word }
     {
@@ -74,7 +73,7 @@ impl<S: StaticTables, H: BuildHasher> Table<S, H> {
         self.place_of(word).is_some()
     }
 
-    /// How many hold a ticket. `None` for any other word: an inline word and a static word have no number of holders.
+    /// The number of holders of a ticket. `None` for any other word: an inline word or a static word has no number of holders.
     pub fn holders(&self, word: u64) -> Option<u64>
         ensures { MatchOption result (¬ (IsHeldTicket (map_of self.now) word)) (λ holders. HasHolders (map_of self.now) word holders) }
     {
@@ -83,7 +82,7 @@ impl<S: StaticTables, H: BuildHasher> Table<S, H> {
         Some(holders)
     }
 
-    /// How many dynamic texts are held.
+    /// The number of dynamic texts that are held.
     pub fn entries(&self) -> usize
         ensures count { result ≡ length self.now.pairs }
         ensures distinct { IsDistinct bytes_eq (keys_of self.now.pairs) }
@@ -91,7 +90,7 @@ impl<S: StaticTables, H: BuildHasher> Table<S, H> {
         self.entries.len() // each text once
     }
 
-    /// How many bytes the dynamic texts that are held have.
+    /// The bytes of the dynamic texts that are held.
     pub fn text_bytes(&self) -> u128
         ensures { result ≡ sum_by (λ pair. length pair.0) self.now.pairs }
     {

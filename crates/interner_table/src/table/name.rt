@@ -1,4 +1,4 @@
-//! The word of one kind of names.
+//! The word of one kind of name.
 
 ghost use Rattle.std.proofs.Common.{rules};
 ghost use Rattle.std.specs.Cmp.Rules.{comparing, hashing};
@@ -12,8 +12,8 @@ use std::fmt::{self, Debug, Formatter, Write};
 use std::hash::{Hash, Hasher};
 use std::marker::PhantomData;
 
-/// The word of a name of a kind, which is any type: a `Name<Function>` can't be handed in for a `Name<File>`. It has 8 bytes, and is
-/// copied, compared, ordered and hashed as its word.
+/// The word of a name of some kind, which is any type: a `Name<Function>` can't be passed for a `Name<File>`. It has 8 bytes, and is copied,
+/// compared, ordered and hashed as its word.
 pub struct Name<K> {
     pub(super) word: u64,
     pub(super) kind: PhantomData<K>,
@@ -64,7 +64,7 @@ impl<K> PartialOrd for Name<K> {
     }
 }
 
-/// By words, which tells nothing of the texts.
+/// By words, which says nothing about the texts.
 impl<K> Ord for Name<K> {
     ghost cmp = { on (λ name. name.word) nat_cmp };
 

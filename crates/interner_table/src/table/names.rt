@@ -1,4 +1,4 @@
-//! A table for one kind of names.
+//! A table for one kind of name.
 
 ghost use Rattle.std.specs.Prelude.{◌≡◌, ◌-◌, ℕ, [], ◌↔◌, IfErr, IfOk, IfSome, IsSome, List, MatchOption, OnErr};
 ghost use Rattle.std.specs.Str.{IsUtf8};
@@ -16,9 +16,8 @@ use std::marker::PhantomData;
 use text_forms::Fault;
 use text_forms::static_sets::{EmptyStaticAtomSet, StaticTables};
 
-/// The names of one kind, as a table keeps them: their words are `Name<K>`. Where two tables are at hand, as one of files and one of
-/// functions, the name of one can't be handed to the other. `H` is the table's, and by default the one for texts that an outsider may
-/// write.
+/// The names of one kind, as a table keeps them: their words are `Name<K>`. If there are two tables, say one of files and one of functions, a name of
+/// one can't be passed to the other. `H` is the table's, by default the one for texts that an outsider may write.
 #[derive(Drop)]
 pub struct Names<K, S: StaticTables = EmptyStaticAtomSet, H: BuildHasher = RandomState> {
     table: Table<S, H>,
@@ -28,7 +27,7 @@ pub struct Names<K, S: StaticTables = EmptyStaticAtomSet, H: BuildHasher = Rando
 impl<K, S: StaticTables, H: BuildHasher + Drop> Names<K, S, H> {
     ghost use Rattle.interner_table.specs.Kept.{map_of};
 
-    /// No names yet, and a table with this hasher. `Memory` if the table's buckets find none.
+    /// No names yet, in a table with this hasher. `Memory` if there is no room for the table's buckets.
     pub fn new(alloc: Global, hasher: H) -> Result<Self, Fault>
         ensures empty { IfOk result (λ names. map_of names.table ≡ empty_map usual_buckets) }
         ensures limits { IfOk result (λ names. names.table.limits ≡ record { holders = holder_bound - 1; serials = serial_bound - 1 }) }
@@ -43,7 +42,7 @@ impl<K, S: StaticTables, H: BuildHasher> Names<K, S, H> {
     ghost use Rattle.interner_table.specs.Name.{word_in, word_in_some};
     ghost use Rattle.interner_table.specs.WordText.{text_in};
 
-    /// The names that a table holds, with its limits. What words it gave out, `name_of` takes.
+    /// The names that a table holds, with its limits. `name_of` takes the words that it gave out.
     pub fn of_table(table: Table<S, H>) -> Self
         ensures { result.table ≡ table }
     {
@@ -53,19 +52,19 @@ impl<K, S: StaticTables, H: BuildHasher> Names<K, S, H> {
         }
     }
 
-    /// The table, to read in: its numbers, and each text by `iter`.
+    /// The table, for reading: its numbers, and each text by `iter`.
     pub fn table(&self) -> &Table<S, H>
         ensures { result.now ≡ self.now.table }
     {
         &self.table
     }
 
-    /// The name of a text, as `Table::intern` gives its word: one holder more of a dynamic text.
+    /// The name of a text, as `Table::intern` gives its word: a dynamic text gets one more holder.
     ///
-    /// `FullCount`, `TicketsSpent` and `Memory` come as there. A refusal changes nothing.
+    /// `FullCount`, `TicketsSpent` and `Memory` are returned as there. A refusal changes nothing.
     pub fn intern(&mut self, text: &str) -> Result<Name<K>, Fault>
         ensures interned { Interned S.tables self.old.table text.now (word_in result) self.new.table }
-        // Some of it once more, as a caller's proof finds it by itself.
+        // Some of it again, in a form that a caller's proof finds by itself.
         ensures own { IfOk result (λ name. IsWordOf S.tables (map_of self.new.table) text.now name.word) }
         ensures same { IfOk result (λ name. (other : ℕ) (also : List ℕ) → IsWordOf S.tables (map_of self.old.table) also other → (name.word ≡ other) ↔ (text.now ≡ also)) }
         ensures owned { (other : ℕ) (also : List ℕ) → IsWordOf S.tables (map_of self.old.table) also other → IsWordOf S.tables (map_of self.new.table) also other }
@@ -107,7 +106,7 @@ impl<K, S: StaticTables, H: BuildHasher> Names<K, S, H> {
         })
     }
 
-    /// The text of a name that is held. `None` for one that was given up, or is another table's.
+    /// The text of a name that is held. `None` for one that was given up or belongs to another table.
     pub fn text_of(&self, name: Name<K>) -> Option<WordText<'_>>
         ensures held { IsSome result ↔ IsHeld S.tables (map_of self.now.table) name.word }
         ensures word { IfSome result (λ lent. HasWord S.tables (map_of self.now.table) (text_in lent) name.word) }
@@ -116,9 +115,9 @@ impl<K, S: StaticTables, H: BuildHasher> Names<K, S, H> {
         self.table.text_of(name.word)
     }
 
-    /// One holder more of a name that is held. `None`, and nothing changes, for any other.
+    /// Adds a holder to a name that is held. For any other, returns `None` and changes nothing.
     ///
-    /// `FullCount` as from `Table::clone_held`. A refusal changes nothing.
+    /// Returns `FullCount` as `Table::clone_held` does. A refusal changes nothing.
     pub fn clone_held(&mut self, name: Name<K>) -> Result<Option<Name<K>>, Fault>
         ensures cloned { Cloned S.tables self.old.table name.word (word_in_some result) self.new.table }
         ensures fault { IfErr result (λ fault. fault ≡ FullCount) }
@@ -131,14 +130,14 @@ impl<K, S: StaticTables, H: BuildHasher> Names<K, S, H> {
         }
     }
 
-    /// One holder less of a name that is held: `true`. For any other `false`, and nothing changes.
+    /// Takes a holder from a name that is held, and returns `true`. For any other, returns `false` and changes nothing.
     pub fn release(&mut self, name: Name<K>) -> bool
         ensures { Given S.tables self.old.table name.word result self.new.table }
     {
         self.table.release(name.word)
     }
 
-    /// Ends every entry, as `Table::clear`.
+    /// Ends every entry, as `Table::clear` does.
     pub fn clear(&mut self)
         ensures { self.new.table ≡ record { limits = self.old.table.limits; lasts = self.old.table.lasts; pairs = [] } }
     {

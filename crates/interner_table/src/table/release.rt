@@ -1,4 +1,4 @@
-//! Holders that come and go by their words.
+//! Adds and takes holders by their words.
 
 ghost use Rattle.std.specs.Prelude.{◌≡◌, ℕ, [], IfErr, IfOk, OnErr, List, true};
 ghost use Rattle.text_forms.specs.declared.faults.Fault.TheVariants.{FullCount};
@@ -13,13 +13,13 @@ use text_forms::static_sets::StaticTables;
 impl<S: StaticTables, H: BuildHasher> Table<S, H> {
     ghost use Rattle.interner_table.specs.Kept.{map_of};
 
-    /// One holder more of a word that is held. An inline word and a static word have no number of holders: nothing changes.
+    /// Adds a holder to a word that is held. An inline word or a static word has no number of holders: nothing changes.
     ///
-    /// `FullCount` where the ticket's text has as many holders as the limits allow. A refusal changes nothing.
+    /// `FullCount` if the ticket's text has as many holders as the limits allow. A refusal changes nothing.
     pub fn clone_word(&mut self, word: u64) -> Result<u64, Fault>
         requires { IsHeld S.tables (map_of self.old) word }
         ensures cloned { Cloned S.tables self.old word (in_some result) self.new }
-        // Some of it once more, as a caller's proof finds it by itself.
+        // Some of it again, in a form that a caller's proof finds by itself.
         ensures word { IfOk result (λ clone. clone ≡ word) }
         ensures held { IfOk result (λ clone. IsHeld S.tables (map_of self.new) clone) }
         ensures owned { (other : ℕ) (text : List ℕ) → IsWordOf S.tables (map_of self.old) text other → IsWordOf S.tables (map_of self.new) text other }
@@ -35,9 +35,9 @@ impl<S: StaticTables, H: BuildHasher> Table<S, H> {
         }
     }
 
-    /// One holder more of a word, as `clone_word` says, where it is held. `None`, and nothing changes, for any other number.
+    /// Adds a holder to a word if it is held, as `clone_word` does. For any other number, returns `None` and changes nothing.
     ///
-    /// `FullCount` where the ticket's text has as many holders as the limits allow. A refusal changes nothing.
+    /// `FullCount` if the ticket's text has as many holders as the limits allow. A refusal changes nothing.
     #[tactic(auto, unfolding(crate::specs::Table::IsHeld))]
     pub fn clone_held(&mut self, word: u64) -> Result<Option<u64>, Fault>
         ensures cloned { Cloned S.tables self.old word result self.new }
@@ -60,19 +60,19 @@ impl<S: StaticTables, H: BuildHasher> Table<S, H> {
         }
     }
 
-    /// One holder less of a word that is held. The last holder of a ticket takes the text with it; the bucket keeps its last
-    /// serial, so that the ticket never comes again.
+    /// Takes a holder from a word that is held. A ticket's text goes with its last holder; the bucket keeps its last serial, so that the ticket is
+    /// never given again.
     pub fn give(&mut self, word: u64)
         requires { IsHeld S.tables (map_of self.old) word }
         ensures given { Given S.tables self.old word true self.new }
-        // As a caller's proof finds it by itself.
+        // In a form that a caller's proof finds by itself.
         ensures left { (other : ℕ) → AreBothHeld S.tables (map_of self.old) other word → IsHeld S.tables (map_of self.new) other }
         ensures right { (other : ℕ) → AreBothHeld S.tables (map_of self.old) word other → IsHeld S.tables (map_of self.new) other }
     {
         let _ = self.release(word);
     }
 
-    /// One holder less of a word, as `give` says, where it is held: `true`. For any other number `false`, and nothing changes.
+    /// Takes a holder from a word if it is held, as `give` does, and returns `true`. For any other number, returns `false` and changes nothing.
     pub fn release(&mut self, word: u64) -> bool
         ensures { Given S.tables self.old word result self.new }
     {
@@ -85,8 +85,8 @@ impl<S: StaticTables, H: BuildHasher> Table<S, H> {
         true
     }
 
-    /// Ends every entry, whoever holds it, and keeps the memory. Each bucket keeps its last serial, so that no ticket comes
-    /// again: the words that were handed out are held no more, but for inline and static ones.
+    /// Ends every entry, whoever holds it, and keeps the memory. Each bucket keeps its last serial, so that no ticket is given again: the words that
+    /// were handed out are no longer held, except inline and static ones.
     pub fn clear(&mut self)
         ensures { self.new ≡ record { limits = self.old.limits; lasts = self.old.lasts; pairs = [] } }
     {

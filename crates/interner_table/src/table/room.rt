@@ -1,4 +1,4 @@
-//! Room for texts that are to come.
+//! Room for texts to come.
 
 ghost use Rattle.std.specs.Prelude.{◌≡◌, ◌-◌, IfErr, IfOk};
 ghost use Rattle.text_forms.specs.declared.faults.Fault.TheVariants.{Memory};
@@ -14,7 +14,7 @@ use text_forms::static_sets::StaticTables;
 impl<S: StaticTables, H: BuildHasher + Drop> Table<S, H> {
     ghost use Rattle.interner_table.specs.Kept.{map_of};
 
-    /// A table as `new` makes it, with room for this number of dynamic texts. `Memory` if it finds none.
+    /// A table as `new` makes it, with room for this many dynamic texts. `Memory` if there is none.
     pub fn with_capacity(alloc: Global, hasher: H, texts: usize) -> Result<Self, Fault>
         ensures empty { IfOk result (λ table. map_of table ≡ empty_map usual_buckets) }
         ensures limits { IfOk result (λ table. table.limits ≡ record { holders = holder_bound - 1; serials = serial_bound - 1 }) }
@@ -27,8 +27,8 @@ impl<S: StaticTables, H: BuildHasher + Drop> Table<S, H> {
 }
 
 impl<S: StaticTables, H: BuildHasher> Table<S, H> {
-    /// Makes room for this number of dynamic texts more: each of them then asks for no memory but that of its bytes. `Memory`
-    /// where it finds none. What is held stays in both outcomes.
+    /// Makes room for this many more dynamic texts: each of them then takes no memory but that of its bytes. `Memory` if there is none. What is held
+    /// stays in either case.
     pub fn reserve(&mut self, more: usize) -> Result<(), Fault>
         ensures same { self.new ≡ self.old }
         ensures fault { IfErr result (λ fault. fault ≡ Memory) }

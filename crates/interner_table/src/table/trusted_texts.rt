@@ -1,14 +1,13 @@
-//! The quick hasher of texts.
+//! The fast hasher of texts.
 
 ghost use Rattle.std.specs.Hash.FoldHasher as folding;
 
 use std::hash::{BuildHasher, FoldHasher};
 
-/// The quick hasher for a table's texts, for texts that no outsider writes: the words of the program itself, names of generated code,
-/// what a benchmark interns. Its seed is fixed, so who writes the texts can write many that all have one hash, and each look-up then goes
-/// through all of them.
+/// The fast hasher for a table's texts, for texts that no outsider writes: the program's own words, names in generated code, what a benchmark
+/// interns. Its seed is fixed, so whoever writes the texts can write many with the same hash, and each look-up then goes through all of them.
 ///
-/// For texts of others take `RandomState::new(&rt)?`: SipHash-1-3 with random keys, with which no chosen texts cost more than random ones.
+/// For other people's texts, take `RandomState::new(&rt)?`: SipHash-1-3 with random keys, with which no chosen texts cost more than random ones.
 #[derive(Clone, Copy, Debug)]
 pub struct TrustedTexts;
 

@@ -1,4 +1,4 @@
-//! Atoms in another case, and what changes a text's letters, for other kinds of atoms too.
+//! Atoms in another case, and the change of a text's letters, for other kinds of atoms too.
 
 ghost use Rattle.std.specs.Prelude.{◌≡◌, ◌↔◌, IfErr, IfOk, IsTrue, length, string_bytes};
 ghost use Rattle.std.specs.Str.{IsUtf8, str_to_ascii_lowercase, str_to_ascii_uppercase};
@@ -10,7 +10,7 @@ use std::str;
 use std::sync::Wait;
 use text_forms::Fault;
 
-/// The most bytes of a text that is changed without memory.
+/// The most bytes of a text that is changed without taking memory.
 pub const BUFFER: usize = 64;
 
 /// A case of the letters a to z and A to Z.
@@ -69,11 +69,11 @@ impl Case {
 impl<H: AtomKind> SetAtom<H> {
     ghost use Rattle.set_atoms.specs.Case.{in_case, IsCaseFault};
 
-    /// The atom of the text with each letter a to z changed to A to Z and every other byte as it was, as `from_str_in` of
-    /// the set gives it. Where no byte changes it is `clone_atom`.
+    /// The atom of the text with each letter a to z changed to A to Z and every other byte as it was, as the set's `from_str_in` gives it. If no byte
+    /// changes, this is `clone_atom`.
     ///
-    /// A changed text of up to 64 bytes is made without memory; a longer one is an owned text, so that `Memory` may come
-    /// there for a static text as well. Other refusals are those of `from_str_in` and `clone_atom`.
+    /// A changed text of up to 64 bytes takes no memory; a longer one is an owned text, so that `Memory` may be returned for a static text as well.
+    /// Other refusals are those of `from_str_in` and `clone_atom`.
     pub fn to_ascii_uppercase_in<S: TextSet<Held = H>, R: Wait>(
         &self,
         rt: &R,
@@ -87,8 +87,8 @@ impl<H: AtomKind> SetAtom<H> {
         self.to_case_in(rt, set, Case::Upper)
     }
 
-    /// The atom of the text with each letter A to Z changed to a to z and every other byte as it was, as `from_str_in` of
-    /// the set gives it. Where no byte changes it is `clone_atom`.
+    /// The atom of the text with each letter A to Z changed to a to z and every other byte as it was, as the set's `from_str_in` gives it. If no byte
+    /// changes, this is `clone_atom`.
     ///
     /// It is refused as `to_ascii_uppercase_in` is.
     pub fn to_ascii_lowercase_in<S: TextSet<Held = H>, R: Wait>(

@@ -22,14 +22,14 @@ impl<H: AtomKind> SetAtom<H> {
         self.as_str() == other
     }
 
-    /// Whether the texts of both atoms are equal once each letter A to Z in them is lowered.
+    /// Whether the texts of both atoms are equal once each letter A to Z is lowercased.
     pub fn eq_ignore_ascii_case(&self, other: &Self) -> bool
         ensures { IsTrue result ↔ (str_to_ascii_lowercase self.now.text ≡ str_to_ascii_lowercase other.now.text) }
     {
         self.eq_str_ignore_ascii_case(other.as_str())
     }
 
-    /// Whether the atom's text and this one are equal once each letter A to Z in them is lowered.
+    /// Whether the atom's text and this one are equal once each letter A to Z is lowercased.
     pub fn eq_str_ignore_ascii_case(&self, other: &str) -> bool
         ensures { IsTrue result ↔ (str_to_ascii_lowercase self.now.text ≡ str_to_ascii_lowercase other.now) }
     {
@@ -45,7 +45,7 @@ impl<H: AtomKind> SetAtom<H> {
     }
 }
 
-/// Atoms stand in the order of their texts' bytes, whichever sets they borrow.
+/// Atoms are ordered by their texts' bytes, whichever sets they borrow.
 impl<H: AtomKind> PartialOrd for SetAtom<H> {
     ghost partial_cmp = { λ a b. Some (slice_cmp nat_cmp a.text b.text) };
 
@@ -66,7 +66,7 @@ impl<H: AtomKind> Ord for SetAtom<H> {
 
     ghost matches_eq = { λ a b. texts_ties a.text b.text };
 
-    /// Equal atoms are told first: most need no look at their bytes.
+    /// Equal atoms are recognised first: most need no look at their bytes.
     #[inline]
     #[tactic(auto, using(crate::proofs::Forms::equal_tied))]
     fn cmp(&self, other: &Self) -> Ordering {

@@ -1,4 +1,4 @@
-//! Atoms of one set in a list, which has the set once.
+//! Atoms of one set in a list that holds the set once.
 
 ghost use Rattle.std.specs.Iterator.{at_most};
 ghost use Rattle.std.specs.Map.Iter.{TakesFirst, deref};
@@ -39,7 +39,7 @@ impl<Bare: BareText> Model for Place<Bare> {
 }
 
 impl<Bare: BareText> Place<Bare> {
-    /// The place of an atom. A share stays the same, and isn't counted anew.
+    /// The place of an atom. A share stays the same, and isn't counted again.
     fn of_atom<S: ListedSet<Bare>>(atom: SetAtom<S::Held>) -> Self
     where
         Bare: BareText<Static = <S::Held as HeldText>::Static>,
@@ -54,7 +54,7 @@ impl<Bare: BareText> Place<Bare> {
         Place { form }
     }
 
-    /// The atom of a place whose list is of this set. A share stays the same, and isn't counted anew.
+    /// The atom of a place whose list is of this set. A share stays the same, and isn't counted again.
     fn into_atom<S: ListedSet<Bare>>(self, set: S) -> SetAtom<S::Held>
     where
         Bare: BareText<Static = <S::Held as HeldText>::Static>,
@@ -110,10 +110,10 @@ impl<Bare: BareText> Place<Bare> {
     }
 }
 
-/// A list of atoms of one set. A place has 16 bytes, where an atom has 24, or 32: the set stands once.
+/// A list of atoms of one set. A place has 16 bytes, where an atom has 24 or 32: the list holds the set once.
 ///
-/// Where a place goes, by `pop`, `truncate`, `clear` or the end of the list, a dynamic one gives its share back as an atom does: that
-/// never waits. In a clause a list is its atoms, from the first to the last.
+/// When a place ends, by `truncate`, `clear` or the end of the list, a dynamic one gives its share back as an atom does: that never waits. In a
+/// clause a list is its atoms, from the first to the last.
 pub struct ListOf<S: TakesBack<Bare>, Bare: BareText> {
     set: S,
     places: Vec<Place<Bare>>,
@@ -137,7 +137,7 @@ impl<S: TakesBack<Bare>, Bare: BareText> Model for ListOf<S, Bare> {
     ghost view = { λ l. l.places.items };
 }
 
-/// It gives back the share of each dynamic place, and never waits.
+/// Gives back the share of each dynamic place, and never waits.
 impl<S: TakesBack<Bare>, Bare: BareText> Drop for ListOf<S, Bare> {
     fn drop(mut self) {
         self.clear();
@@ -147,7 +147,7 @@ impl<S: TakesBack<Bare>, Bare: BareText> Drop for ListOf<S, Bare> {
 }
 
 impl<S: ListedSet<Bare>, Bare: BareText<Static = <S::Held as HeldText>::Static>> ListOf<S, Bare> {
-    /// A list of this set without atoms. It takes no memory.
+    /// An empty list of this set. It takes no memory.
     pub fn new(set: S) -> Self
         ensures { result ≡ [] }
     {
@@ -157,10 +157,10 @@ impl<S: ListedSet<Bare>, Bare: BareText<Static = <S::Held as HeldText>::Static>>
         }
     }
 
-    /// Puts the atom of a text behind the others, as `Atom::from_str_in` gives it.
+    /// Appends the atom of a text, as `Atom::from_str_in` gives it.
     ///
-    /// `Memory` comes where there is no room for one more place, or for a new text; `TicketsSpent` and `FullCount` come for a dynamic
-    /// text alone, as there. Then the list is as it was.
+    /// `Memory` if there is no room for one more place or for a new text; `TicketsSpent` and `FullCount` only for a dynamic text, as there. After an
+    /// error the list is as it was.
     pub fn push_str<R: Wait>(&mut self, rt: &R, text: &str) -> Result<(), Fault>
         ensures pushed { OnOk result ((atom : AtomValue) × (atom.text ≡ text.now) × (self.new ≡ self.old ++ atom ∷ [])) }
         ensures kept { OnErr result (self.new ≡ self.old) }
@@ -173,10 +173,9 @@ impl<S: ListedSet<Bare>, Bare: BareText<Static = <S::Held as HeldText>::Static>>
         Ok(())
     }
 
-    /// Another atom of the text at a place, from 0 on. `None` past the last.
+    /// Another atom of the text at a place, counted from 0. `None` past the last.
     ///
-    /// It is refused for a dynamic text alone, and with `FullCount` alone: where its entry has as many holders as the set's
-    /// limits allow.
+    /// The only error is `FullCount`, if the text is dynamic and its entry has as many holders as the set's limits allow.
     pub fn clone_atom<R: Wait>(&self, rt: &R, at: usize) -> Result<Option<SetAtom<S::Held>>, Fault>
         ensures same { IfOk result (λ found. found ≡ slice_get self.now at) }
         ensures refused { IfErr result (λ fault. fault ≡ Fault.FullCount) }
@@ -188,7 +187,7 @@ impl<S: ListedSet<Bare>, Bare: BareText<Static = <S::Held as HeldText>::Static>>
         }
     }
 
-    /// Takes the last atom out. `None` where there is none.
+    /// Takes out the last atom. `None` if there is none.
     pub fn pop(&mut self) -> Option<SetAtom<S::Held>>
         ensures { MatchOption result ((self.old ≡ []) × (self.new ≡ [])) (λ atom. self.old ≡ self.new ++ atom ∷ []) }
     {
@@ -198,7 +197,7 @@ impl<S: ListedSet<Bare>, Bare: BareText<Static = <S::Held as HeldText>::Static>>
 }
 
 impl<S: TakesBack<Bare>, Bare: BareText> ListOf<S, Bare> {
-    /// How many atoms there are.
+    /// The number of atoms.
     pub fn len(&self) -> usize
         ensures { result ≡ length self.now }
     {
@@ -212,7 +211,7 @@ impl<S: TakesBack<Bare>, Bare: BareText> ListOf<S, Bare> {
         self.places.is_empty()
     }
 
-    /// The text at a place, from 0 on. `None` past the last.
+    /// The text at a place, counted from 0. `None` past the last.
     pub fn get(&self, at: usize) -> Option<&str>
         ensures { MatchOption result (slice_get (texts_of self.now) at ≡ None) (λ text. slice_get (texts_of self.now) at ≡ Some text.now) }
     {
@@ -220,7 +219,7 @@ impl<S: TakesBack<Bare>, Bare: BareText> ListOf<S, Bare> {
         Some(place.as_str())
     }
 
-    /// Takes out all but the first `len` atoms, from the last on.
+    /// Takes out all but the first `len` atoms, beginning with the last.
     pub fn truncate(&mut self, len: usize)
         ensures { self.new ≡ take len self.old }
     {
@@ -229,7 +228,7 @@ impl<S: TakesBack<Bare>, Bare: BareText> ListOf<S, Bare> {
         }
     }
 
-    /// Takes all atoms out. The memory of their places stays with the list.
+    /// Takes out all atoms. The list keeps the memory of their places.
     pub fn clear(&mut self)
         ensures { self.new ≡ [] }
     {
@@ -245,7 +244,7 @@ impl<S: TakesBack<Bare>, Bare: BareText> ListOf<S, Bare> {
         }
     }
 
-    /// Ends the last place. `None` where there is none.
+    /// Ends the last place. `None` if there is none.
     fn end_last(&mut self) -> Option<()>
         ensures { MatchOption result ((self.old ≡ []) × (self.new ≡ [])) (λ ended. (atom : AtomValue) × (self.old ≡ self.new ++ atom ∷ [])) }
     {

@@ -1,4 +1,4 @@
-//! Tables of a list of texts, and checks of table texts: a call that is made again gives what it gives the first time.
+//! Tables of a list of texts, and checks of table texts: a call that is made again returns what it returns the first time.
 
 use crate::assert_that;
 use std::alloc::Global;
@@ -8,7 +8,7 @@ use table_generator::generate::generate;
 use table_generator::tables::{GenFault, Tables};
 use test_refusals::at_last;
 
-/// More than five texts: where a search of so few finds no tables, it has to show that there are none.
+/// More than five texts: if a search for so few finds no tables, it must show that there are none.
 const TEXTS: [&str; 7] = [
     "here",
     "sentence",
@@ -35,7 +35,7 @@ fn tables_are_made(rt: HostRuntime) {
     assert_that(&rt, check_tables(alloc, &text).expect(&rt, "an answer"));
 }
 
-/// Two texts are equal: that is told whatever request is refused.
+/// Two texts are equal: that is reported whatever request is refused.
 const DOUBLED: [&str; 7] = [
     "here",
     "sentence",

@@ -1,4 +1,4 @@
-//! Lists of atoms: a place that is refused memory leaves the list as it was, and is had where it is asked for again.
+//! Lists of atoms: a place that is refused memory leaves the list as it was, and is there once it is asked for again.
 
 use crate::assert_that;
 use crate::begun::new_set;
@@ -13,7 +13,7 @@ use test_refusals::{begin, finishes_refused};
 /// A list of atoms without static texts.
 type DefaultList<'s> = AtomList<'s, EmptyStaticAtomSet>;
 
-/// Pushes a text to a list of so many places. Where a request is refused the list stays as it was, and the text is pushed again.
+/// Pushes a text to a list of this many places. If a request is refused, the list stays as it was, and the text is pushed again.
 fn push_at_last<R: Wait + Print>(
     rt: &R,
     list: &mut DefaultList<'_>,
@@ -35,7 +35,7 @@ fn ends_at(list: &DefaultList<'_>, last: usize, texts: [&str; 2]) -> bool {
         && list.len() == last.saturating_add(1)
 }
 
-/// Whether a text that is pushed at last to a list of so many places stands behind the other one.
+/// Whether a text that is finally pushed to a list of this many places comes after the other one.
 fn is_pushed_at_last<R: Wait + Print>(
     rt: &R,
     list: &mut DefaultList<'_>,

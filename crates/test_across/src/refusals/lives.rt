@@ -1,4 +1,4 @@
-//! The life of a text from its first atom to its last, in a set of one bucket whose texts have two holders at most.
+//! The life of a text from its first atom to its last, in a set of one bucket whose texts have at most two holders.
 
 use crate::assert_that;
 use std::alloc::Global;
@@ -13,7 +13,7 @@ use test_refusals::at_last;
 
 type OneBucket = Set<EmptyStaticAtomSet>;
 
-/// Whether each call that adds a holder of the atom's text is refused it.
+/// Whether each call that would add a holder of the atom's text is refused.
 fn is_full<R: Wait>(rt: &R, set: &OneBucket, atom: &DefaultAtom<'_>) -> bool {
     let text = atom.as_str();
     let refused = [
@@ -24,7 +24,7 @@ fn is_full<R: Wait>(rt: &R, set: &OneBucket, atom: &DefaultAtom<'_>) -> bool {
     refused == [Some(Fault::FullCount); 3]
 }
 
-/// Whether one entry is left where another text came and went, and after a sweep.
+/// Whether one entry is left after another text came and went, and after a sweep.
 fn stays_alone<R: Wait>(rt: &R, set: &OneBucket) -> Result<bool, Fault> {
     drop(interned(rt, set, "tokenised")?);
     let is_alone = set.linked(rt) == 1;
@@ -48,7 +48,7 @@ struct Shown {
 }
 
 impl Shown {
-    /// Notes an entry of the other text, which has so many holders.
+    /// Notes an entry of the other text, which has this many holders.
     fn note(&mut self, text: &str, other: &str, holders: u64) {
         self.number = self.number.saturating_add(1);
         self.are_right = self.are_right && other == text && holders == 2;
@@ -64,19 +64,19 @@ fn look_at<R: Wait>(rt: &R, set: &OneBucket, text: &str) -> Shown {
     shown
 }
 
-/// Whether the set shows the text's entry alone, with two holders, and the bytes that it has.
+/// Whether the set shows only the text's entry, with two holders, and the bytes that it has.
 fn is_shown<R: Wait>(rt: &R, set: &OneBucket, text: &str) -> bool {
     let shown = look_at(rt, set, text);
     let bytes = text.len().div_ceil(8) as u128 * 8;
     shown.are_right && shown.number == 1 && set.memory(rt) == EMPTY + NODE + CELL + bytes
 }
 
-/// Whether both atoms are of one word.
+/// Whether both atoms have the same word.
 fn are_one(first: &DefaultAtom<'_>, second: &DefaultAtom<'_>) -> bool {
     first.unsafe_data() == second.unsafe_data() && first.as_str() == second.as_str()
 }
 
-/// Whether the text is full, stays and is shown beside both atoms, which are one.
+/// Whether the text is full, stays and is shown while there are both atoms, which are the same.
 fn are_held<R: Wait>(
     rt: &R,
     set: &OneBucket,
@@ -91,13 +91,13 @@ fn are_held<R: Wait>(
     )
 }
 
-/// Whether the atom has a clone, beside which its text is full, stays and is shown.
+/// Whether the atom has a clone, and its text is then full, stays and is shown.
 fn is_cloned<R: Wait>(rt: &R, set: &OneBucket, atom: &DefaultAtom<'_>) -> Result<bool, Fault> {
     let clone = cloned(rt, atom)?;
     are_held(rt, set, atom, &clone)
 }
 
-/// Whether an atom was found that is one with the other, and whose text is full.
+/// Whether an atom was found that is the same as the other, and whose text is full.
 fn is_second<R: Wait>(
     rt: &R,
     set: &OneBucket,
@@ -110,7 +110,7 @@ fn is_second<R: Wait>(
     }
 }
 
-/// Whether the atom's text is found, and is full then.
+/// Whether the atom's text is found, and is then full.
 fn is_found<R: Wait>(rt: &R, set: &OneBucket, atom: &DefaultAtom<'_>) -> Result<bool, Fault> {
     let found = look_up(rt, set, atom.as_str())?;
     Ok(is_second(rt, set, atom, found.as_ref()))

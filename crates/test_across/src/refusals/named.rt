@@ -23,7 +23,7 @@ const FIRST: u64 = 0x1_0000;
 
 const SECOND: u64 = 0x2_0000;
 
-/// A text of 65 letters, and what it is in capitals.
+/// A text of 65 letters, and what it is in upper case.
 const SMALL: &str = "aaaaaaaaaaaaaaaaaaaaaaaaaaaaaaaaaaaaaaaaaaaaaaaaaaaaaaaaaaaaaaaaa";
 
 const CAPITALS: &str = "AAAAAAAAAAAAAAAAAAAAAAAAAAAAAAAAAAAAAAAAAAAAAAAAAAAAAAAAAAAAAAAAA";
@@ -33,12 +33,12 @@ const CAPITALS: &str = "AAAAAAAAAAAAAAAAAAAAAAAAAAAAAAAAAAAAAAAAAAAAAAAAAAAAAAAA
 enum Call {
     /// What makes the set.
     Set,
-    /// What interns a text, which is handed in in one of these forms.
+    /// What interns a text, which is passed in one of these forms.
     Borrowed,
     Owned,
     MayBeOwned,
     Json,
-    /// What puts an atom's text into capitals.
+    /// What puts an atom's text into upper case.
     Upper,
     /// What makes an atom's JSON value.
     ToJson,
@@ -50,7 +50,7 @@ fn owned(rt: &impl Abort, alloc: Global, text: &str) -> String {
     String::from_str(alloc, text).expect(rt, "a text")
 }
 
-/// Prints the line behind a call that interns, and tells whether it was refused memory: its bucket may keep the room that it made for a cell.
+/// Prints the line after a call that interns, and returns whether it was refused memory: its bucket may keep the room that it made for a cell.
 fn ends_refused<T>(rt: &impl Print, answer: &Result<T, Fault>) -> bool {
     let is_refused = matches!(answer, Err(Fault::Memory));
     finish(
@@ -78,7 +78,7 @@ fn interned_at_last<'s, N: SetName, R: Wait + Print>(
     answer
 }
 
-/// The atom of an owned text, made of a borrowed one the second time.
+/// The atom of an owned text, made from a borrowed one the second time.
 fn owned_at_last<'s, N: SetName, R: Wait + Print>(
     rt: &R,
     set: &'s Named<N>,
@@ -93,7 +93,7 @@ fn owned_at_last<'s, N: SetName, R: Wait + Print>(
     answer
 }
 
-/// The atom of a text that may be owned, made of a borrowed one the second time.
+/// The atom of a text that may be owned, made from a borrowed one the second time.
 fn cow_at_last<'s, N: SetName, R: Wait + Print>(
     rt: &R,
     set: &'s Named<N>,
@@ -122,7 +122,7 @@ fn read_at_last<'s, N: SetName, R: Wait + Print>(
     answer
 }
 
-/// The atom of the text in capitals.
+/// The atom of the text in upper case.
 fn upper_at_last<'s, N: SetName, R: Wait + Print>(
     rt: &R,
     set: &'s Named<N>,
@@ -168,7 +168,7 @@ fn intern<'s, N: SetName, R: Wait + Abort>(rt: &R, set: &'s Named<N>) -> Word<'s
     NamedAtom::from_str_in(rt, set, SMALL).expect(rt, "an atom")
 }
 
-/// Whether the text in capitals comes second.
+/// Whether the text in upper case comes second.
 fn is_put_into_capitals<N: SetName, R: Wait + Print + Abort>(rt: &R, set: &Named<N>) -> bool {
     let upper = upper_at_last(rt, set, &intern(rt, set)).expect(rt, "an atom");
     is_of(&upper, SECOND, CAPITALS) && set.linked(rt) == 1
@@ -234,7 +234,7 @@ fn is_made_with<R: Wait + Print + Abort>(
     is_made::<Brand, R>(rt, alloc, name, call)
 }
 
-/// Whether a set is made with this name or, where the call is refused memory, with another one, and has a text then.
+/// Whether a set is made with this name or, if the call is refused memory, with another one, and then has a text.
 fn is_set_made<N: SetName, R: Wait + Print + Abort>(rt: &R, alloc: Global, name: FreshName) -> bool
     requires { N.logs ≡ name.logs }
 {

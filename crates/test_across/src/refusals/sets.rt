@@ -49,7 +49,7 @@ fn interned_at_last<'s, R: Wait + Print>(
     answer
 }
 
-/// Texts that lie in the bucket of one that goes.
+/// Texts that are in the bucket of one that goes.
 const OTHERS: [&str; 4] = ["tokenised", "sentence", "repeated", "forgotten"];
 
 fn set_of_one_bucket<R: Abort>(rt: &R, alloc: Global) -> Set<EmptyStaticAtomSet> {
@@ -66,7 +66,7 @@ fn behind_the_oldest<'s, R: Wait + Abort>(
     intern_all(rt, set, &OTHERS)
 }
 
-/// Whether a sixth text has its ticket beside the others.
+/// Whether a sixth text has its ticket in addition to the others.
 fn finds_room<R: Wait + Print + Abort>(
     rt: &R,
     set: &Set<EmptyStaticAtomSet>,
@@ -76,7 +76,7 @@ fn finds_room<R: Wait + Print + Abort>(
     is_of(&atom, 0x6_0000, "magnitude") && links(rt, set, 5) && others.len() == 4
 }
 
-/// In a set of one bucket: five texts lie in two nodes, and once the oldest is gone the newer node has room for a sixth.
+/// In a set of one bucket: five texts are in two nodes, and once the oldest is gone the newer node has room for a sixth.
 #[test]
 fn text_finds_room_in_a_node(rt: HostRuntime) {
     let set = set_of_one_bucket(&rt, rt.alloc());
@@ -88,7 +88,7 @@ fn owned<R: Abort>(rt: &R, alloc: Global, text: &str) -> String {
     String::from_str(alloc, text).expect(rt, "a text")
 }
 
-/// The atom of an owned text, made of a second one where the call of the first is refused memory.
+/// The atom of an owned text, made from a second one if the call for the first is refused memory.
 fn owned_at_last<'s, R: Wait + Print + Abort>(
     rt: &R,
     set: &'s Set<EmptyStaticAtomSet>,
@@ -103,7 +103,7 @@ fn owned_at_last<'s, R: Wait + Print + Abort>(
     answer
 }
 
-/// The atom of a text that may be owned, made of a borrowed one where the call of the first is refused memory.
+/// The atom of a text that may be owned, made from a borrowed one if the call for the first is refused memory.
 fn cow_at_last<'s, R: Wait + Print>(
     rt: &R,
     set: &'s Set<EmptyStaticAtomSet>,
@@ -118,7 +118,7 @@ fn cow_at_last<'s, R: Wait + Print>(
     answer
 }
 
-/// The atom of the text in capital letters. A call that is refused memory is made again.
+/// The atom of the text in upper case. A call that is refused memory is made again.
 fn upper_at_last<'s, R: Wait + Print>(
     rt: &R,
     set: &'s Set<EmptyStaticAtomSet>,
@@ -132,7 +132,7 @@ fn upper_at_last<'s, R: Wait + Print>(
     answer
 }
 
-/// Whether the atom of a text in capital letters has this word and this text, and both are linked.
+/// Whether the atom of a text in upper case has this word and this text, and both are linked.
 fn is_put_into_upper_case<R: Wait + Print + Abort>(
     rt: &R,
     set: &Set<EmptyStaticAtomSet>,
@@ -212,7 +212,7 @@ enum Form {
     Json,
 }
 
-/// The atom of a text that is handed in so. A call that is refused memory is made again.
+/// The atom of a text that is handed in like this. A call that is refused memory is made again.
 fn atom_at_last<'s, R: Wait + Print + Abort>(
     rt: &R,
     alloc: Global,
@@ -233,7 +233,7 @@ fn is_first<R: Wait>(rt: &R, set: &Set<EmptyStaticAtomSet>, atom: &DefaultAtom<'
     is_of(atom, FIRST, "interned") && links(rt, set, 1)
 }
 
-/// Checks that "interned", handed in so, is the first atom of a new set.
+/// Checks that "interned", handed in like this, is the first atom of a new set.
 fn check_first<R: Wait + Print + Abort>(rt: &R, alloc: Global, form: Form) {
     let set = new_set(rt, alloc);
     let atom = atom_at_last(rt, alloc, &set, form, "interned").expect(rt, "an answer");

@@ -16,7 +16,7 @@ const FIRST: u64 = 0x1_0840;
 
 const SECOND: u64 = 0x2_0840;
 
-/// The end of a call that keeps what it did till it was refused.
+/// The end of a call that keeps what it did until it was refused.
 fn midway(is_refused: bool) -> End {
     if is_refused {
         End::RefusedMidway
@@ -60,7 +60,7 @@ fn has_alone(table: &Table<EmptyStaticAtomSet>, word: u64) -> bool {
     table.text(word) == Some("interned") && table.entries() == 1
 }
 
-/// Makes room, again where the first call is refused memory. Whether the text was there alone with this word behind the first.
+/// Makes room, again if the first call is refused memory. Returns whether only the text was there, with this word, after the first.
 fn stays_alone<R: Print>(
     rt: &R,
     table: &mut Table<EmptyStaticAtomSet>,
@@ -77,7 +77,7 @@ fn stays_alone<R: Print>(
     Ok(is_alone)
 }
 
-/// Whether "interned", which has a word, stays where room is made.
+/// Whether "interned", which has a word, stays when room is made.
 fn keeps_its_text<R: Print + Abort>(rt: &R, table: &mut Table<EmptyStaticAtomSet>) -> bool {
     let word = word_in(table, "interned").expect(rt, "a word");
     stays_alone(rt, table, word) == Ok(true)
@@ -86,7 +86,7 @@ fn keeps_its_text<R: Print + Abort>(rt: &R, table: &mut Table<EmptyStaticAtomSet
 /// The bytes of a table without texts that has room for a thousand: 128 groups of both maps.
 const WITH_ROOM: u128 = 4096 * 8 + 128 * (496 + 208) + 1;
 
-/// Whether the table tells the bytes of that room where it was made, and fewer where it was refused.
+/// Whether the table reports the bytes of that room if it was made, and fewer if it was refused.
 fn tells_its_room<R: Print>(rt: &R, table: &mut Table<EmptyStaticAtomSet>) -> bool {
     begin(rt);
     let made = make_room(table);
@@ -103,7 +103,7 @@ fn intern_number<R: Abort>(rt: &R, alloc: Global, table: &mut Table<EmptyStaticA
     word_in(table, &text).expect(rt, "a word");
 }
 
-/// Interns so many texts.
+/// Interns this many texts.
 fn fill<R: Abort>(rt: &R, alloc: Global, table: &mut Table<EmptyStaticAtomSet>, number: u32) {
     for n in 0..number {
         intern_number(rt, alloc, table, n);
@@ -120,7 +120,7 @@ fn has_room<R: Print + Abort>(rt: &R, table: &mut Table<EmptyStaticAtomSet>) -> 
     is_refused || answer == Ok(FIRST)
 }
 
-/// Whether "interned" finds room behind so many other texts.
+/// Whether "interned" finds room after this many other texts.
 fn has_room_behind<R: Print + Abort>(
     rt: &R,
     alloc: Global,
@@ -131,7 +131,7 @@ fn has_room_behind<R: Print + Abort>(
     has_room(rt, table)
 }
 
-/// Whether it finds room where one other text was.
+/// Whether it finds room where another text was.
 fn has_room_once_cleared<R: Print + Abort>(
     rt: &R,
     alloc: Global,
@@ -172,7 +172,7 @@ fn passes<R: Print + Abort>(
     }
 }
 
-/// Checks what is asked of a table. It ends here, and not in each test: so they are proved in less time.
+/// Checks what is asked of a table. It ends here, and not in each test, so that they are proved in less time.
 fn check<R: Print + Abort>(
     rt: &R,
     alloc: Global,
@@ -212,7 +212,7 @@ fn room_is_made_in_a_table(rt: HostRuntime) {
     check(&rt, rt.alloc(), made, Question::KeepsItsText);
 }
 
-/// Neither map is told to have the other's room.
+/// Neither map is said to have the other's room.
 #[test]
 fn room_that_is_refused_is_not_told(rt: HostRuntime) {
     let made = Table::new(rt.alloc(), table_keys(&rt));
@@ -294,7 +294,7 @@ fn run_in_new_table<R: Abort>(
     run(&mut table, calls)
 }
 
-/// Runs the calls, and tells how that ended.
+/// Runs the calls, and returns how that ended.
 fn run_watched<R: Print>(
     rt: &R,
     table: &mut Table<EmptyStaticAtomSet>,
@@ -307,8 +307,7 @@ fn run_watched<R: Print>(
     (answer, ended)
 }
 
-/// An `Err` changes nothing, and the run is made again in the same table. Where one of the calls was refused, all are made again in
-/// a new one.
+/// After an `Err` nothing has changed, and the run is made again in the same table. If one of the calls was refused, all are made again in a new one.
 fn replies_in<R: Print + Abort>(
     rt: &R,
     alloc: Global,
@@ -434,7 +433,7 @@ fn go_on_at_last<R: Print + Abort>(
     answer
 }
 
-/// Whether the steps have their replies at last, and leave two holders.
+/// Whether the steps finally have their replies, and leave two holders.
 fn are_made<R: Print + Abort>(
     rt: &R,
     alloc: Global,

@@ -1,4 +1,4 @@
-//! Calls whose bytes a set tells: `gate/refused.py` compares what each of these tests prints with what the call asked for.
+//! Calls whose bytes a set reports: `gate/refused.py` compares what each of these tests prints with what the call asked for.
 
 use crate::assert_that;
 use crate::begun::new_set;
@@ -15,7 +15,7 @@ use test_refusals::{End, begin, finish};
 /// A set without static texts.
 type DefaultSet = Set<EmptyStaticAtomSet>;
 
-/// Prints how many bytes the call asked for, as the set tells.
+/// Prints how many bytes the call asked for, as the set reports.
 fn tell<R: Print>(rt: &R, bytes: u128) {
     let _ = println!(rt; "-- {bytes} bytes");
 }
@@ -41,7 +41,7 @@ fn set_of_most_buckets(rt: HostRuntime) {
     tell(&rt, set.memory(&rt));
 }
 
-/// The text is interned, which a set tells of.
+/// The text is interned, and the set reports its bytes.
 fn intern<R: Wait + Print + Abort>(rt: &R, set: &DefaultSet, text: &str) {
     let before = set.memory(rt);
     begin(rt);

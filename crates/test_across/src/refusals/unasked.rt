@@ -1,4 +1,4 @@
-//! Calls that ask for no memory: `gate/refused.py` refuses every request between the two lines, and wants that there is none.
+//! Calls that ask for no memory: `gate/refused.py` refuses every request between the two lines, and requires that there is none.
 
 use crate::assert_that;
 use crate::begun::{intern, intern_all, new_set, new_table, table_keys, word_in};
@@ -108,7 +108,7 @@ fn json_is_read(rt: HostRuntime) {
     assert_that(&rt, words_read(&rt, &set, &short, &long) == (SHORT, 2));
 }
 
-/// The word of the atom in small letters.
+/// The word of the atom in lower case.
 fn lower_word<R: Wait + Abort>(rt: &R, set: &Set<One>, atom: &Atom<'_, One>) -> u64 {
     lowered(rt, set, atom).expect(rt, "an answer").unsafe_data()
 }
@@ -164,7 +164,7 @@ fn atoms_are_cloned_compared_and_dropped(rt: HostRuntime) {
     );
 }
 
-/// How many entries stay linked where the set is swept.
+/// The number of entries that stay linked when the set is swept.
 fn left_by_sweep<R: Wait>(rt: &R, set: &Set<EmptyStaticAtomSet>) -> u128 {
     set.sweep(rt);
     set.linked(rt)
@@ -182,14 +182,14 @@ fn sets_are_swept(rt: HostRuntime) {
     assert_that(&rt, (held, left) == (1, 0));
 }
 
-/// How many holders all entries have.
+/// The number of holders that all entries have.
 fn holders<R: Wait>(rt: &R, set: &Set<EmptyStaticAtomSet>) -> u64 {
     let mut holders = 0u64;
     set.for_each(rt, |_, count| holders = holders.saturating_add(count));
     holders
 }
 
-/// Whether the set tells of its one entry, which the atom holds.
+/// Whether the set shows its one entry, which the atom holds.
 fn is_visited<R: Wait + Print>(
     rt: &R,
     set: &Set<EmptyStaticAtomSet>,
@@ -228,7 +228,7 @@ fn set_ends_with_an_entry(rt: HostRuntime) {
     assert_that(&rt, linked == 1);
 }
 
-/// A set of one bucket whose six entries, which lie in two nodes, died under its lock.
+/// A set of one bucket whose six entries, which are in two nodes, died under its lock.
 fn with_six_dying<R: Wait + Abort>(rt: &R, alloc: Global) -> Set<EmptyStaticAtomSet> {
     let buckets = Buckets::new(0).expect(rt, "bits");
     let set = Set::with_buckets(alloc, Limits::greatest(), buckets).expect(rt, "a set");
@@ -276,7 +276,7 @@ fn is_full<R: Wait + Abort>(rt: &R, set: &Set<One>, held: &Atom<'_, One>) -> boo
     look_up(rt, set, held.as_str()).err() == Some(Fault::FullCount)
 }
 
-/// Whether the atom's text is found, and is full then, and an inline and a static text are found, and no other.
+/// Whether the atom's text is found, and is then full, and an inline and a static text are found, and no other.
 fn are_looked_up<R: Wait + Abort>(rt: &R, set: &Set<One>, held: &Atom<'_, One>) -> bool {
     is_found_again(rt, set, held)
         && is_found(rt, set, "abcdefg")
@@ -303,7 +303,7 @@ fn spend<R: Abort>(rt: &R, table: &mut Table<EmptyStaticAtomSet>) {
     table.give(word);
 }
 
-/// What the set answers to the text, in each way to hand it in.
+/// What the set returns for the text, in each way to pass it.
 fn refused_thrice<R: Wait>(
     rt: &R,
     set: &Set<EmptyStaticAtomSet>,
@@ -317,7 +317,7 @@ fn refused_thrice<R: Wait>(
     ]
 }
 
-/// Whether that is told without a request, and each is that the tickets are spent.
+/// Whether that is returned without a request, and is each time that the tickets are spent.
 fn is_spent<R: Wait + Print>(
     rt: &R,
     set: &Set<EmptyStaticAtomSet>,
@@ -342,7 +342,7 @@ fn tickets_of_a_set_are_spent(rt: HostRuntime) {
     );
 }
 
-/// A table whose texts may have so many holders, and its buckets so many serials.
+/// A table whose texts may have this many holders, and its buckets this many serials.
 fn limited_table<R: Abort>(
     rt: &R,
     alloc: Global,
@@ -395,7 +395,7 @@ fn comes_and_goes(table: &mut Table<One>, word: u64) -> bool {
         && !table.release(4)
 }
 
-/// What a table tells of "interned", and of a text and a number that it doesn't hold; a holder comes and goes, and then all do.
+/// What a table tells about "interned", and about a text and a number that it doesn't hold; a holder comes and goes, and then all go.
 fn is_told(table: &mut Table<One>, word: u64) -> bool {
     let is_found = table.get("interned") == Some(word) && table.get("tokenised").is_none();
     let is_told = is_lent(table, word) && is_listed(table, word) && comes_and_goes(table, word);
@@ -426,7 +426,7 @@ fn is_cloned<R: Wait + Abort>(rt: &R, list: &DefaultList<'_>) -> bool {
     cloned_at(rt, list, 0).expect(rt, "an answer").is_some()
 }
 
-/// Whether "interned" is read in the list, which is cleared, and has room for another text then.
+/// Whether "interned" is read in the list, which is cleared, and then has room for another text.
 fn is_read_and_cleared<R: Wait + Abort>(rt: &R, list: &mut DefaultList<'_>) -> bool {
     let has_text = list.get(0) == Some("interned") && list.iter().len() == 1;
     let is_cloned = is_cloned(rt, list);

@@ -19,13 +19,13 @@ const FIRST: u64 = 0x1_0840;
 
 const TICKET_UNIT: u64 = 65536;
 
-/// A set with these limits, of which nothing else is known.
+/// A set with these limits, about which nothing else is known.
 fn limited<R: Abort>(rt: &R, alloc: Global, holders: u64, serials: u64) -> Set<EmptyStaticAtomSet> {
     let limits = Limits::new(holders, serials).expect(rt, "limits");
     Set::with_limits(alloc, limits).expect(rt, "a set")
 }
 
-/// The atom of "interned" in the set, where it has this word.
+/// The atom of "interned" in the set, if it has this word.
 fn interned<'s, R: Wait>(
     rt: &R,
     set: &'s Set<EmptyStaticAtomSet>,
@@ -43,7 +43,7 @@ fn refused<R: Wait>(rt: &R, set: &Set<EmptyStaticAtomSet>) -> Option<Fault> {
     test_calls::interned(rt, set, "interned").err()
 }
 
-/// Why it is, handed in as an owned text, and as one that may be.
+/// Why it is refused, passed as an owned text, and as one that may be owned.
 fn refused_as_owned<R: Wait + Abort>(rt: &R, set: &Set<EmptyStaticAtomSet>) -> Option<Fault> {
     let own = String::from_str(set.allocator(), "interned").expect(rt, "a text");
     interned_owned(rt, set, own).err()
@@ -53,7 +53,7 @@ fn refused_as_cow<R: Wait>(rt: &R, set: &Set<EmptyStaticAtomSet>) -> Option<Faul
     interned_cow(rt, set, CowStr::Borrowed("interned")).err()
 }
 
-/// Whether "interned" is refused so, as a borrowed text and as an owned one.
+/// Whether "interned" is refused like this, as a borrowed text and as an owned one.
 fn is_refused<R: Wait + Abort>(rt: &R, set: &Set<EmptyStaticAtomSet>, fault: Fault) -> bool {
     let wanted = Some(fault);
     refused(rt, set) == wanted
@@ -61,7 +61,7 @@ fn is_refused<R: Wait + Abort>(rt: &R, set: &Set<EmptyStaticAtomSet>, fault: Fau
         && refused_as_cow(rt, set) == wanted
 }
 
-/// Why the text of the atom is refused, handed in as a JSON value.
+/// Why the text of the atom is refused, passed as a JSON value.
 fn refused_as_json<R: Wait + Abort>(
     rt: &R,
     set: &Set<EmptyStaticAtomSet>,
@@ -71,7 +71,7 @@ fn refused_as_json<R: Wait + Abort>(
     read_json(rt, set, &json).err()
 }
 
-/// Whether the atom's text is refused one more holder, in each way to hand it in.
+/// Whether the atom's text is refused one more holder, in each way to pass it.
 fn is_full<R: Wait + Abort>(rt: &R, set: &Set<EmptyStaticAtomSet>, atom: &DefaultAtom<'_>) -> bool {
     let full = Some(Fault::FullCount);
     is_refused(rt, set, Fault::FullCount)
@@ -125,7 +125,7 @@ fn is_not_cloned<R: Wait>(rt: &R, set: &Set<EmptyStaticAtomSet>, atom: &DefaultA
         && cloned(rt, atom).err() == Some(Fault::FullCount)
 }
 
-/// Whether the atom can't be cloned beside a second one, and can once that one is gone.
+/// Whether the atom can't be cloned while there is a second one, and can once that one is gone.
 fn is_cloned_alone<R: Wait + Abort>(
     rt: &R,
     set: &Set<EmptyStaticAtomSet>,
@@ -144,7 +144,7 @@ fn is_copied<R: Wait + Abort>(rt: &R, first: DefaultAtom<'_>) -> bool {
     has_word(&copy, FIRST)
 }
 
-/// Holders come and go below their limit, and have one word as long as one of them is left.
+/// Holders come and go below their limit, and have the same word as long as one of them is left.
 #[test]
 fn holders_come_and_go(rt: HostRuntime) {
     let set = limited(&rt, rt.alloc(), 2, 9);
@@ -172,7 +172,7 @@ fn add_numbered<'s, R: Wait + Abort>(
     atoms.push(intern(rt, set, &text)).expect(rt, "room");
 }
 
-/// The atoms of so many texts.
+/// The atoms of this many texts.
 fn numbered<'s, R: Wait + Abort>(
     rt: &R,
     set: &'s Set<EmptyStaticAtomSet>,
@@ -185,7 +185,7 @@ fn numbered<'s, R: Wait + Abort>(
     atoms
 }
 
-/// Whether, of so many texts of the bucket, the last goes with its atom, and so do the others.
+/// Whether, of this many texts of the bucket, the last goes with its atom, and so do the others.
 fn go_with_their_atoms<R: Wait + Abort>(
     rt: &R,
     set: &Set<EmptyStaticAtomSet>,

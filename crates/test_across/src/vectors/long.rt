@@ -1,4 +1,4 @@
-//! Texts of hundreds of kilobytes, and of two megabytes beyond ASCII. OpenSSL's SipHash tells their hashes.
+//! Texts of hundreds of kilobytes, and of two megabytes beyond ASCII. Their hashes are from OpenSSL's SipHash.
 
 use crate::assert_that;
 use crate::begun::{intern, new_set, new_table};
@@ -71,7 +71,7 @@ fn long_text_is_an_atom(rt: HostRuntime) {
     assert_that(&rt, is_owned_again(&rt, rt.alloc(), &atom, text));
 }
 
-/// Whether the atom in capitals is another one, and has the wanted text.
+/// Whether the atom in upper case is another one, and has the wanted text.
 fn changes_case<R: Wait + Abort>(
     rt: &R,
     set: &Set<EmptyStaticAtomSet>,
@@ -116,7 +116,7 @@ fn long_text_is_sent_as_json(rt: HostRuntime) {
     );
 }
 
-/// Whether the table holds so many texts, of so many bytes.
+/// Whether the table holds this many texts, of this many bytes.
 fn holds(table: &Table<EmptyStaticAtomSet>, texts: usize, bytes: u128) -> bool {
     table.entries() == texts && table.text_bytes() == bytes
 }

@@ -12,8 +12,8 @@ use string_cache::{Atom, DefaultAtom, EmptyStaticAtomSet, Fault};
 use test_calls::has_word;
 use test_samples::{One, Short, Twice};
 
-/// Words with tags that no form has, a length above 7, bytes behind the text, bytes that aren't UTF-8, low bits beside a static tag, and a
-/// ticket without a serial.
+/// Words with tags that no form has, a length above 7, bytes after the text, bytes that aren't UTF-8, low bits next to a static tag, and a ticket
+/// without a serial.
 const NO_WORDS: [u64; 11] = [
     0,
     3,
@@ -191,7 +191,7 @@ fn short_text_in_tables(rt: HostRuntime) {
     );
 }
 
-/// How many replies the table gives to no calls.
+/// The number of replies that the table gives to no calls.
 fn replies_to_none(table: &mut Table<EmptyStaticAtomSet>) -> Option<usize> {
     match table.run(&[]) {
         Ok(replies) => Some(replies.len()),
@@ -199,7 +199,7 @@ fn replies_to_none(table: &mut Table<EmptyStaticAtomSet>) -> Option<usize> {
     }
 }
 
-/// How many replies a new world appends for no steps.
+/// The number of replies that a new world appends for no steps.
 fn replies_of_world(alloc: Global) -> Result<usize, Fault> {
     let mut world = World::<EmptyStaticAtomSet>::new(alloc, Limits::greatest())?;
     let mut replies = Vec::new(alloc);

@@ -1,4 +1,4 @@
-//! What each command writes of texts beyond ASCII, of large ones, and of a long word that comes again.
+//! What each command writes for texts beyond ASCII, for large ones, and for a long word that occurs again.
 
 use super::words_of_line;
 use crate::memory::Page;
@@ -14,7 +14,7 @@ use std::thread::Threads;
 use test_samples::keys;
 use text_streams::streams::Io;
 
-/// What the program writes of an input of any size under these keys, without a fault.
+/// What the program writes for an input of any size under these keys, without a fault.
 fn output_of<R: Threads + Wait + Sync + Abort>(
     rt: &R,
     alloc: Global,
@@ -66,7 +66,7 @@ const WORDS_BEYOND_ASCII: &str = "naïveté ετυμολογία\u{2003}naïvet�
 
 const TABLE_BEYOND_ASCII: &str = "key 0\ndisp 0 0\natom 81128fc18b9ccd76 café au lait\n";
 
-/// Of the table texts each after the first differs in one place from one that is answered yes.
+/// Each table text after the first differs in one place from one for which the answer is yes.
 const ROWS: [Row; 12] = [
     (
         "words",
@@ -172,7 +172,7 @@ fn beyond_ascii_under_any_keys(rt: HostRuntime) {
     }
 }
 
-/// Whether this line writes the same of the text, and something, under the keys of each number.
+/// Whether this line writes the same for the text, and not nothing, under the keys of each number.
 fn is_same_under_any<R: Threads + Wait + Sync + Abort>(
     rt: &R,
     alloc: Global,
@@ -187,7 +187,7 @@ fn is_same_under_any<R: Threads + Wait + Sync + Abort>(
     }
 }
 
-/// 1,024 different words, each of which comes twice.
+/// 1,024 different words, each of which occurs twice.
 #[test]
 fn many_words_under_any_keys(rt: HostRuntime) {
     let text = numbered_words(&rt, rt.alloc(), 2_048);
@@ -208,7 +208,7 @@ fn owned<R: Abort>(rt: &R, alloc: Global, text: &str) -> String {
     String::from_str(alloc, text).expect(rt, "room")
 }
 
-/// A text with the lines that `words` and `count` write of it.
+/// A text with the lines that `words` and `count` write for it.
 #[derive(Drop)]
 struct Told {
     text: String,
@@ -217,7 +217,7 @@ struct Told {
 }
 
 impl Told {
-    /// The one word "interned", which will come 351 times.
+    /// The one word "interned", which will occur 351 times.
     fn of_interned<R: Abort>(rt: &R, alloc: Global) -> Told {
         Told {
             text: owned(rt, alloc, "interned"),
@@ -226,7 +226,7 @@ impl Told {
         }
     }
 
-    /// Goes on with a new word, once more that word, and "interned", which came `n` times before.
+    /// Goes on with a new word, the same word again, and "interned", which occurred `n` times before.
     fn go_on<R: Abort>(&mut self, rt: &R, word: &str, n: u32) {
         write!(self.text, " {word}{n:03}\n{word}{n:03} interned").expect(rt, "room");
         write!(
@@ -238,7 +238,7 @@ impl Told {
     }
 }
 
-/// More than two megabytes: each of 350 long words comes twice, and between them the same word 351 times.
+/// More than two megabytes: each of 350 long words occurs twice, and between them the same word 351 times.
 fn two_megabytes<R: Abort>(rt: &R, alloc: Global) -> Told {
     let word = "字".repeat(alloc, 1_000).expect(rt, "room");
     let mut told = Told::of_interned(rt, alloc);
@@ -248,7 +248,7 @@ fn two_megabytes<R: Abort>(rt: &R, alloc: Global) -> Told {
     told
 }
 
-/// Whether the program writes this output of the text.
+/// Whether the program writes this output for the text.
 fn is_told<R: Threads + Wait + Sync + Abort>(
     rt: &R,
     alloc: Global,
@@ -259,7 +259,7 @@ fn is_told<R: Threads + Wait + Sync + Abort>(
     writes(rt, alloc, line, text.as_bytes(), output.as_bytes())
 }
 
-/// Whether the words are told, and counted by one worker and by three.
+/// Whether the words are listed, and counted by one worker and by three.
 fn are_told<R: Threads + Wait + Sync + Abort>(rt: &R, alloc: Global, told: &Told) -> bool {
     is_told(rt, alloc, "words", &told.text, &told.words)
         && is_told(rt, alloc, "count 1", &told.text, &told.counts)

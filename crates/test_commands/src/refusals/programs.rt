@@ -23,7 +23,7 @@ use test_samples::{EXAMPLE, EXAMPLE_COUNTS};
 use text_streams::faults::AppFault;
 use word_counts::count::{Open, WordCounts};
 
-/// Whether a call wrote its output, or a beginning of these lines till it was refused.
+/// Whether a call wrote its output, or a beginning of these lines until it was refused.
 fn is_right(first: &Outcome, lines: &[u8], output: &[u8]) -> bool {
     match End::of(&first.answer) {
         End::Given => first.is(Ok(()), output),
@@ -31,7 +31,7 @@ fn is_right(first: &Outcome, lines: &[u8], output: &[u8]) -> bool {
     }
 }
 
-/// Whether the words of the example are told over the set, in a watched call and in another.
+/// Whether the words of the example are listed over the set, in a watched call and in another.
 fn are_told_in<R: Wait + Print>(rt: &R, set: &Set<EmptyStaticAtomSet>) -> bool {
     let streams = Streams::ample(EXAMPLE);
     begin(rt);
@@ -47,7 +47,7 @@ fn words_in_a_set(rt: HostRuntime) {
     assert_that(&rt, are_told_in(&rt, &new_set(&rt, rt.alloc())));
 }
 
-/// Whether they are told in a table, in a watched call and in another.
+/// Whether they are listed in a table, in a watched call and in another.
 fn are_told_alone(rt: &impl Print, alloc: Global) -> bool {
     let streams = Streams::ample(EXAMPLE);
     begin(rt);
@@ -62,7 +62,7 @@ fn words_in_a_table(rt: HostRuntime) {
     assert_that(&rt, are_told_alone(&rt, rt.alloc()));
 }
 
-/// So many words of eight bytes, of which the first 1,024 are different and come again in turn.
+/// This many words of eight bytes, the first 1,024 of which are different and recur in turn.
 pub fn numbered_words<R: Abort>(rt: &R, alloc: Global, count: u32) -> String {
     let mut text = String::new(alloc);
     for n in 0..count {
@@ -80,7 +80,7 @@ fn many_words_in_a_table(rt: HostRuntime) {
     assert_that(&rt, answer == Ok(()));
 }
 
-/// Whether a worked script prints its output, in a watched call and in another. Where the first is refused, it prints nothing.
+/// Whether a worked script prints its output, in a watched call and in another. If the first is refused, it prints nothing.
 fn is_replayed(rt: &impl Print, alloc: Global, (script, output): (&[u8], &[u8])) -> bool {
     let streams = Streams::ample(script);
     begin(rt);
@@ -118,7 +118,7 @@ fn are_counted<R: Threads + Wait + Sync>(
     Ok(are(&counts, &EXAMPLE_COUNTS))
 }
 
-/// Whether a watched answer is yes, or tells of a refusal.
+/// Whether a watched answer is yes, or a refusal.
 fn is_yes(first: &Result<bool, AppFault>) -> bool {
     match End::of(first) {
         End::Given => *first == Ok(true),
@@ -126,7 +126,7 @@ fn is_yes(first: &Result<bool, AppFault>) -> bool {
     }
 }
 
-/// Counts the example over the set, and answers the fault that came.
+/// Counts the example over the set, and returns the fault.
 fn example_is_counted_in<R: Threads + Wait + Sync + Print + Abort>(
     rt: &R,
     set: &Set<EmptyStaticAtomSet>,
@@ -147,8 +147,7 @@ fn example_is_counted_in<R: Threads + Wait + Sync + Print + Abort>(
     first.err()
 }
 
-/// Counts the example by this many workers, and answers the fault that came. After it nothing stays linked, and the call made again
-/// gives the counts.
+/// Counts the example by this many workers, and returns the fault. After it nothing stays linked, and the call made again gives the counts.
 pub fn example_is_counted<R: Threads + Wait + Sync + Print + Abort>(
     rt: &R,
     alloc: Global,
@@ -220,7 +219,7 @@ fn many_are_right<R: Threads + Wait + Sync>(
     Ok(are_many(&counts))
 }
 
-/// Counts that text over the set, and answers the fault that came.
+/// Counts that text over the set, and returns the fault.
 fn many_are_counted_in<R: Threads + Wait + Sync + Print + Abort>(
     rt: &R,
     set: &Set<EmptyStaticAtomSet>,
@@ -237,7 +236,7 @@ fn many_are_counted_in<R: Threads + Wait + Sync + Print + Abort>(
     answer.err()
 }
 
-/// Counts a text of so many words that lists of them are worth a thread, by this many workers, and answers the fault that came.
+/// Counts a text of so many words that lists of them are worth a thread, by this many workers, and returns the fault.
 pub fn many_are_counted<R: Threads + Wait + Sync + Print + Abort>(
     rt: &R,
     alloc: Global,
@@ -255,7 +254,7 @@ fn counts_of_many_by_four(rt: HostRuntime) {
     let _ = many_are_counted(&rt, rt.alloc(), 4);
 }
 
-/// Whether the program wrote its output or, where it was refused, this line of a fault and a beginning of the output.
+/// Whether the program wrote its output or, if it was refused, this line of a fault and a beginning of the output.
 fn is_answer(answer: &Answer, output: &[u8], refusal: &[u8]) -> bool {
     if answer.status == 1 {
         answer.faults.written() == refusal && output.starts_with(answer.output.written())
@@ -288,7 +287,7 @@ fn is_answered<R: Threads + Wait + Sync + Print>(
     is_answer(&answer, output, refusal)
 }
 
-/// The whole program over a line of arguments, an input and the output that it has. Where it is refused, this line tells the fault.
+/// The whole program over a line of arguments, an input and the output that it has. If it is refused, this line reports the fault.
 pub fn line_is_run<R: Threads + Wait + Sync + Print + Abort>(
     rt: &R,
     alloc: Global,
@@ -330,7 +329,7 @@ fn program_checks_tables(rt: HostRuntime) {
     line_is_run(&rt, rt.alloc(), "check", (TABLE_TEXT, b"yes\n"), NO_MEMORY);
 }
 
-/// Whether the arguments of a line are given at last.
+/// Whether the arguments of a line are finally given.
 fn are_read(rt: &impl Print, alloc: Global) -> bool {
     match at_last(rt, || arguments_of(alloc, COUNT_LINE)) {
         Ok(Some(args)) => are_words(&args, COUNT_WORDS),

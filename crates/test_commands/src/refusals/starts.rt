@@ -1,6 +1,6 @@
-//! Workers whose threads can't be started: `gate/refused.py` refuses each start of the call in turn. Of a short text `count` starts one
-//! thread for each piece, from the last piece down, and no other; of one of many words, from four pieces on, another for half of the lists,
-//! which it can do without. With every start granted these pass as any test does.
+//! Workers whose threads can't be started: `gate/refused.py` refuses each start of the call in turn. For a short text `count` starts one thread for
+//! each piece, from the last piece down, and no other; for one of many words, from four pieces on, another for half of the lists, which it can do
+//! without. With every start granted these pass as any test does.
 
 use super::programs::{example_is_counted, line_is_run, many_are_counted};
 use crate::assert_that;
@@ -79,7 +79,7 @@ fn counts_of_many_by_three(rt: HostRuntime) {
     assert_that(&rt, matches!(fault, None | Some(AppFault::Worker)));
 }
 
-/// Where the thread for half of the lists can't be started, the counts come all the same.
+/// If the thread for half of the lists can't be started, the counts are returned all the same.
 #[test]
 fn counts_of_many_by_four(rt: HostRuntime) {
     let fault = many_are_counted(&rt, rt.alloc(), 4);
@@ -106,7 +106,7 @@ fn fault_of_two<R: Threads + Wait + Sync>(
     counted(rt, set, "interned tokenised", 2, gate).err()
 }
 
-/// Whether the fault is that of the first worker, or where that wasn't started, tells so.
+/// Whether the fault is that of the first worker or, if that wasn't started, says so.
 fn is_lower_fault<R: Threads + Wait + Sync + Print>(
     rt: &R,
     set: &Set<EmptyStaticAtomSet>,
@@ -132,7 +132,7 @@ fn is_lower_fault<R: Threads + Wait + Sync + Print>(
     fault == Some(wanted)
 }
 
-/// Whether that is so, and the atom of "interned" alone stays linked.
+/// Whether that is so, and only the atom of "interned" stays linked.
 fn lower_fault_is_told<R: Threads + Wait + Sync + Print>(
     rt: &R,
     set: &Set<EmptyStaticAtomSet>,
@@ -141,7 +141,7 @@ fn lower_fault_is_told<R: Threads + Wait + Sync + Print>(
     is_lower_fault(rt, set, &Entries::new()) && set.linked(rt) == 1 && held.eq_str("interned")
 }
 
-/// The first worker is refused a holder, since its word has its only one. Its fault is answered where it was started, whether or not the second was.
+/// The first worker is refused a holder, since its word has its only one. Its fault is returned if it was started, whether or not the second was.
 #[test]
 fn lower_fault_is_answered(rt: HostRuntime) {
     let set = set_with(&rt, rt.alloc(), 1, 9);

@@ -1,4 +1,4 @@
-//! Calls over 1,024 different dynamic words, each of which comes twice: `gate/refused.py` sees that no block is left of what they took.
+//! Calls over 1,024 different dynamic words, each of which occurs twice: `gate/refused.py` checks that no block is left of what they took.
 
 use super::programs::numbered_words;
 use crate::assert_that;
@@ -13,7 +13,7 @@ use test_refusals::{End, begin, finish};
 use test_samples::keys;
 use text_streams::faults::AppFault;
 
-/// Tells the words of a text, and keeps no line.
+/// Lists the words of a text, and keeps no line.
 fn tell<R: Wait>(rt: &R, alloc: Global, text: &str) -> Result<(), AppFault> {
     let keys = keys(1).ok_or(AppFault::Keys)?;
     words_command(
@@ -42,7 +42,7 @@ fn count_by_two<R: Threads + Wait + Sync>(
     )
 }
 
-/// Whether a watched call tells the words of the text.
+/// Whether a watched call lists the words of the text.
 fn are_told<R: Wait + Print>(rt: &R, alloc: Global, text: &str) -> bool {
     begin(rt);
     let answer = tell(rt, alloc, text);

@@ -1,4 +1,4 @@
-//! What is asked of a table by the tests of several modules. The table ends here, and not in each test: so they are proved in less time.
+//! What is asked of a table by the tests of several modules. The table ends here, and not in each test, so that they are proved in less time.
 
 use super::compared::{check_forms, check_keywords, check_three_names, check_two_names};
 use super::kept::{Plain, filled};
@@ -25,7 +25,7 @@ pub enum Question {
     Prices,
 }
 
-/// Checks what the table answers.
+/// Checks what the table returns.
 fn check_table<R: Abort>(rt: &R, alloc: Global, table: &mut Plain, question: Question) {
     match question {
         Question::Keywords => check_keywords(rt, table),
@@ -42,7 +42,7 @@ fn check_table<R: Abort>(rt: &R, alloc: Global, table: &mut Plain, question: Que
     }
 }
 
-/// Checks what a table of these names answers.
+/// Checks what a table of these names returns.
 pub fn check<R: Abort>(rt: &R, alloc: Global, names: &[&str], question: Question) {
     let mut table = filled(rt, alloc, names);
     check_table(rt, alloc, &mut table, question);

@@ -8,7 +8,7 @@ use interner_table::word::{Form, form_of};
 use std::process::Abort;
 use test_samples::keys;
 
-/// Two names, and whether they are one.
+/// Two names, and whether they are the same.
 const PAIRS: [(&str, &str, bool); 7] = [
     ("while", "while", true),
     ("while", "where", false),
@@ -28,7 +28,7 @@ fn names_have_one_word_each(rt: HostRuntime) {
     }
 }
 
-/// Whether that is what is told of a name and a keyword, and the table holds nothing after it.
+/// Whether that is what is said about a name and a keyword, and the table holds nothing after it.
 fn told_of_keyword(table: &mut Plain, name: &str, keyword: &str, wanted: bool) -> bool {
     is_keyword(table, name, keyword) == Ok(wanted) && table.entries() == 0
 }
@@ -44,7 +44,7 @@ fn keywords_are_told_and_given_back(rt: HostRuntime) {
     check(&rt, rt.alloc(), &[], Question::Keywords);
 }
 
-/// The same of two names that go in either order.
+/// The same for two names that go in either order.
 fn told_of_two(table: &mut Plain, first: &str, second: &str, wanted: bool) -> bool {
     two_come_and_go(table, first, second, true) == Ok(wanted)
         && table.entries() == 0
@@ -63,7 +63,7 @@ fn two_names_go_in_either_order(rt: HostRuntime) {
     check(&rt, rt.alloc(), &[], Question::TwoNames);
 }
 
-/// The same of a name twice, and another.
+/// The same for a name twice, and another.
 fn told_of_three(table: &mut Plain, name: &str, other: &str, wanted: bool) -> bool {
     are_one_name(table, name, name, other) == Ok(wanted) && table.entries() == 0
 }
@@ -79,7 +79,7 @@ fn three_names_are_compared(rt: HostRuntime) {
     check(&rt, rt.alloc(), &[], Question::ThreeNames);
 }
 
-/// Whether the word of a text is a ticket. `None` where it is neither that nor inline.
+/// Whether the word of a text is a ticket. `None` if it is neither that nor inline.
 fn is_dynamic(table: &mut Plain, text: &str) -> Option<bool> {
     match form_of(table.intern(text).ok()?)? {
         Form::Dynamic { .. } => Some(true),

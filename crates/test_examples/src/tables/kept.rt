@@ -20,7 +20,7 @@ const FIRST: u64 = 0x1_0840;
 /// The inline word of "abcdefg".
 const SHORT: u64 = 0x6766_6564_6362_6171;
 
-/// A table of these names, of which nothing else is known: so the proofs of tests have less to read.
+/// A table of these names, about which nothing else is known, so that the proofs of tests have less to read.
 pub fn filled<R: Abort>(rt: &R, alloc: Global, names: &[&str]) -> Plain {
     let keys = keys(1).expect(rt, "keys");
     table_of(alloc, keys, names).expect(rt, "a table")
@@ -109,7 +109,7 @@ fn memory_is_told(rt: HostRuntime) {
     assert_that(&rt, of_table(rt.alloc(), &[], takes_none_for_each));
 }
 
-/// Whether a small table takes at most so many bytes.
+/// Whether a small table takes at most this many bytes.
 fn small_takes(alloc: Global, bytes: u128) -> Option<bool> {
     match small_table(alloc) {
         Ok(table) => Some(takes_at_most(&table, bytes)),
@@ -123,7 +123,7 @@ fn a_small_table_takes_little(rt: HostRuntime) {
     assert_that(&rt, small_takes(rt.alloc(), 127) == Some(false));
 }
 
-/// Whether so many hold "pear tree" at most, which nobody holds before.
+/// Whether at most this many hold "pear tree", which nobody held before.
 fn is_full_at(table: &mut Plain, holders: u64) -> bool {
     for _ in 0..holders {
         if table.intern("pear tree").is_err() {
@@ -133,7 +133,7 @@ fn is_full_at(table: &mut Plain, holders: u64) -> bool {
     table.intern("pear tree").is_err()
 }
 
-/// Whether a table with so many holders is full at them. `None` where there is none.
+/// Whether a table with this many holders is full at them. `None` if there is none.
 fn is_limited(alloc: Global, holders: u64) -> Option<bool> {
     let keys = keys(1)?;
     match table_with_holders(alloc, keys, holders) {

@@ -87,7 +87,7 @@ fn functions_are_saved_by_word(rt: HostRuntime) {
     assert_that(&rt, of_program(rt.alloc(), finds_words));
 }
 
-/// How long the name of a function is that is declared.
+/// The length of the name of a function that is declared.
 fn length(program: &mut Program, function: &str) -> Option<usize> {
     let name = declared(program, function)?;
     program.length_of(name)

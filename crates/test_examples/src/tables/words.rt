@@ -96,13 +96,13 @@ fn a_word_is_handed_on(rt: HostRuntime) {
     check(&rt, rt.alloc(), &["pear tree"], Question::HandingOn);
 }
 
-/// Whether a word was held as it was shared, and is shared then.
+/// Whether a word was held when it was shared, and is then shared.
 fn shared(table: &mut Plain, word: u64) -> Option<(bool, bool)> {
     let was_held = share(table, word).ok()?;
     Some((was_held, is_shared(table, word)))
 }
 
-/// The same of a name's word.
+/// The same for a name's word.
 fn shared_name(table: &mut Plain, name: &str) -> Option<(bool, bool)> {
     let word = table.get(name)?;
     shared(table, word)
@@ -142,7 +142,7 @@ fn words_have_first_bytes(rt: HostRuntime) {
     check(&rt, rt.alloc(), &names, Question::FirstBytes);
 }
 
-/// Whether a name has a word, for which the table lends this text: none where it is inline.
+/// Whether a name has a word, for which the table lends this text: none if it is inline.
 fn lends(table: &Plain, name: &str, text: Option<&str>) -> bool {
     match table.get(name) {
         Some(word) => lent_text(table, word) == text,
@@ -168,7 +168,7 @@ fn one_price(alloc: Global, word: u64) -> Option<HashMap<u64, u32, RandomState>>
     Some(prices)
 }
 
-/// The price of a name, where one that the table knows has a price.
+/// The price of a name, if one that the table knows has a price.
 fn priced(alloc: Global, table: &Plain, known: &str, name: &str) -> Option<u32> {
     let prices = one_price(alloc, table.get(known)?)?;
     price_of(table, &prices, name)

@@ -5,7 +5,7 @@ use std::alloc::Global;
 use string_cache_core::Fault;
 use table_generator::check::check_tables;
 
-/// As `check_tables`. Where memory was refused, the call is made once more.
+/// As `check_tables`. If memory was refused, the call is made once more.
 pub fn checked(alloc: Global, text: &str) -> Result<bool, Fault> {
     match check_tables(alloc, text) {
         Err(_) => check_tables(alloc, text),
@@ -13,8 +13,8 @@ pub fn checked(alloc: Global, text: &str) -> Result<bool, Fault> {
     }
 }
 
-/// Names of several scripts under two pairs of displacements, as a program in Python placed them that was written from what is stated of the
-/// hash and of places, with another search.
+/// Names in several scripts under two pairs of displacements, placed by a Python program that was written from what is stated about the hash and
+/// about places, with a different search.
 const NAMES: &str = "atom ee9d42ffbc5d841a 味噌汁
 atom fd9460e8e024ebc2 gołąbki
 atom cb0d452761586807 שקשוקה

@@ -8,14 +8,14 @@ use std::process::Abort;
 use string_cache_core::Fault;
 use table_generator::tables::{GenFault, Tables};
 
-/// Whether these are perfect tables of so many texts, with so many displacements.
+/// Whether these are perfect tables of this many texts, with this many displacements.
 fn are_of(alloc: Global, tables: &Tables, texts: usize, pairs: usize) -> bool {
     tables.atoms.len() == texts
         && tables.disps.len() == pairs
         && are_checked(alloc, tables) == Ok(true)
 }
 
-/// Whether the tables of the texts are such, with a pair of displacements for each five.
+/// Whether the tables of the texts are perfect, with a pair of displacements for every five.
 fn are_placed(alloc: Global, texts: &[String]) -> Result<bool, GenFault> {
     let list = lent(alloc, texts)?;
     let tables = tables_of(alloc, &list, 0, 65_536)?;
@@ -31,7 +31,7 @@ fn two_thousand_texts(rt: HostRuntime) {
 /// Short lists, each with a key under which some pair needs a first displacement of some hundreds.
 const LATE: [(usize, u64); 4] = [(9, 41), (13, 92), (14, 18), (15, 50)];
 
-/// Whether so many texts are placed under the key.
+/// Whether this many texts are placed under the key.
 fn are_numbered_placed(alloc: Global, count: usize, key: u64) -> Result<bool, GenFault> {
     let texts = numbered(alloc, count)?;
     let tables = tables_of(alloc, &lent(alloc, &texts)?, key, 4096)?;

@@ -10,7 +10,7 @@ use std::process::Abort;
 use string_cache_core::Fault;
 use string_cache_core::word::{Buckets, Limits};
 
-/// How many parties there are, each of which sweeps a bucket of its own number.
+/// The number of parties, each of which sweeps a bucket of its own number.
 const PARTIES: u32 = 200;
 
 /// A step of the party: it takes its bucket, or leaves it.
@@ -65,7 +65,7 @@ fn an_entry_is_found_dying_three_times(rt: HostRuntime) {
     check(&rt, rt.alloc(), Limits::greatest(), &rows, &[0, 1]);
 }
 
-/// How many texts lie in the one bucket.
+/// The number of texts in the one bucket.
 const ENTRIES: u64 = 150;
 
 /// Appends what links the entry of a number, and looks at all before it.
@@ -89,7 +89,7 @@ fn push_entry(
     Ok(())
 }
 
-/// Whether so many texts are linked in the world's bucket, and stay.
+/// Whether this many texts are linked in the world's bucket, and stay.
 fn are_linked(rt: &impl Abort, alloc: Global, world: &mut Plain) -> Result<bool, Fault> {
     let (mut steps, mut wanted) = (Vec::new(alloc), Vec::new(alloc));
     for number in 1..=ENTRIES {

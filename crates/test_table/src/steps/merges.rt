@@ -48,7 +48,7 @@ impl Party {
         }
     }
 
-    /// The next party, the first coming after the third.
+    /// The next party; after the third comes the first.
     fn after(self) -> Party {
         match self {
             Party::First => Party::Second,
@@ -87,7 +87,7 @@ impl Parties {
         Some(*step)
     }
 
-    /// The next step of this party or, where it has none left, of the next one that has.
+    /// The next step of this party or, if it has none left, of the next one that has.
     fn next(&mut self, party: Party) -> Option<(u32, Do)> {
         let mut other = party;
         for _ in 0..3 {
@@ -122,7 +122,7 @@ fn steps_of(alloc: Global, merge: u32) -> Result<Vec<(u32, Do)>, AllocError> {
     Ok(steps)
 }
 
-/// The calls that replies are read as, and what a table has to reply to them.
+/// The calls that replies are read as, and what a table must reply to them.
 #[derive(Drop)]
 struct History {
     calls: Vec<Call>,
@@ -146,7 +146,7 @@ impl History {
         Ok(())
     }
 
-    /// Reads one reply. What decides is a call, and all other replies are none.
+    /// Reads one reply. A reply that decides is a call, and no other is.
     fn read(&mut self, alloc: Global, reply: StepReply) -> Result<(), AllocError> {
         let outcome = match reply {
             StepReply::Linked { entry, ticket } => {
@@ -185,7 +185,7 @@ fn held(world: &Plain) -> usize {
         .count()
 }
 
-/// Whether the table replies as the history says, and then holds so many texts.
+/// Whether the table replies as the history says, and then holds this many texts.
 fn replies_as(
     table: &mut Table<EmptyStaticAtomSet, TrustedTexts>,
     history: &History,

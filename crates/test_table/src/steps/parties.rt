@@ -21,7 +21,7 @@ fn ticket(serial: u64) -> u64 {
     (serial % SERIAL_BOUND) << 16 | 0x840
 }
 
-/// The first entry, in a pass beside two sweeps: three hold it, and then nobody.
+/// The first entry, in a pass alongside two sweeps: three hold it, and then nobody.
 fn first_rows() -> [Row; 13] {
     let [least, other, greatest] = PARTIES;
     [
@@ -56,7 +56,7 @@ fn next_rows(party: u32, before: u32) -> [Row; 7] {
     ]
 }
 
-/// Makes the rows of all entries, and appends what is replied and what has to be.
+/// Makes the rows of all entries, and appends the replies and what they must be.
 fn link_entries(
     alloc: Global,
     world: &mut Plain,
@@ -71,7 +71,7 @@ fn link_entries(
     Ok(())
 }
 
-/// Whether all replies are those that have to be.
+/// Whether all replies are as they must be.
 fn are_linked(alloc: Global, world: &mut Plain) -> Result<bool, Fault> {
     let mut given = Vec::new(alloc);
     let mut wanted = Vec::new(alloc);

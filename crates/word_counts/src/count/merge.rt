@@ -1,4 +1,4 @@
-//! Counts of several lists of words, made one.
+//! Merges the counts of several lists of words into one.
 
 ghost use Rattle.std.specs.Prelude.{◌≡◌, ◌+◌, ◌*◌, ◌^◌, ◌<◌, ◌≤◌, ◌∷◌, [], List, ℕ, IfOk, IfSome, MatchOption};
 ghost use Rattle.std.specs.List.{All};
@@ -16,7 +16,7 @@ use string_cache::{Atom, StaticTables};
 /// What is left of counts that are being merged.
 type Rest<'e, Static> = VecDeque<(Atom<'e, Static>, u64)>;
 
-/// How the first words of the two stand to each other. Where a list has none, the other's comes first.
+/// How the first words of the two compare. If a list has none, the other's comes first.
 fn order_of_first<Static: StaticTables>(
     front: &Rest<'_, Static>,
     back: &Rest<'_, Static>,
@@ -30,7 +30,7 @@ fn order_of_first<Static: StaticTables>(
     }
 }
 
-/// The pair with so many more places of its word.
+/// The pair with this many more places of its word.
 fn with_more<'e, Static: StaticTables>(
     pair: (Atom<'e, Static>, u64),
     more: u64,
@@ -110,7 +110,7 @@ fn merge_pairs<'e, Static: StaticTables>(
     Ok(merged)
 }
 
-/// The counts of the words of all lists together, merged in this thread: in pairs, and what this gives again, until one list is left.
+/// The counts of the words of all lists together, merged in this thread: in pairs, again and again, until one list is left.
 fn merge_here<'e, Static: StaticTables>(
     alloc: Global,
     lists: VecDeque<WordCounts<'e, Static>>,
@@ -125,8 +125,8 @@ fn merge_here<'e, Static: StaticTables>(
     Ok(lists.pop_front().unwrap_or(Vec::new(alloc)))
 }
 
-/// The counts of the words of both halves of the lists together. The first half is merged in a thread of its own, or in this one
-/// after the second half where none can be started.
+/// The counts of the words of both halves of the lists together. The first half is merged in a thread of its own, or in this one after the second
+/// half if none can be started.
 fn merge_halves<'e, R: Threads, Static: StaticTables + Send + Sync>(
     rt: &R,
     alloc: Global,
@@ -153,7 +153,7 @@ fn merge_halves<'e, R: Threads, Static: StaticTables + Send + Sync>(
     merge(alloc, front, back)
 }
 
-/// From so many words on it is worth a thread to merge a list of them, or to let their atoms go.
+/// The number of words from which on it is worth a thread to merge a list of them, or to let their atoms go.
 pub const MANY: usize = 1 << 10;
 
 /// Whether none of the lists is worth a thread.
@@ -161,7 +161,7 @@ fn are_short<Static: StaticTables>(lists: &VecDeque<WordCounts<'_, Static>>) -> 
     lists.iter().all(|list| list.len() < MANY)
 }
 
-/// The counts of the words of all lists together. From four lists on, of which one has many words, half of them are merged in a thread of
+/// The counts of the words of all lists together. If there are four lists or more and one has many words, half of them are merged in a thread of
 /// their own, if one can be started.
 pub fn merge_all<'e, R: Threads, Static: StaticTables + Send + Sync>(
     rt: &R,

@@ -1,4 +1,4 @@
-//! The parts of a text's words that the workers count, each told from a place near its first word on.
+//! The parts of a text's words that the workers count, each found from a place near its first word.
 
 ghost use Rattle.std.specs.Prelude.{◌≡◌, ◌≤◌, ◌<◌, ◌*◌, ◌/◌, ◌++◌, ℕ, true, drop, length, take, slice_index, vec_len, IfOk, IfSome};
 ghost use Rattle.std.specs.Char.{is_whitespace};
@@ -8,7 +8,7 @@ ghost use Rattle.word_counts.specs.Words.{words};
 use std::alloc::{AllocError, Global};
 use std::thread::{Threads, for_each_mut};
 
-/// Those words of a text from index `from` up to but not including `to`.
+/// The words of a text from index `from` up to but not including `to`.
 #[derive(Clone, Copy)]
 pub struct Part<'e> {
     pub text: &'e str,
@@ -31,10 +31,10 @@ fn white_from(bytes: &[u8], start: usize) -> Option<usize>
     None
 }
 
-/// The bytes of a section, which has those up to the next white space as well. A text of fewer isn't worth a thread.
+/// The bytes of a section, which also has those up to the next white space. A text with fewer isn't worth a thread.
 const SECTION: usize = 1 << 16;
 
-/// The text in two parts, cut between words behind the bytes of one section. Where no white space is there, the second one is empty.
+/// The text in two parts, cut between words after the bytes of one section. If there is no white space there, the second one is empty.
 fn cut_off(text: &str) -> (&str, &str)
     ensures words { words text.now ≡ words result.0.now ++ words result.1.now }
     ensures shorter { 0 < length text.now → length result.1.now < length text.now }
@@ -45,7 +45,7 @@ fn cut_off(text: &str) -> (&str, &str)
     text.split_at(cut)
 }
 
-/// A part of a text that is cut between words, the text from there on, and how many words the part has.
+/// A part of a text that is cut between words, the text from there on, and the number of words in the part.
 #[derive(Clone, Copy)]
 pub struct Section<'e> {
     own: &'e str,
@@ -72,7 +72,7 @@ pub fn sections<'e>(alloc: Global, text: &'e str) -> Result<Vec<Section<'e>>, Al
     Ok(sections)
 }
 
-/// How many words the text has.
+/// The number of words in the text.
 fn words_in(text: &str) -> usize
     ensures { result ≡ length (words text.now) }
 {
@@ -100,7 +100,7 @@ fn counted_sections<'e, R: Threads + Sync>(
     Ok(sections)
 }
 
-/// How many words all sections have.
+/// The number of words in all sections.
 fn words_of_all(sections: &[Section<'_>]) -> usize
     requires { AreSections sections.now }
     ensures { result ≡ length (words_of_sections sections.now) }
@@ -112,7 +112,7 @@ fn words_of_all(sections: &[Section<'_>]) -> usize
     words
 }
 
-/// The words of the sections from index `from` up to but not including `to`, told from the section on that has the first of them.
+/// The words of the sections from index `from` up to but not including `to`, found from the section that has the first of them.
 fn part_of<'e>(sections: &[Section<'e>], from: usize, to: usize) -> Part<'e>
     requires sections { AreSections sections.now }
     requires order { from ≤ to }
@@ -137,8 +137,7 @@ fn part_of<'e>(sections: &[Section<'e>], from: usize, to: usize) -> Part<'e>
     }
 }
 
-/// Where piece `i` ends: of `words` words it has those from index `(i - 1) * words / pieces` up to but not including
-/// `i * words / pieces`.
+/// Where piece `i` ends: of `words` words, it has those from index `(i - 1) * words / pieces` up to but not including `i * words / pieces`.
 fn end_of_piece(words: usize, pieces: u32, i: u32) -> usize
     requires some { 1 ≤ pieces }
     requires piece { i ≤ pieces }
@@ -166,8 +165,8 @@ fn pieces<'e>(alloc: Global, sections: &[Section<'e>], n: u32) -> Result<Vec<Par
     Ok(parts)
 }
 
-/// The words of the text in `n` parts, one for each worker. They are counted in at most `n` threads; one part has all of them,
-/// so that they needn't be counted for it.
+/// The words of the text in `n` parts, one for each worker. They are counted in at most `n` threads; a single part has all of them, so that they
+/// needn't be counted for it.
 pub fn parts<'e, R: Threads + Sync>(
     rt: &R,
     alloc: Global,

@@ -1,4 +1,4 @@
-//! How often words came, with an atom of each.
+//! How often words occurred, with an atom of each.
 
 ghost use Rattle.std.specs.Prelude.{◌≡◌, ◌+◌, ◌^◌, ◌<◌, List, [], ℕ, IfOk, OnOk};
 ghost use Rattle.std.specs.BTreeMap.{IsFromIterResult};
@@ -14,11 +14,11 @@ use std::collections::{BTreeMap, HashMap};
 use std::hash::RandomState;
 use string_cache::{Atom, StaticTables};
 
-/// An atom of each word and how often the word came, found by the word where it lies in the text. Words are hashed under random keys, so that
-/// nobody can choose words that collide.
+/// An atom of each word and how often the word occurred, found by the word as it is in the text. Words are hashed under random keys, so that nobody
+/// can choose words that collide.
 pub type Tally<'e, Static> = HashMap<&'e str, (Atom<'e, Static>, u64), RandomState>;
 
-/// The tally of no words, whose words will be hashed under these keys.
+/// The tally of no words. Words will be hashed under these keys.
 pub fn of_no_words<'e, Static: StaticTables>(alloc: Global, keys: RandomState) -> Tally<'e, Static>
     ensures empty { IsTallyOf [] result }
     ensures keys { hasher_of result ≡ keys }
@@ -26,7 +26,7 @@ pub fn of_no_words<'e, Static: StaticTables>(alloc: Global, keys: RandomState) -
     HashMap::with_hasher(alloc, keys)
 }
 
-/// Counts the word once more, with this atom. The atom comes back where the tally has one of the word.
+/// Counts the word once more, with this atom. Returns the atom if the tally already has one of the word.
 pub fn add<'e, Static: StaticTables>(
     tally: &mut Tally<'e, Static>,
     word: &'e str,

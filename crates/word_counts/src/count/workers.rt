@@ -26,8 +26,8 @@ impl<'e, Static: StaticTables> Promise<Result<WordCounts<'e, Static>, Fault>> fo
         IfOk result (λ counts. counted_texts counts.items ≡ word_counts (words_of_part part)) × IfErr result IsInternFault };
 }
 
-/// Interns a place of a word and counts it. The atom of a further place is held beside those of the tally, if it is dynamic:
-/// others hold nothing of the set.
+/// Interns a place of a word and counts it. The atom of a further place is held in addition to those of the tally if it is dynamic: others hold
+/// nothing of the set.
 fn intern_place<'e, R: Wait, Static: StaticTables>(
     rt: &R,
     set: &'e Set<Static>,
@@ -50,7 +50,7 @@ fn intern_place<'e, R: Wait, Static: StaticTables>(
     Ok(())
 }
 
-/// Interns the words of the part in order and counts them. The atoms of further places are held beside those of the tally.
+/// Interns the words of the part in order and counts them. The atoms of further places are held in addition to those of the tally.
 fn intern_words<'e, R: Wait, Static: StaticTables>(
     rt: &R,
     set: &'e Set<Static>,
@@ -75,8 +75,8 @@ fn intern_words<'e, R: Wait, Static: StaticTables>(
     Ok(())
 }
 
-/// What a worker does: it interns its words between the gate's two calls, and holds past both an atom of each word, and of each
-/// place of a dynamic one.
+/// What a worker does: it interns its words between the gate's two calls, and holds, beyond both, an atom of each word and of each place of a dynamic
+/// one.
 fn count_part<'e, R: Wait, Static: StaticTables, G: Gate>(
     rt: &R,
     set: &'e Set<Static>,
@@ -98,7 +98,7 @@ fn count_part<'e, R: Wait, Static: StaticTables, G: Gate>(
     Ok(counts)
 }
 
-/// The fault where a worker couldn't be started: that of the pieces below it goes before its own.
+/// The fault if a worker couldn't be started: that of the pieces below it takes precedence over its own.
 fn fault_above<Static: StaticTables>(
     below: Result<VecDeque<WordCounts<'_, Static>>, AppFault>,
 ) -> AppFault
@@ -108,7 +108,7 @@ fn fault_above<Static: StaticTables>(
     below.err().unwrap_or(AppFault::Worker)
 }
 
-/// The lists with a further one behind them. Their fault goes before its own.
+/// The lists with another one after them. Their fault takes precedence over its own.
 fn with_last<'e, Static: StaticTables>(
     lists: Result<VecDeque<WordCounts<'e, Static>>, AppFault>,
     last: Result<WordCounts<'e, Static>, Fault>,

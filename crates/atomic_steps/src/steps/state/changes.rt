@@ -1,4 +1,4 @@
-//! What changes in a state.
+//! The changes of a state.
 
 ghost use Rattle.std.specs.Prelude.{◌≡◌, ◌+◌, ◌-◌, ◌<◌, ◌≤◌, List, ℕ, [], ◌∷◌, ◌++◌, length, IfOk, OnOk, IsSome, slice_get, slice_set, Some};
 ghost use Rattle.std.specs.List.{remove};
@@ -51,7 +51,7 @@ impl State {
         self.passes.remove(at);
     }
 
-    /// The pass has looked at the entry. `Memory` changes nothing.
+    /// Notes that the pass has looked at the entry. After `Memory` nothing has changed.
     pub(super) fn look_at(&mut self, at: usize, number: u64) -> Result<(), Fault>
         requires { at < length self.old.passes }
         ensures ok { (pass : world.PartyPass) → slice_get self.old.passes at ≡ Some pass
@@ -62,7 +62,7 @@ impl State {
         pass.look_at(number)
     }
 
-    /// The pass has found the entry dying. `Memory` changes nothing.
+    /// Notes that the pass has found the entry dying. After `Memory` nothing has changed.
     pub(super) fn find_dying(&mut self, at: usize, number: u64) -> Result<(), Fault>
         requires { at < length self.old.passes }
         ensures ok { (pass : world.PartyPass) → slice_get self.old.passes at ≡ Some pass
@@ -96,7 +96,7 @@ impl State {
         Ok(())
     }
 
-    /// One holder more: the ticket, and how many hold it now.
+    /// Adds a holder. Returns the ticket, and how many hold it now.
     pub(super) fn add_share(&mut self, k: usize) -> (u64, u64)
         requires entry { k < length self.old.entries }
         requires sound { SoundTable self.old.entries self.old.lasts self.old.bag }
@@ -112,7 +112,7 @@ impl State {
         (entry.ticket, entry.count)
     }
 
-    /// One holder less: how many are left.
+    /// Takes a holder. Returns how many are left.
     pub(super) fn give_share(&mut self, k: usize) -> u64
         requires entry { k < length self.old.entries }
         requires sound { SoundTable self.old.entries self.old.lasts self.old.bag }
@@ -128,7 +128,7 @@ impl State {
         entry.count
     }
 
-    /// A new entry with the text that the pass wants: its number and its ticket. All growth comes before the first change.
+    /// Links a new entry with the text that the pass wants. Returns its number and its ticket. All growth comes before the first change.
     pub(super) fn link_entry(&mut self, at: usize, serial: u64) -> Result<(u64, u64), Fault>
         requires pass { at < length self.old.passes }
         requires below { AreWithin self.old }

@@ -13,7 +13,7 @@ use text_forms::Fault;
 use text_forms::static_sets::{StaticTables, TextForm, form_of_text};
 
 impl State {
-    /// Begins a pass of the text's bucket that wants the text.
+    /// Begins a pass over the text's bucket that wants the text.
     fn take_intern<S: StaticTables>(
         &mut self,
         party: u32,
@@ -34,7 +34,7 @@ impl State {
         Ok(StepReply::Taken)
     }
 
-    /// Begins a pass of the bucket that wants nothing.
+    /// Begins a pass over the bucket that wants nothing.
     fn take_sweep(&mut self, party: u32, number: u32) -> Result<StepReply, Fault>
         ensures ok { IfOk result (λ reply. (t : Tables) → IsStep t self.old party (Step.TakeSweep number) reply self.new) }
         ensures err { RefusesUnchanged self.old result self.new }
@@ -49,7 +49,7 @@ impl State {
         Ok(StepReply::Taken)
     }
 
-    /// One holder more of an entry with the text that the pass wants, unless it is dying or full.
+    /// Adds a holder to an entry with the text that the pass wants, unless it is dying or full.
     fn add(&mut self, party: u32, number: u64) -> Result<StepReply, Fault>
         requires { SoundTable self.old.entries self.old.lasts self.old.bag }
         ensures ok { IfOk result (λ reply. (t : Tables) → IsStep t self.old party (Step.Add number) reply self.new) }
@@ -77,7 +77,7 @@ impl State {
         Ok(StepReply::Added { ticket, holders })
     }
 
-    /// A new entry with the text that the pass wants, where each linked one of it was found dying.
+    /// Links a new entry with the text that the pass wants, if each linked one of it was found dying.
     fn link<S: StaticTables>(&mut self, party: u32, room: bool) -> Result<StepReply, Fault>
         requires { SoundWorld S.tables self.old }
         ensures ok { IfOk result (λ reply. (t : Tables) → IsStep t self.old party (Step.Link room) reply self.new) }
@@ -102,7 +102,7 @@ impl State {
         Ok(StepReply::Linked { entry, ticket })
     }
 
-    /// A step of any party, also of an idle one.
+    /// A step of any party, even an idle one.
     fn clone_entry(&mut self, number: u64) -> StepReply
         requires { SoundTable self.old.entries self.old.lasts self.old.bag }
         ensures { (t : Tables) (party : ℕ) → IsStep t self.old party (Step.Clone number) result self.new }
@@ -120,7 +120,7 @@ impl State {
         StepReply::Cloned { holders }
     }
 
-    /// A step of any party, also of an idle one.
+    /// A step of any party, even an idle one.
     fn give(&mut self, number: u64) -> StepReply
         requires { SoundTable self.old.entries self.old.lasts self.old.bag }
         ensures { (t : Tables) (party : ℕ) → IsStep t self.old party (Step.Give number) result self.new }
@@ -172,7 +172,7 @@ impl State {
         StepReply::Freed
     }
 
-    /// Ends the party's pass, where it may end.
+    /// Ends the party's pass, if it may end.
     fn leave(&mut self, party: u32) -> StepReply
         requires { AreWithin self.old }
         ensures { (t : Tables) → IsStep t self.old party Step.Leave result self.new }
@@ -187,7 +187,7 @@ impl State {
         StepReply::Left
     }
 
-    /// One step of a party. An `Err` changes nothing.
+    /// Makes one step of a party. After an `Err` nothing has changed.
     pub fn apply<S: StaticTables>(&mut self, party: u32, step: &Step) -> Result<StepReply, Fault>
         requires { SoundWorld S.tables self.old }
         ensures ok { IfOk result (λ reply. IsStep S.tables self.old party step.now reply self.new) }
