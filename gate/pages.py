@@ -5,6 +5,7 @@
 - each line of crates.txt;
 - each call that docs/CALLS.md lists, in that form and with the first sentence said of it, and there each public call of the crates that it
   is about (gate/calls.py writes these sentences);
+- what docs/DEFINITIONS.md says of definitions, with the comment of each (gate/definitions.py writes it);
 - what each link leads to: a file, and a heading in it;
 - the files that have `unsafe`, as docs/PROMISES.md lists them: no other has it, and each of them does.
 
@@ -15,6 +16,7 @@ import re
 import sys
 from pathlib import Path
 
+import definitions
 from public_calls import ROW, USE, imports, listed_calls, packed, row_of
 
 TOP = Path(sys.argv[1] if sys.argv[1:] else __file__).resolve()
@@ -99,6 +101,27 @@ def wrong_calls():
         yield CALLS, 1, None if call in seen else f"{call.owner}::{call.name} isn't listed"
 
 
+# ---- definitions
+
+
+def wrong_definitions():
+    """The lines of the page after its marker, and those that it should have."""
+    page = TOP / "docs" / "DEFINITIONS.md"
+    head, _, rest = read(page).partition(definitions.MARKER)
+    has, wanted = rest.splitlines(), list(definitions.listed(TOP))
+    for number, line in enumerate(has, head.count("\n") + 2):
+        if line not in wanted:
+            yield page, number, f"the sources don't say: {line}"
+    for line in wanted:
+        if line not in has:
+            yield page, 1, f"the sources say: {line}"
+    if has != wanted and set(has) == set(wanted):
+        yield page, 1, "the sources have another order"
+    for module in definitions.modules(TOP):
+        for name, comment in module.definitions:
+            yield page, 1, None if comment else f"{name} has no comment in {module.crate}/specs/{module.name}.antt"
+
+
 # ---- links
 
 
@@ -137,8 +160,8 @@ def main():
     all_pages = pages + sorted(TOP.glob("clients/**/README.md"))
     results = []
     for name, found in [
-        ("blocks", wrong_blocks(pages)), ("lines of crates.txt", wrong_lines(all_pages)), ("calls", wrong_calls()), ("links", wrong_links(all_pages)),
-        ("files with unsafe", wrong_unsafe()),
+        ("blocks", wrong_blocks(pages)), ("lines of crates.txt", wrong_lines(all_pages)), ("calls", wrong_calls()), ("definitions", wrong_definitions()),
+        ("links", wrong_links(all_pages)), ("files with unsafe", wrong_unsafe()),
     ]:
         found = list(found)
         for page, line, why in found:

@@ -79,10 +79,14 @@ def owner_of(step):
     return None if is_other else re.match(r"\w+", head)[0]
 
 
-def first_sentence(marks):
-    """The first sentence of a comment of lines `///`."""
-    text = " ".join(line.strip()[3:].strip() for line in marks.splitlines() if line.strip().startswith("///"))
+def first_sentence(text):
+    """The first sentence of a comment."""
     return re.split(r"(?<=[.:])\s+(?=[A-Z`])", text)[0]
+
+
+def comment_in(marks):
+    """The comment of lines `///`."""
+    return " ".join(line.strip()[3:].strip() for line in marks.splitlines() if line.strip().startswith("///"))
 
 
 def calls_in(text, is_shown, crate):
@@ -95,7 +99,7 @@ def calls_in(text, is_shown, crate):
             owner, is_trait = "", False
         elif owner is not None and (step["is_pub"] or is_trait):
             is_listed = is_shown(owner, step["name"]) and "doc(hidden)" not in step["marks"]
-            yield Call(owner, step["name"], form_of(step["form"], owner), first_sentence(step["marks"]), is_listed, crate)
+            yield Call(owner, step["name"], form_of(step["form"], owner), first_sentence(comment_in(step["marks"])), is_listed, crate)
 
 
 def calls_of(folder):
