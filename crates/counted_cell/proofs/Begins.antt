@@ -1,5 +1,5 @@
 -- A cell begins with its count at 1, and its value comes back at the end. Assumes `Logic`.
-use Rattle.std.proofs.Common.{ℕ, ◌+◌, ◌≤◌, Bool, true, [], ◌∷◌, refl, lit<}
+use Rattle.std.proofs.Common.{ℕ, ◌+◌, ◌≤◌, Bool, true, [], ◌∷◌, lit<}
 use seplogic.Ra.Ura.{Ura}
 use base.Fraction.{full_share}
 use base.FractionLaws.{Counts-all}

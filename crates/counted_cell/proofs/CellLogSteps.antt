@@ -12,7 +12,7 @@ use base.Growing.{latest, at_least, prefix_refl}
 use base.Shift.{Keyless}
 use types.Logic.{Logic, sem, lfts}
 use types.Owned.{basic}
-use types.Growing.{latest_new, latest_grows, latest_shows, at_least_dup, at_least_join}
+use types.Growing.{latest_new, latest_grows, latest_shows, latest_bounds, at_least_dup, at_least_join}
 use types.Kit.{‵, raw, ◌⊛◌, some, given, later, ◌$◌, ◌∵◌, !, qed, by, move, keep, drop, split, fsplit, fjoin, pick, learn, check, frame, show, use0, use1, use2, updating, await, now, rewrite, done}
 use denote.Sharing.{said}
 use denote.Steps.{nothing}
@@ -73,6 +73,17 @@ module _ {M : Type 1} {𝓤 : Ura M} (𝓛 : Logic 𝓤) where
       (λ same. qed 𝓛 (‵ (seen_owns γ a g) ∷ ‵ (seen_owns δ b h) ∷ []) ∵ rewrite ! 1 (λ (n : ℕ). ‵ (seen_owns n b h)) same refl $
       use2 𝓛 (given (Both a b) (‵ ftrue)) (meets γ a b g h) $ learn ! (λ both. check ! (λ _. both) $ done !))
       (λ other. qed 𝓛 (‵ (seen_owns γ a g) ∷ ‵ (seen_owns δ b h) ∷ []) ∵ check ! (λ e. absurd (other e)) $ drop ! $ drop ! $ nothing ! $ done !)
+
+  -- a log begins with what was seen of it
+  bounds : (γ : ℕ) (es a : List Entry) (g h : List CellName) → ⟦ log_owns γ es g ⟧ ∗ ⟦ seen_owns γ a h ⟧ ⊢ guard 𝓤 (IsPrefix a es) ⟦ log_owns γ es g ⟧
+  bounds γ es a g h = qed 𝓛 (‵ (log_owns γ es g) ∷ ‵ (seen_owns γ a h) ∷ []) ∵ fsplit ! $ move ! (2 ∷ []) $ fsplit ! $ move ! (2 ∷ 0 ∷ []) $
+      use2 𝓛 (given (IsPrefix a es) (‵ (latest rows full_share γ es) ⊛ ‵ (at_least rows γ a))) (latest_bounds rows 𝓛 full_share γ es a) $ learn ! (λ is. check ! is $ split ! $ keep ! (0 ∷ 3 ∷ []) $ fjoin ! $ done !)
+
+  pub bounds_if : (γ δ : ℕ) (es a : List Entry) (g h : List CellName) → ⟦ log_owns γ es g ⟧ ∗ ⟦ seen_owns δ a h ⟧ ⊢ guard 𝓤 (δ ≡ γ → IsPrefix a es) ⟦ log_owns γ es g ⟧
+  bounds_if γ δ es a g h = dite (ℕ_discrete δ γ)
+      (λ same. qed 𝓛 (‵ (log_owns γ es g) ∷ ‵ (seen_owns δ a h) ∷ []) ∵ rewrite ! 1 (λ (n : ℕ). ‵ (seen_owns n a h)) same refl $
+      use2 𝓛 (given (IsPrefix a es) (‵ (log_owns γ es g))) (bounds γ es a g h) $ learn ! (λ is. check ! (λ _. is) $ done !))
+      (λ other. qed 𝓛 (‵ (log_owns γ es g) ∷ ‵ (seen_owns δ a h) ∷ []) ∵ check ! (λ e. absurd (other e)) $ keep ! (0 ∷ []) $ done !)
 
   pub none_of : (g : List CellName) (t : CellName) (q : Share) → ⟦ all_gone g ⟧ ∗ A.lft (t.share_life ∷ []) q ⊢ guard 𝓤 (AllByRecursion (λ u. u ≢ t) g) (A.lft (t.share_life ∷ []) q)
   none_of [] t q = qed 𝓛 (‵ ftrue ∷ ‵ (flft (t.share_life ∷ []) q) ∷ []) ∵ check ! tt $ drop ! $ done !

@@ -81,6 +81,13 @@ impl CellLog {
     {
         LogSeen { mark: PhantomData }
     }
+
+    /// A law: a log begins with what was seen of it.
+    pub fn begins(&mut self, seen: &LogSeen)
+        ensures { (self.new ≡ self.old) × (seen.now.name ≡ self.old.name → IsPrefix seen.now.entries self.old.entries) }
+    {
+        let _ = seen;
+    }
 }
 
 impl LogSeen {
