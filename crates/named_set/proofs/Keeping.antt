@@ -1,10 +1,11 @@
 -- What is under the lock keeps what it states.
-use Rattle.std.proofs.Common.{◌≡◌, ◌⊎◌, inl, inr, ℕ, zero, suc, ◌+◌, ◌<◌, List, [], ◌∷◌, ◌++◌, length, slice_index_or, Some, slice_get, refl, ap, sym, ◌∙◌, arith}
+use Rattle.std.proofs.Common.{◌≡◌, ◌≢◌, ◌⊎◌, inl, inr, ℕ, zero, suc, ◌+◌, ◌<◌, List, [], ◌∷◌, ◌++◌, length, slice_index_or, Some, slice_get, refl, ap, sym, ◌∙◌, arith}
 use Rattle.std.specs.List.{AllByRecursion, Contains}
 use Rattle.std.specs.List.Sorted.{IsPermutation}
 use Rattle.std.proofs.lemmas.List.Elements.{All-from_recursion, recursion_from_All, Contains-append_right}
 use Rattle.std.proofs.lemmas.List.Sorted.{All-permutation, Contains-permutation, IsPermutation-sym}
 use Rattle.std.proofs.lemmas.Option.{slice_get_read, slice_get_within, get_or_from_slice_get}
+use mathlib.Core.List.{IsPrefix}
 use Rattle.text_forms.specs.Tables.{Tables, bucket_of, entry_hash}
 use Rattle.text_forms.specs.Word.{IsTicket, ticket_of}
 use Rattle.counted_cell.specs.Counting.{CellName}
@@ -138,6 +139,16 @@ seen_at t may logs number linked es gone s k c kept of at named e g =
       named = named ∙ ap (λ n. slice_index_or logs n 0) (sym one);
       logged = rw (one, e, g) (each_at (IsLogged number es gone) linked k c kept.logged at);
     }
+
+-- a cell that has a share, and that was seen in the log, is linked
+pub has_cell : (t : Tables) (logs : List ℕ) (number : ℕ) (linked : List Cell) (es : List Entry) (gone : List CellName) (s : LogSeen) (c : Cell) → IsKept number linked es gone → IsSeen t logs s c → IsPrefix s.entries es
+    → AllByRecursion (λ u. u ≢ c.name) gone → IsNew c.text linked → ⊥
+has_cell t logs number linked es gone s c kept seen begins lives none =
+    or (kept.settled seen.logged.place (entry_of c) (prefix_get s.entries es seen.logged.place (entry_of c) begins seen.logged.stands))
+  where
+    or : IsGone gone c.name ⊎ IsLinked (entry_of c) linked → ⊥
+    or (inl a) = a lives
+    or (inr b) = not_linked (entry_of c) linked c.text none refl b
 
 -- each linked cell of a text has the hash of the text
 pub have_hash : (t : Tables) (may : CellName → Type 0) (buckets number : ℕ) (linked : List Cell) (text : List ℕ) (hash : ℕ) → AllByRecursion (IsOf t may buckets number) linked → hash ≡ entry_hash t text → HaveHash text hash linked

@@ -140,6 +140,37 @@ impl<Static: StaticTables, N: SetName, G: Grant> Bucket<Static, N, G> {
         Answer::Absent(unspent)
     }
 
+    /// `find` of the text of a cell that is held: its share, and what was seen of the log with it, show that the cell is linked.
+    pub(crate) fn find_held<R: Wait>(
+        &mut self,
+        rt: &R,
+        held: &CellShare,
+        seen: &LogSeen,
+        grant: G,
+    ) -> Answer<G>
+        requires seen { IsSeen Static.tables N.logs seen.now held.now.cell }
+        requires here { bucket_of Static.tables (length N.logs) held.now.cell.text ≡ self.old.number }
+        ensures text { IfHeld result (λ share _. share.cell.text ≡ held.now.cell.text) }
+        ensures seen { IfHeld result (λ share seen. IsSeen Static.tables N.logs seen share.cell) }
+        ensures may { IfHeld result (λ share _. G.may share.cell.name) }
+        ensures there { IfAbsent result ⊥ }
+    {
+        let answer = self.find(rt, held.text(), held.label().hash, grant);
+        self.has(held, seen);
+        answer
+    }
+
+    // A law: a cell that is held is linked in the bucket in whose log it was seen.
+    fn has(&mut self, held: &CellShare, seen: &LogSeen)
+        requires seen { IsSeen Static.tables N.logs seen.now held.now.cell }
+        requires here { bucket_of Static.tables (length N.logs) held.now.cell.text ≡ self.old.number }
+        ensures same { self.new ≡ self.old }
+        ensures linked { IsNew held.now.cell.text self.old.linked → ⊥ }
+    {
+        self.log.begins(seen);
+        held.outlives(&self.log.seen());
+    }
+
     /// Takes out all cells that have no share left, and gives back memory if few are linked.
     pub(crate) fn sweep(&mut self)
         ensures { self.new.number ≡ self.old.number }

@@ -9,7 +9,7 @@ ghost use Rattle.counted_cell.specs.Counting.{receipt_owns};
 ghost use Rattle.text_forms.specs.Tables.{entry_hash};
 ghost use Rattle.text_forms.specs.declared.faults.Fault.TheVariants.{FullCount};
 ghost use Rattle.named_set.specs.Logged.{IsSeen};
-ghost use Rattle.named_set.specs.Words.{AreOneToOne, IsTicketOf};
+ghost use Rattle.named_set.specs.Words.{AreOneToOne, IsTicketOf, held_word};
 ghost use types.Logic.{sem};
 
 use crate::name::SetName;
@@ -190,6 +190,15 @@ impl<'s, Static: StaticTables, N: SetName> HeldCell<'s, Static, N> {
         })
     }
 
+    /// The share, and what was seen of its log, which show that the cell is linked.
+    #[inline]
+    fn evidence(&self) -> (&CellShare, &LogSeen)
+        ensures cell { held_word result.0.now.cell ≡ self.now }
+        ensures seen { IsSeen Static.tables N.logs result.1.now result.0.now.cell }
+    {
+        (&self.own.share, &self.seen)
+    }
+
     /// A law: two that are held have one word exactly if they have one text. It does nothing when it runs.
     #[inline]
     pub fn agree<'t>(&self, other: &HeldCell<'t, Static, N>)
@@ -326,6 +335,15 @@ impl<'s, Static: StaticTables, N: SetName> Held<'s, Static, N> {
         ensures { result ≡ entry_hash Static.tables self.now.text }
     {
         self.cell.text_hash()
+    }
+
+    /// The share of its cell, and what was seen of its log, which show that the cell is linked.
+    #[inline]
+    pub(crate) fn evidence(&self) -> (&CellShare, &LogSeen)
+        ensures cell { held_word result.0.now.cell ≡ self.now }
+        ensures seen { IsSeen Static.tables N.logs result.1.now result.0.now.cell }
+    {
+        self.cell.evidence()
     }
 
     /// The word, and the cell that is held.

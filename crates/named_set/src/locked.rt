@@ -6,7 +6,8 @@
 ghost use Rattle.std.specs.Prelude.{◌≡◌, length, IfErr, IfOk};
 ghost use Rattle.text_forms.specs.Faults.{IsInternFault};
 ghost use Rattle.text_forms.specs.Tables.{bucket_of, entry_hash};
-ghost use Rattle.named_set.specs.Answers.{IfHeld};
+ghost use Rattle.text_forms.specs.declared.faults.Fault.TheVariants.{Memory};
+ghost use Rattle.named_set.specs.Answers.{IfAbsent, IfHeld};
 ghost use Rattle.named_set.specs.Logged.{IsSeen};
 
 use crate::bucket::{Answer, Bucket};
@@ -92,6 +93,31 @@ impl<Static: StaticTables, N: SetName, G: Grant> LockedBucket<Static, N, G> {
             return Answer::Absent(grant);
         }
         bucket.find(rt, text, hash, grant)
+    }
+
+    /// `find` of the text of a cell that is held, whose bucket has this number: the cell is there. It would be refused for `Memory` if the
+    /// bucket behind the lock had another number.
+    pub(crate) fn find_held<R: Wait>(
+        &self,
+        rt: &R,
+        number: u16,
+        held: &CellShare,
+        seen: &LogSeen,
+        grant: G,
+    ) -> Result<Answer<G>, Fault>
+        requires seen { IsSeen Static.tables N.logs seen.now held.now.cell }
+        requires here { bucket_of Static.tables (length N.logs) held.now.cell.text ≡ number }
+        ensures text { IfOk result (λ answer. IfHeld answer (λ share _. share.cell.text ≡ held.now.cell.text)) }
+        ensures seen { IfOk result (λ answer. IfHeld answer (λ share seen. IsSeen Static.tables N.logs seen share.cell)) }
+        ensures may { IfOk result (λ answer. IfHeld answer (λ share _. G.may share.cell.name)) }
+        ensures there { IfOk result (λ answer. IfAbsent answer ⊥) }
+        ensures refused { IfErr result (λ fault. fault ≡ Memory) }
+    {
+        let mut bucket = self.lock_tidied(rt);
+        if bucket.number() != number {
+            return Err(Fault::Memory);
+        }
+        Ok(bucket.find_held(rt, held, seen, grant))
     }
 
     /// Takes out each cell that has no share left.

@@ -1,6 +1,6 @@
 //! The set: buckets with locks.
 
-ghost use Rattle.std.specs.Prelude.{◌≡◌, ◌+◌, ◌^◌, ◌≤◌, length, map, vec_len, IfErr, IfOk, IfSome, None};
+ghost use Rattle.std.specs.Prelude.{◌≡◌, ◌⊎◌, ◌+◌, ◌^◌, ◌≤◌, length, map, vec_len, IfErr, IfOk, IfSome, None};
 ghost use Rattle.std.specs.List.{AllByRecursion};
 ghost use Rattle.text_forms.specs.Faults.{IsInternFault};
 ghost use Rattle.text_forms.specs.Layout.{most_buckets};
@@ -172,6 +172,31 @@ impl<Static: StaticTables, N: SetName> NamedSet<Static, N> {
             Answer::Full(_, _) => Err(Fault::FullCount),
             Answer::Absent(_) => Ok(None),
         }
+    }
+
+    /// A held word of the text of one that is held, by a look-up of the text, as `find` does it: it is there, and is the same word.
+    ///
+    /// `FullCount` if it is held as often as the limits allow. `Memory` would be returned if the bucket behind the lock had another number
+    /// than the one that was asked for, as by `intern`; it never has.
+    pub fn find_held<'s, 't, R: Wait>(
+        &'s self,
+        rt: &R,
+        held: &Held<'t, Static, N>,
+    ) -> Result<Held<'s, Static, N>, Fault>
+        ensures word { IfOk result (λ again. again.word ≡ held.now.word) }
+        ensures text { IfOk result (λ again. again.text ≡ held.now.text) }
+        ensures refused { IfErr result (λ fault. (fault ≡ FullCount) ⊎ (fault ≡ Memory)) }
+    {
+        let (share, seen) = held.evidence();
+        let number = self.count.bucket_of(held.text_hash());
+        let bucket = &self.buckets[usize::from(number)];
+        let again = match bucket.find_held(rt, number, share, seen, FreeGrant)? {
+            Answer::Held(share, seen) => Held::new(share, seen, self),
+            Answer::Full(_, _) => return Err(Fault::FullCount),
+            Answer::Absent(_) => return Err(Fault::Memory), // never, as its clause `there` says
+        };
+        again.agree(held);
+        Ok(again)
     }
 
     /// Takes each bucket once, from the first to the last: cells without shares go.

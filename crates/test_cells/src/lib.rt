@@ -4,6 +4,8 @@
 ghost use Rattle.std.specs.Prelude.{IsTrue};
 
 #[cfg(test)]
+mod again;
+#[cfg(test)]
 mod calls;
 #[cfg(test)]
 mod cells;

@@ -1,6 +1,5 @@
 use Rattle.std.proofs.Common.{rules, ◌≡◌, ◌∷◌, [], ◌++◌, ◌∙◌, Bool, Some, slice_get, length, false, refl, if◌then◌else◌, ap, sym}
 use Rattle.std.specs.List.{list_any}
-use Rattle.std.specs.List.Sorted.{IsPermutation}
 use Rattle.std.proofs.lemmas.Option.{slice_get_read}
 use Rattle.named_set.proofs.Finding.{moved_first, moved_second, same_hash}
 use Rattle.named_set.proofs.cells.index_one.Goals as goal

@@ -1,4 +1,4 @@
-use Rattle.std.proofs.Common.{◌≡◌, sym, subst, length, Some, slice_get}
+use Rattle.std.proofs.Common.{◌≡◌, subst, length, Some, slice_get}
 use Rattle.named_set.specs.Logged.{IsOf, Kept}
 use Rattle.named_set.proofs.Rows.{each_at}
 use Rattle.named_set.proofs.bucket.Bucket.owner_at.Goals as goal
