@@ -12,6 +12,7 @@ ghost use Rattle.named_set.specs.Logged.{FoundAt, IsNew, IsSeen, LinksNoMore};
 ghost use Rattle.named_set.specs.Names.{IsEmpty};
 
 use crate::cells::Cells;
+use crate::index_key::IndexKey;
 use crate::name::SetName;
 use counted_cell::{
     AtLimit, CellLog, CellShare, Grant, Label, LogSeen, NoShares, Owner, ShareReply,
@@ -65,14 +66,14 @@ pub(crate) enum Answer<G> {
 }
 
 impl<Static: StaticTables, N: SetName, G: Grant> Bucket<Static, N, G> {
-    /// A bucket without entries, of this number, with a log without any.
-    pub(crate) fn new(alloc: Global, number: u16, log: CellLog) -> Self
+    /// A bucket without entries, of this number, with a log without any, whose index hashes under this key.
+    pub(crate) fn new(alloc: Global, number: u16, log: CellLog, key: IndexKey) -> Self
         requires name { log.name ≡ slice_index_or N.logs number 0 }
         requires number { number < most_buckets }
         requires empty { IsEmpty log }
     {
         Bucket {
-            owners: Cells::new(alloc),
+            owners: Cells::new(alloc, key),
             log,
             last: 0,
             unseen: 0,
@@ -167,8 +168,9 @@ impl<Static: StaticTables, N: SetName, G: Grant> Bucket<Static, N, G> {
         ensures same { self.new ≡ self.old }
         ensures linked { IsNew held.now.cell.text self.old.linked → ⊥ }
     {
+        let now = self.log.seen();
         self.log.begins(seen);
-        held.outlives(&self.log.seen());
+        held.outlives(&now);
     }
 
     /// Takes out all cells that have no share left, and gives back memory if few are linked.

@@ -6,6 +6,7 @@ ghost use Rattle.counted_cell.specs.Cell.{Cell};
 ghost use Rattle.named_set.specs.Linked.{HaveHash};
 ghost use Rattle.named_set.specs.Logged.{FoundAt};
 
+use crate::index_key::IndexKey;
 use crate::linked::Linked;
 use counted_cell::Owner;
 use indexmap::IndexSet;
@@ -27,7 +28,7 @@ const GROUP_BYTES: usize = 64 + GROUP_PLACES * (8 + size_of::<Owner<Global>>());
 /// counts.
 #[derive(Drop)]
 pub struct Cells {
-    by_hash: IndexSet<Linked>,
+    by_hash: IndexSet<Linked, IndexKey>,
     beside: Vec<Owner<Global>>,
     room: usize, // the most places that the index told since it was shrunk
 }
@@ -42,11 +43,12 @@ impl Model for Cells {
 }
 
 impl Cells {
-    pub(crate) fn new(alloc: Global) -> Cells
+    /// No cells. The index will hash under this key.
+    pub(crate) fn new(alloc: Global, key: IndexKey) -> Cells
         ensures { result ≡ [] }
     {
         Cells {
-            by_hash: IndexSet::new(alloc),
+            by_hash: IndexSet::with_hasher(alloc, key),
             beside: Vec::new(alloc),
             room: 0,
         }
@@ -203,7 +205,7 @@ fn index_bytes(places: usize) -> u128 {
 }
 
 // Moves into the index what lies beside it, but for cells whose hash the index has.
-fn index_each(by_hash: &mut IndexSet<Linked>, beside: &mut Vec<Owner<Global>>)
+fn index_each(by_hash: &mut IndexSet<Linked, IndexKey>, beside: &mut Vec<Owner<Global>>)
     ensures { IsPermutation (by_hash.old.keys ++ beside.old.items) (by_hash.new.keys ++ beside.new.items) }
 {
     let mut at = beside.len();
@@ -214,7 +216,7 @@ fn index_each(by_hash: &mut IndexSet<Linked>, beside: &mut Vec<Owner<Global>>)
 }
 
 // The same of the one that lies there. Those before it stay where they lie.
-fn index_one(by_hash: &mut IndexSet<Linked>, beside: &mut Vec<Owner<Global>>, at: usize)
+fn index_one(by_hash: &mut IndexSet<Linked, IndexKey>, beside: &mut Vec<Owner<Global>>, at: usize)
     requires { at < length beside.old.items }
     ensures moved { IsPermutation (by_hash.old.keys ++ beside.old.items) (by_hash.new.keys ++ beside.new.items) }
     ensures before { at ≤ length beside.new.items }
@@ -228,7 +230,7 @@ fn index_one(by_hash: &mut IndexSet<Linked>, beside: &mut Vec<Owner<Global>>, at
 }
 
 // Where one of the text stands, whose hash this is.
-fn position_by_hash(cells: &IndexSet<Linked>, text: &str, hash: u64) -> Option<usize>
+fn position_by_hash(cells: &IndexSet<Linked, IndexKey>, text: &str, hash: u64) -> Option<usize>
     requires { HaveHash text.now hash cells.now.keys }
     ensures { FoundAt cells.now.keys text.now result }
 {

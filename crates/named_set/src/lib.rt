@@ -8,6 +8,7 @@
 mod bucket;
 mod cells;
 mod held;
+mod index_key;
 mod linked;
 mod locked;
 mod name;

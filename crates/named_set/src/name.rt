@@ -4,11 +4,12 @@ ghost use Rattle.std.specs.Prelude.{◌≡◌, IfErr, IfOk};
 ghost use Rattle.named_set.specs.Names.{usual_set_bits};
 ghost use Rattle.text_forms.specs.declared.faults.Fault.TheVariants.{Memory};
 
+use crate::index_key::IndexKey;
 use counted_cell::CellLog;
 use std::alloc::Global;
 use std::marker::{Brand, Model};
-use text_forms::Fault;
 use text_forms::word::Buckets;
+use text_forms::{Fault, SipKey};
 
 /// The bits of the usual number of buckets.
 const USUAL_BITS: u8 = 8;
@@ -33,6 +34,7 @@ impl SetName for Brand {
 pub struct FreshName {
     pub(crate) logs: Vec<CellLog>,
     pub(crate) count: Buckets,
+    pub(crate) key: IndexKey,
 }
 
 impl Model for FreshName {
@@ -73,6 +75,18 @@ impl FreshName {
         Ok(FreshName {
             logs,
             count: buckets,
+            key: IndexKey::open(),
         })
+    }
+
+    /// The same name. The set that is made with it finds its texts under this key, so that those who don't know it can't choose texts which
+    /// slow it down, except by chance. Without a key a set finds them under none, which is for texts that no outsider picks.
+    pub fn under(self, key: SipKey) -> FreshName
+        ensures { result ≡ self }
+    {
+        FreshName {
+            key: IndexKey::of(key),
+            ..self
+        }
     }
 }

@@ -11,6 +11,7 @@ ghost use Rattle.named_set.specs.Words.{IsTicketOf};
 
 use crate::bucket::{Answer, Bucket};
 use crate::held::Held;
+use crate::index_key::IndexKey;
 use crate::locked::LockedBucket;
 use crate::name::{FreshName, SetName};
 use counted_cell::{CellLog, CellShare, FreeGrant, Receipt};
@@ -51,8 +52,8 @@ impl<Static: StaticTables, N: SetName> NamedSet<Static, N> {
         ensures bits { IfOk result (λ set. set.bits ≡ name.bits) }
         ensures refused { IfErr result (λ fault. fault ≡ Memory) }
     {
-        let FreshName { logs, count } = name;
-        let buckets = Self::buckets_of(alloc, logs, count)?;
+        let FreshName { logs, count, key } = name;
+        let buckets = Self::buckets_of(alloc, logs, count, key)?;
         Ok(NamedSet {
             buckets,
             count,
@@ -61,11 +62,13 @@ impl<Static: StaticTables, N: SetName> NamedSet<Static, N> {
         })
     }
 
-    // A bucket for each of the name's logs, in their order, with a lock of its own. It is refused for `Memory` alone.
+    // A bucket for each of the name's logs, in their order, with a lock of its own, whose index hashes under this key. It is refused for
+    // `Memory` alone.
     fn buckets_of(
         alloc: Global,
         mut logs: Vec<CellLog>,
         count: Buckets,
+        key: IndexKey,
     ) -> Result<Vec<LockedBucket<Static, N, FreeGrant>>, Fault>
         requires names { N.logs ≡ map (λ l. l.name) logs.items }
         requires empty { AllByRecursion IsEmpty logs.items }
@@ -74,7 +77,7 @@ impl<Static: StaticTables, N: SetName> NamedSet<Static, N> {
         ensures refused { IfErr result (λ fault. fault ≡ Memory) }
     {
         let mut buckets = Vec::with_capacity(alloc, count.number())?;
-        while let Some(bucket) = Self::last_bucket(alloc, &mut logs) {
+        while let Some(bucket) = Self::last_bucket(alloc, &mut logs, key) {
             buckets.push(LockedBucket::new(bucket))?;
         }
         buckets.reverse();
@@ -82,7 +85,11 @@ impl<Static: StaticTables, N: SetName> NamedSet<Static, N> {
     }
 
     // The bucket of the last log, which is taken off the logs.
-    fn last_bucket(alloc: Global, logs: &mut Vec<CellLog>) -> Option<Bucket<Static, N, FreeGrant>>
+    fn last_bucket(
+        alloc: Global,
+        logs: &mut Vec<CellLog>,
+        key: IndexKey,
+    ) -> Option<Bucket<Static, N, FreeGrant>>
         requires first { AreFirst N.logs logs.old.items }
         requires few { vec_len logs.old ≤ most_buckets }
         ensures first { AreFirst N.logs logs.new.items }
@@ -90,7 +97,7 @@ impl<Static: StaticTables, N: SetName> NamedSet<Static, N> {
         ensures none { result ≡ None → vec_len logs.old ≡ 0 }
     {
         let log = logs.pop()?;
-        Some(Bucket::new(alloc, logs.len() as u16, log))
+        Some(Bucket::new(alloc, logs.len() as u16, log, key))
     }
 
     /// The limits of its words' holders and of its buckets' serials.

@@ -12,6 +12,8 @@ mod cells;
 #[cfg(test)]
 mod chains;
 #[cfg(test)]
+mod keyed;
+#[cfg(test)]
 mod named;
 #[cfg(test)]
 mod named_cells;

@@ -12,9 +12,9 @@ use std::sync::Wait;
 use text_forms::static_sets::EmptyStaticAtomSet;
 use text_forms::word::{Buckets, Limits};
 
-type Named<N> = NamedSet<EmptyStaticAtomSet, N>;
+pub type Named<N> = NamedSet<EmptyStaticAtomSet, N>;
 
-type Words<'s, N> = Vec<Held<'s, EmptyStaticAtomSet, N>>;
+pub type Words<'s, N> = Vec<Held<'s, EmptyStaticAtomSet, N>>;
 
 /// The bytes of a cell with a text of eight.
 const CELL: u128 = 40 + 8;
@@ -61,7 +61,7 @@ enum Question {
 }
 
 /// A text of eight bytes, another for each number.
-fn text_of(rt: &impl Abort, alloc: Global, number: usize) -> String {
+pub fn text_of(rt: &impl Abort, alloc: Global, number: usize) -> String {
     format!(in alloc; "w{number:07}").expect(rt, "a text")
 }
 
@@ -142,14 +142,14 @@ fn index(groups: u128) -> u128 {
 }
 
 /// The bytes of so many cells with an index of so many groups.
-fn bytes_of(groups: u128, cells: u128) -> u128 {
+pub fn bytes_of(groups: u128, cells: u128) -> u128 {
     BESIDE
         .saturating_add(index(groups))
         .saturating_add(cells.saturating_mul(CELL))
 }
 
 /// Whether the set holds so many bytes beside what it held without texts.
-fn takes<N: SetName, R: Wait>(rt: &R, set: &Named<N>, empty: u128, bytes: u128) -> bool {
+pub fn takes<N: SetName, R: Wait>(rt: &R, set: &Named<N>, empty: u128, bytes: u128) -> bool {
     set.memory(rt) == empty.saturating_add(bytes)
 }
 
