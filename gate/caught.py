@@ -27,7 +27,6 @@ that is in none is told, and nothing is tried
 import argparse
 import functools
 import itertools
-import os
 import queue
 import shutil
 import sys
@@ -39,7 +38,7 @@ from pathlib import Path
 import find_tools  # has Python find the modules of gate/
 from built import CANT_BUILD, CANT_RUN, named, outcome, passes, tests_of
 from edits import BadEdit, NoSuchEdit, applied, chosen, edited, read_edit
-from machine import processors
+from machine import Turns, processors
 from programs import NotBuilt, build, outcomes
 from refuser import refuser
 from shared_builds import SharedBuild, can_share
@@ -288,41 +287,6 @@ def try_alone(edit, trials, root):
 def try_error(edit, trials, root):
     """Tries an edit that can't be built."""
     trials.tell(edit, *judge_error(edit, root))
-
-
-def processor_times():
-    """What the processors that this process may run on did so far, by kinds, in one unit: the fourth kind is idling, and the fifth waiting
-    for a disk."""
-    own = {f"cpu{number}" for number in os.sched_getaffinity(0)}
-    lines = [line.split() for line in Path("/proc/stat").read_text(encoding="ascii").splitlines()]
-    return [sum(times) for times in zip(*([int(word) for word in words[1:]] for words in lines if words[0] in own))]
-
-
-def idle_processors(seconds=2):
-    """How many processors had nothing to do, on the average of this many seconds."""
-    before = processor_times()
-    time.sleep(seconds)
-    spent = [after - earlier for earlier, after in zip(before, processor_times())]
-    return processors() * sum(spent[3:5]) / max(sum(spent), 1)
-
-
-def runs(process):
-    return process is not None and Path(f"/proc/{process}").exists()
-
-
-class Turns:
-    """Lets workers begin their tasks: one at a time, and while another process runs only where a processor is idle."""
-
-    def __init__(self, process):
-        self.process = process
-        self.lock = threading.Lock()
-
-    def wait(self):
-        with self.lock:
-            while runs(self.process) and idle_processors() < 0.9:
-                time.sleep(3)
-            if runs(self.process):
-                time.sleep(3)  # until the task that begins shows
 
 
 def works_in(trials, turns, top):

@@ -6,7 +6,7 @@ usage: gate/idle.py PID
 
 import sys
 
-from caught import Turns
+from machine import Turns
 
 if __name__ == "__main__":
     Turns(int(sys.argv[1])).wait()

@@ -1,7 +1,9 @@
-"""How many processors this process may run on, and how much memory is free."""
+"""How many processors this process may run on, how many of them are idle, and how much memory is free."""
 
 import os
 import re
+import threading
+import time
 from pathlib import Path
 
 CGROUP = Path("/sys/fs/cgroup")
@@ -38,3 +40,38 @@ def free_memory():
         if limit is not None and held is not None:
             free = min(free, limit - held)
     return free
+
+
+def processor_times():
+    """What the processors that this process may run on did so far, by kinds, in one unit: the fourth kind is idling, and the fifth waiting
+    for a disk."""
+    own = {f"cpu{number}" for number in os.sched_getaffinity(0)}
+    lines = [line.split() for line in Path("/proc/stat").read_text(encoding="ascii").splitlines()]
+    return [sum(times) for times in zip(*([int(word) for word in words[1:]] for words in lines if words[0] in own))]
+
+
+def idle_processors(seconds=2):
+    """How many processors had nothing to do, on the average of this many seconds."""
+    before = processor_times()
+    time.sleep(seconds)
+    spent = [after - earlier for earlier, after in zip(before, processor_times())]
+    return processors() * sum(spent[3:5]) / max(sum(spent), 1)
+
+
+def runs(process):
+    return process is not None and Path(f"/proc/{process}").exists()
+
+
+class Turns:
+    """Lets workers begin their tasks: one at a time, and while another process runs only where a processor is idle."""
+
+    def __init__(self, process):
+        self.process = process
+        self.lock = threading.Lock()
+
+    def wait(self):
+        with self.lock:
+            while runs(self.process) and idle_processors() < 0.9:
+                time.sleep(3)
+            if runs(self.process):
+                time.sleep(3)  # until the task that begins shows

@@ -36,8 +36,8 @@ from pathlib import Path
 import batches
 import find_tools  # has Python find the modules of tools/
 import further
-from caught import Turns, runs
 from edits import BadEdit, changes_in
+from machine import Turns, runs
 from repository import TOP, crates_listed, said_by, stands_on
 from spared import functions_told
 

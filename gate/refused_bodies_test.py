@@ -384,7 +384,7 @@ class Turn(unittest.TestCase):
     def test_a_crate_waits_until_it_is_proved(self):
         with (
             tempfile.TemporaryDirectory(prefix="refused-test-") as room,
-            mock.patch("caught.idle_processors", return_value=1),
+            mock.patch("machine.idle_processors", return_value=1),
             mock.patch("time.sleep"),
         ):
             said = Path(room) / "said"
