@@ -62,35 +62,35 @@ add() {
     fi
 }
 
-export RT_JOBS=${RT_JOBS:-$(gate/lanes.py)}
+export RT_JOBS=${RT_JOBS:-$(gate/machine/lanes.py)}
 run ci rt ci &
 ci=$!
-run caught gate/caught.py --tested --beside "$ci" > "$said/bodies" &
+run caught gate/bodies/caught.py --tested --beside "$ci" > "$said/bodies" &
 bodies=$!
 # Behind all else, which others wait for, or which has limits of time.
-run prover nice -n 19 gate/refused_bodies.py --proved --beside "$ci" --said "$said/ci" --jobs "${RT_JOBS:-2}" > "$said/edits" &
+run prover nice -n 19 gate/bodies/refused_bodies.py --proved --beside "$ci" --said "$said/ci" --jobs "${RT_JOBS:-2}" > "$said/edits" &
 edits=$!
 # What reads nothing that rt ci makes begins where that leaves a processor idle, too.
 while read -r -u 5 name script; do
-    gate/idle.py "$ci"
+    gate/machine/idle.py "$ci"
     run "$name" "gate/$script"
 done > "$said/scripts" 5<< 'END' &
-users users_test.py
-review review_test.py
-batches refused_bodies_test.py
-static static_type_test.py
+users users/users_test.py
+review bodies/review_test.py
+batches bodies/refused_bodies_test.py
+static users/static_type_test.py
 small small_test.py
-verdicts caught_test.py
+verdicts bodies/caught_test.py
 END
 scripts=$!
 wait "$ci"
 run schedules gate/schedules/schedules.py --gate --jobs 2 > "$said/scenes" &
 scenes=$!
-run refused gate/refused.py
-run pages gate/pages.py
-run many gate/count_many_test.py
-run clients gate/clients.py
-run wrong_clients gate/clients_caught.py --archive crates/string_cache_c/out/libstring_cache_c.a
+run refused gate/refusals/refused.py
+run pages gate/pages/pages.py
+run many gate/users/count_many_test.py
+run clients gate/clients/clients.py
+run wrong_clients gate/clients/clients_caught.py --archive crates/string_cache_c/out/libstring_cache_c.a
 wait "$scripts"
 cat "$said/scripts"
 wait "$bodies"

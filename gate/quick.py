@@ -15,7 +15,7 @@ import tempfile
 from concurrent.futures import ThreadPoolExecutor
 from pathlib import Path
 
-import find_tools  # has Python find the modules of tools/
+import find_modules  # has Python find the next ones
 import refused_bodies
 from built import CANT_BUILD, outcome, tests_of
 from copies import has_tests
@@ -55,7 +55,7 @@ def texts_stand(name):
 
 def clients_stand(name):
     """Whether each old text of the wrong bodies of clients stands once, and what to say."""
-    return all_stand((TOP / "gate" / "clients_caught").glob("*.edit"), TOP / name)
+    return all_stand((TOP / "gate" / "clients" / "caught").glob("*.edit"), TOP / name)
 
 
 def is_laid_out(name):

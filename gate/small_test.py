@@ -1,6 +1,6 @@
 #!/usr/bin/env python3
 """Tries what no other part of the test command tries: the pictures of docs/ are what the scripts draw of the stored figures, the number of
-checks side by side is one that the machine has processors for, gate/pages.py tells of a page of definitions that doesn't say what the sources
+checks side by side is one that the machine has processors for, gate/pages/pages.py tells of a page of definitions that doesn't say what the sources
 say, and gate/quick.py, over a small crate, passes what is right and nothing else.
 
 usage: gate/small_test.py
@@ -14,14 +14,14 @@ import unittest
 from pathlib import Path
 from unittest import mock
 
+import find_modules  # has Python find the next ones
 import definitions
-import find_tools  # has Python find the modules of tools/
 import machine
 import pages
 import quick
 import repository
+from repository import TOP
 
-TOP = Path(__file__).resolve().parent.parent
 GLANCE = re.compile(rb"subject|table 100000 |hot |live 10000 12|live 1000000 14|crowd")  # the calls of README's picture
 PICTURES = [  # the script, what it reads, which lines of that, and what it draws
     ("ratios.py", "speed.txt", None, "speed.svg"),
@@ -57,7 +57,7 @@ class Pictures(unittest.TestCase):
 
 class Machine(unittest.TestCase):
     def lanes(self):
-        return subprocess.run([TOP / "gate" / "lanes.py"], stdout=subprocess.PIPE, check=True).stdout.decode()
+        return subprocess.run([TOP / "gate" / "machine" / "lanes.py"], stdout=subprocess.PIPE, check=True).stdout.decode()
 
     def test_there_is_a_check_for_each_processor_or_no_number(self):
         self.assertIn(self.lanes(), ("", f"{machine.processors()}\n"))

@@ -1,7 +1,7 @@
-"""Wrong bodies that the tester of schedules has to find, as they are kept in crates/NAME/scheduled/*.edit (gate/edits.py reads them).
+"""Wrong bodies that the tester of schedules has to find, as they are kept in crates/NAME/scheduled/*.edit (gate/bodies/edits.py reads them).
 
 The first line of such a file is `scene: NAME`, which names the scene that shows the body to be wrong. All bodies are built side by side
-(gate/shared_builds.py), with the checks of rt try, from a copy of the repository, and from that build each gets a program of its own. Its
+(gate/bodies/shared_builds.py), with the checks of rt try, from a copy of the repository, and from that build each gets a program of its own. Its
 scene is searched as it is without the body, until an outcome is wrong. Where that doesn't compile, each half of them has a build, so that
 those which can be built no more are told.
 """

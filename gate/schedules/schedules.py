@@ -22,7 +22,7 @@ from pathlib import Path
 
 sys.dont_write_bytecode = True
 sys.path.append(str(Path(__file__).resolve().parent.parent))
-
+import find_modules  # has Python find the next ones
 import bodies_test
 import history_tests
 from bodies import GUARDS, bodies_in, try_bodies
@@ -30,9 +30,9 @@ from build import CantBuild, build
 from edits import NoSuchEdit
 from explore import MOST, Search, explore, search, searches_of
 from printed import print_schedule, print_wrong
+from repository import TOP
 from scenes import BadScene, all_scenes
 
-TOP = Path(__file__).resolve().parent.parent.parent
 PROGRAM = TOP / "crates" / "schedules" / "out" / "scheduled"
 COUNTING = TOP / "crates" / "atoms" / "out" / "scheduled"
 TEXT = "tokenised forgotten forgotten tokenised\n"  # what two workers count

@@ -1,5 +1,5 @@
-//! Calls that are refused memory. `gate/refused.py` runs each of these tests once for each request for memory that comes between the two lines
-//! printed around its call, and has that request refused. With all at hand they pass as any test does.
+//! Calls that are refused memory. `gate/refusals/refused.py` runs each of these tests once for each request for memory that comes between the two
+//! lines printed around its call, and has that request refused. With all at hand they pass as any test does.
 
 mod generated;
 mod lists;

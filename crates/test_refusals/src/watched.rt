@@ -1,5 +1,5 @@
-//! How tests watch a call that may be refused memory, or a thread. `gate/refused.py` refuses the requests between the two lines printed around the
-//! call.
+//! How tests watch a call that may be refused memory, or a thread. `gate/refusals/refused.py` refuses the requests between the two lines printed
+//! around the call.
 
 use std::io::Print;
 use string_cache::Fault;

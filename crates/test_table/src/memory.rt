@@ -1,4 +1,4 @@
-//! The bytes that a table takes. `gate/refused.py` compares the same numbers with those that an allocator is asked for.
+//! The bytes that a table takes. `gate/refusals/refused.py` compares the same numbers with those that an allocator is asked for.
 
 use crate::hashers::keys_of;
 use crate::rows::{Plain, plain, releases, reserves};

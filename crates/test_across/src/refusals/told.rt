@@ -1,4 +1,4 @@
-//! Calls whose bytes a set reports: `gate/refused.py` compares what each of these tests prints with what the call asked for.
+//! Calls whose bytes a set reports: `gate/refusals/refused.py` compares what each of these tests prints with what the call asked for.
 
 use crate::assert_that;
 use crate::begun::new_set;

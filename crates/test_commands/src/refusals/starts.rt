@@ -1,6 +1,6 @@
-//! Workers whose threads can't be started: `gate/refused.py` refuses each start of the call in turn. For a short text `count` starts one thread for
-//! each piece, from the last piece down, and no other; for one of many words, from four pieces on, another for half of the lists, which it can do
-//! without. With every start granted these pass as any test does.
+//! Workers whose threads can't be started: `gate/refusals/refused.py` refuses each start of the call in turn. For a short text `count` starts one
+//! thread for each piece, from the last piece down, and no other; for one of many words, from four pieces on, another for half of the lists, which it
+//! can do without. With every start granted these pass as any test does.
 
 use super::programs::{example_is_counted, line_is_run, many_are_counted};
 use crate::assert_that;

@@ -1,4 +1,4 @@
-//! Calls over 1,024 different dynamic words, each of which occurs twice: `gate/refused.py` checks that no block is left of what they took.
+//! Calls over 1,024 different dynamic words, each of which occurs twice: `gate/refusals/refused.py` checks that no block is left of what they took.
 
 use super::programs::numbered_words;
 use crate::assert_that;

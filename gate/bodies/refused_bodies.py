@@ -5,20 +5,21 @@ Such a file is a must-fail edit under one line more:
 
     function: Table::add_holder
 
-the end of the function's name as `rt check` prints it. The bodies of a crate share a check (gate/batches.py says what counts as refused
-there, gate/further.py how two of one function do): one that a check doesn't refuse is checked alone, and is WRONG if it isn't refused then. `rt ci` tries each edit
-of must-fail/ in a check of its own, and takes any refusal, wherever it is.
+the end of the function's name as `rt check` prints it. The bodies of a crate share a check (gate/bodies/batches.py says what counts as
+refused there, gate/bodies/further.py how two of one function do): one that a check doesn't refuse is checked alone, and is WRONG if it isn't
+refused then. `rt ci` tries each edit of must-fail/ in a check of its own, and takes any refusal, wherever it is.
 
 Each crate is proved as it stands first, unless --proved says that `rt ci` has just done so. A crate is also WRONG where a check refuses a
 function that no body changes at a goal of its own.
 
 With --said FILE, which has what this `rt ci` said, checks are spared the functions that it says are proved and no body changes
-(gate/spared.py). With --beside PID, too, while that process runs, which is the `rt ci` that writes to this file, a crate is tried once it says
+(gate/bodies/spared.py). With --beside PID, too, while that process runs, which is the `rt ci` that writes to this file, a crate is tried once it says
 that the crate is proved, and if a processor is idle.
 
 What passed is kept in ~/.cache/jatzurbin, by a sum of all that was read: a later run tries only what changed. --anew tries all.
 
-usage: gate/refused_bodies.py [--jobs N] [--proved [--said FILE [--beside PID]]] [--anew] [CRATE ..]     without names: all crates that have such bodies
+usage: gate/bodies/refused_bodies.py [--jobs N] [--proved [--said FILE [--beside PID]]] [--anew] [CRATE ..]     without names: all crates that
+have such bodies
 """
 
 import argparse
@@ -33,8 +34,9 @@ import time
 from concurrent.futures import ThreadPoolExecutor
 from pathlib import Path
 
+sys.path.append(str(Path(__file__).resolve().parent.parent))
+import find_modules  # has Python find the next ones
 import batches
-import find_tools  # has Python find the modules of tools/
 import further
 from edits import BadEdit, changes_in
 from machine import Turns, runs

@@ -5,7 +5,7 @@ and else nothing, so that rt counts for itself.
 rt guesses a check's memory from the lines that it reads, some twice what the largest check so far took (5.5 GB, of atoms with their
 tests in one crate), and has checks wait for one another by that guess. It does not where RT_JOBS holds a number.
 
-usage: RT_JOBS=$(gate/lanes.py) rt ci
+usage: RT_JOBS=$(gate/machine/lanes.py) rt ci
 """
 
 from machine import free_memory, processors

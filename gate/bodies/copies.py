@@ -7,7 +7,6 @@ import sys
 from importlib.machinery import SourceFileLoader
 from importlib.util import module_from_spec, spec_from_loader
 
-import find_tools  # has Python find the next ones
 from programs import kit
 from repository import TOP
 

@@ -12,16 +12,16 @@ The file has a body after another, each with a name of its own:
 
 The function is named by the end of its name as `rt check` prints it. TEXT is one line, and the old one stands once in its file; more
 pairs, and lines 'file:', may follow, all in the body of that function. Bodies of different functions of a crate share a check
-(gate/batches.py), and one that its own function doesn't refuse is checked once more alone, with all that calls it. Those that nothing
-refused are built beside the bodies that they replace (gate/shared_builds.py), and the tests that see their crate are run with each, plainly
+(gate/bodies/batches.py), and one that its own function doesn't refuse is checked once more alone, with all that calls it. Those that nothing
+refused are built beside the bodies that they replace (gate/bodies/shared_builds.py), and the tests that see their crate are run with each, plainly
 and with requests refused; a test that fails has to pass without the body, and one that doesn't end is run without the body too, and again
 with it where that takes long. What is proved and passes them all is printed last: nothing
-holds it. The exports of string_cache_c have their tests in gate/clients.py, which is run over a library with the body.
+holds it. The exports of string_cache_c have their tests in gate/clients/clients.py, which is run over a library with the body.
 
 A body that can't be read, proved or built is NOT CHECKED: it ends nothing, and counts in the status. So is one whose first line isn't
 'body: NAME', and each of those that have one name.
 
-usage: gate/review.py FILE
+usage: gate/bodies/review.py FILE
 """
 
 import argparse
@@ -32,18 +32,18 @@ from collections import Counter
 from dataclasses import dataclass, field
 from pathlib import Path
 
+sys.path.append(str(Path(__file__).resolve().parent.parent))
+import find_modules  # has Python find the next ones
 import batches
-import find_tools  # has Python find the modules of tools/
 from built import CANT_BUILD, tests_of
 from caught import FailsWithout, Own, fails, right_refused
 from copies import copy_with_work, has_tests
 from edits import BadEdit, applied, changes_in
 from programs import build
 from refuser import refuser
-from repository import crates_listed, said_by, stands_on
+from repository import TOP, crates_listed, said_by, stands_on
 from shared_builds import SharedBuild, can_share
 
-TOP = Path(__file__).resolve().parent.parent
 SECONDS = 60  # for one test, or longer where it takes so long without the body
 SAID = 400  # how much is told of what was said
 LIBRARY = "string_cache_c"  # its tests are programs in other languages
@@ -210,13 +210,13 @@ def seeing(listed, crate):
 
 
 def seen_by_clients(body, root):
-    """What gate/clients.py says is wrong with the library that has this body, or None."""
+    """What gate/clients/clients.py says is wrong with the library that has this body, or None."""
     with tempfile.TemporaryDirectory(prefix="review-") as room, applied(body, root):
         status, said = said_by(root / "tools" / "c_library.sh", room, folder=root)
         if status:
             raise OSError(f"the library with it isn't built: {said}")
-        status, said = said_by(root / "gate" / "clients.py", "--library", room, folder=root)
-    return next((line for line in said.splitlines() if "WRONG" in line), "gate/clients.py") if status else None
+        status, said = said_by(root / "gate" / "clients" / "clients.py", "--library", room, folder=root)
+    return next((line for line in said.splitlines() if "WRONG" in line), "gate/clients/clients.py") if status else None
 
 
 def held_by_nothing(bodies, root, review):

@@ -2,19 +2,22 @@
 """Writes into docs/DEFINITIONS.md, after its marker, what the comments in crates/*/specs say of each definition that another file uses, or that
 docs/PROMISES.md or the README of its crate names: a section for each crate and module, in the order of crates.txt, and a line for each name.
 What is above the marker stays. A module whose head says that it is for private contracts is left out, and so is a definition whose comment says
-so. gate/pages.py sees that the page has what the sources say, and that each of these definitions has a comment.
+so. gate/pages/pages.py sees that the page has what the sources say, and that each of these definitions has a comment.
 
-usage: gate/definitions.py
+usage: gate/pages/definitions.py
 """
 
 import re
+import sys
 from dataclasses import dataclass
 from pathlib import Path
 
+sys.path.append(str(Path(__file__).resolve().parent.parent))
+import find_modules  # has Python find the next ones
 from public_calls import first_sentence
+from repository import TOP
 
-TOP = Path(__file__).resolve().parent.parent
-MARKER = "<!-- What follows is written by gate/definitions.py. -->\n"
+MARKER = "<!-- What follows is written by gate/pages/definitions.py. -->\n"
 
 DEFINITION = re.compile(r"^(?: *(?:abbrev|unfoldable) pub|pub(?: record| data)?(?= \S+ .*:)| *pub (?:record|data)) (\S+)", re.M)
 IMPORT = re.compile(r"Rattle\.\w+\.specs\.(\w+)\.\{([^}]*)\}")

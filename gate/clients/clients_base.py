@@ -6,7 +6,8 @@ import subprocess
 from dataclasses import dataclass
 from pathlib import Path
 
-TOP = Path(__file__).resolve().parent.parent
+from repository import TOP
+
 CLIENTS = TOP / "clients"
 C = CLIENTS / "c"
 SECONDS = 600  # for one command

@@ -1,9 +1,9 @@
 #!/usr/bin/env python3
 """Tries the scripts by which a user begins: a repository of each kind that tools/begin.py makes, whose example has to print by `rt try`
-what is stored of it, and one of crates that are named, and the program that tools/try_atoms.py leaves, over its stored text and a large one, and without random bytes.
-Each script of tools/ is asked for help, too.
+what is stored of it, and one of crates that are named, and the program that tools/try_atoms.py leaves, over its stored text and a large one, and
+without random bytes. Each script of tools/ is asked for help, too.
 
-usage: gate/users_test.py
+usage: gate/users/users_test.py
 """
 
 import os
@@ -14,10 +14,11 @@ import threading
 import unittest
 from pathlib import Path
 
-import find_tools  # has Python find the next one
+sys.path.append(str(Path(__file__).resolve().parent.parent))
+import find_modules  # has Python find the next ones
 from programs import compiler, end_hint, kit
+from repository import TOP
 
-TOP = Path(__file__).resolve().parent.parent
 TOOLS = TOP / "tools"
 WORDS = 200_000  # of a text of more than a megabyte, which `rt try` doesn't take
 

@@ -4,7 +4,7 @@ gate/schedules finds: what such a file says, and what it makes of a copy of the 
 The first line says what has to come of the body:
 
     test: FUNCTION      this test of the crate fails
-    refused: FUNCTION   this test, of a module `refusals`, is WRONG for gate/refused.py
+    refused: FUNCTION   this test, of a module `refusals`, is WRONG for gate/refusals/refused.py
     error: TEXT         the compiler says this
     scene: NAME         an outcome of this scene of gate/schedules/scenes.txt is wrong
 

@@ -1,4 +1,4 @@
-"""Runs a test with requests for memory, or starts of threads, refused, and judges what came of it (gate/refused.py says how)."""
+"""Runs a test with requests for memory, or starts of threads, refused, and judges what came of it (gate/refusals/refused.py says how)."""
 
 import os
 import subprocess
@@ -7,7 +7,6 @@ import time
 from dataclasses import dataclass
 from pathlib import Path
 
-import find_tools  # has Python find the next one
 from programs import compiler, kit
 
 SECONDS = 60  # for one run, where nothing else is said

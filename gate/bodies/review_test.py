@@ -1,8 +1,8 @@
 #!/usr/bin/env python3
-"""Sees gate/review.py tell wrong bodies of a small crate apart: one that the prover refuses, one that is proved and fails a test, one that
+"""Sees gate/bodies/review.py tell wrong bodies of a small crate apart: one that the prover refuses, one that is proved and fails a test, one that
 can't be built, and one that changes no meaning, which alone is reported as held by nothing.
 
-usage: gate/review_test.py
+usage: gate/bodies/review_test.py
 """
 
 import contextlib
@@ -14,6 +14,8 @@ import unittest
 from pathlib import Path
 from unittest import mock
 
+sys.path.append(str(Path(__file__).resolve().parent.parent))
+import find_modules  # has Python find the next ones
 import caught
 import review
 from small_repository import InSmallRepository

@@ -1,5 +1,5 @@
 /*
- * Preloaded by gate/refused.py over a built test: counts the requests between the two lines "== .." that the test writes on its
+ * Preloaded by gate/refusals/refused.py over a built test: counts the requests between the two lines "== .." that the test writes on its
  * standard output, those for memory or, where REFUSE_WHAT is `starts`, the starts of threads, and refuses those from number
  * REFUSE_FIRST to REFUSE_LAST. At the end it writes five numbers to the file descriptor REFUSE_REPORT: the requests, how many were
  * refused, how many blocks more the program had after the call than before it, how many it still had when it ended, and how many bytes

@@ -2,7 +2,6 @@
 
 import subprocess
 
-import find_tools  # has Python find the modules of tools/
 from edits import ends_in
 from programs import NotBuilt
 

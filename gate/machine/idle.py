@@ -1,7 +1,7 @@
 #!/usr/bin/env python3
 """Waits while this process runs and leaves no processor idle.
 
-usage: gate/idle.py PID
+usage: gate/machine/idle.py PID
 """
 
 import sys

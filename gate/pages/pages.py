@@ -4,23 +4,25 @@
 - each item of a Rust block, with its contract or without one, each name that it imports, and each answer of a proof;
 - each line of crates.txt;
 - each call that docs/CALLS.md lists, in that form and with the first sentence said of it, and there each public call of the crates that it
-  is about (gate/calls.py writes these sentences);
-- what docs/DEFINITIONS.md says of definitions, with the comment of each (gate/definitions.py writes it);
+  is about (gate/pages/calls.py writes these sentences);
+- what docs/DEFINITIONS.md says of definitions, with the comment of each (gate/pages/definitions.py writes it);
 - what each link leads to: a file, and a heading in it;
 - the files that have `unsafe`, as docs/PROMISES.md lists them: no other has it, and each of them does.
 
-usage: gate/pages.py [TOP]     of this repository, or of the one in that folder
+usage: gate/pages/pages.py [TOP]     of this repository, or of the one in that folder
 """
 
 import re
 import sys
 from pathlib import Path
 
+sys.path.append(str(Path(__file__).resolve().parent.parent))
+import find_modules  # has Python find the next ones
 import definitions
+import repository
 from public_calls import ROW, USE, imports, listed_calls, packed, row_of
 
-TOP = Path(sys.argv[1] if sys.argv[1:] else __file__).resolve()
-TOP = TOP if TOP.is_dir() else TOP.parent.parent
+TOP = Path(sys.argv[1]).resolve() if sys.argv[1:] else repository.TOP
 CRATES = TOP / "crates"
 CALLS = TOP / "docs" / "CALLS.md"
 PROMISES = TOP / "docs" / "PROMISES.md"

@@ -19,7 +19,6 @@ An edit can share where it changes no more than what stands between the braces o
 import contextlib
 import subprocess
 
-import find_tools  # has Python find the modules of tools/
 from edits import FUNCTION, edited, replaced
 from programs import TESTS, compiler, kit, link, object_of
 

@@ -2,17 +2,17 @@
 """Refuses memory, and starts of threads, to the calls that the tests in crates/NAME/src/refusals watch, one request after another.
 
 Each such test makes one call between two lines of its output. It is run once for each request for memory of that call, with that one
-refused, until a run meets none left (gate/refuse.c, preloaded, counts and refuses): the call has to say that memory was refused, has
+refused, until a run meets none left (gate/refusals/refuse.c, preloaded, counts and refuses): the call has to say that memory was refused, has
 to keep none where it says no more, and the test then sees that the call made again gives what it gives the first time. A test of
 `starts` is run once for each thread that the call starts, with that start refused, in the same way. A test of `unasked` is run once with
 every request for memory refused, and may meet none. A test of `told` is run once with none refused, and prints as a line `-- N bytes` how
 many bytes the call asked for, as the library tells. A test of `whole` is run once with none refused, and keeps no block that it got.
 However a test ends, the program has given back all that it got.
 
-The tests are those that `rt ci`, or `rt test` in such a crate, proved and built last. (gate/caught.py judges wrong bodies by the same
+The tests are those that `rt ci`, or `rt test` in such a crate, proved and built last. (gate/bodies/caught.py judges wrong bodies by the same
 tests, built without proofs.)
 
-usage: gate/refused.py [--jobs N] [WORD..]     with words: only the tests whose names contain one of them
+usage: gate/refusals/refused.py [--jobs N] [WORD..]     with words: only the tests whose names contain one of them
 """
 
 import argparse
@@ -22,10 +22,12 @@ import tempfile
 from concurrent.futures import ThreadPoolExecutor
 from pathlib import Path
 
+sys.path.append(str(Path(__file__).resolve().parent.parent))
+import find_modules  # has Python find the next ones
 from machine import processors
 from refuser import refuser
+from repository import TOP
 
-TOP = Path(__file__).resolve().parent.parent
 CRATES = sorted(path.parent.parent for path in TOP.glob("crates/*/src/refusals.rt"))  # those that have such tests
 
 def tests_of(crate):

@@ -8,7 +8,7 @@ builds of one write the same, byte for byte:
 
 All is built in the folder ROOM, without a network. Where Debian's package of one isn't there, a line says so, and nothing else is done for it.
 
-usage: gate/real_client.py LIBRARY ROOM [NAME..]     LIBRARY is a folder that tools/c_library.sh filled; with names only these programs
+usage: gate/clients/real_client.py LIBRARY ROOM [NAME..]     LIBRARY is a folder that tools/c_library.sh filled; with names only these programs
 """
 
 import os
@@ -18,7 +18,7 @@ import subprocess
 import sys
 from pathlib import Path
 
-TOP = Path(__file__).resolve().parent.parent
+TOP = Path(__file__).resolve().parents[2]
 REGISTRY = Path("/usr/share/cargo/registry")
 DOCUMENTS = Path("/usr/share/doc")
 HTML, TENDRIL, LALRPOP = (REGISTRY / name for name in ("html5ever-0.26.0", "tendril-0.4.0", "lalrpop-0.19.8"))

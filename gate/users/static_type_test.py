@@ -2,7 +2,7 @@
 """The tests of tools/static_type.py: the types that lie in this repository are what it writes, what it writes is in `rt fmt`'s layout, lists
 that give no type are refused, and whole calls of it write what they have to, or nothing.
 
-usage: gate/static_type_test.py
+usage: gate/users/static_type_test.py
 """
 
 import contextlib
@@ -11,7 +11,8 @@ import sys
 import tempfile
 from pathlib import Path
 
-import find_tools  # has Python find the next ones
+sys.path.append(str(Path(__file__).resolve().parent.parent))
+import find_modules  # has Python find the next ones
 from static_forms import MANY, MOST_PACKED, MOST_PRODUCT, Listed, Name, Packed, Refused, Tables, read
 from static_type import TOP, alias_of, listed_of, names_of
 

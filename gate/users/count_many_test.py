@@ -5,7 +5,7 @@ Each row is a text in files: what is printed, the fault and whether there is a s
 the whole text. Then pieces go missing, are cut short or unreadable, machines fail, and a run is broken off and resumed. Rows that
 need GNU parallel, sshd or dask are skipped where they aren't there, and the output says so.
 
-usage: gate/count_many_test.py [WORD..]     with words: only the rows whose names contain one of them
+usage: gate/users/count_many_test.py [WORD..]     with words: only the rows whose names contain one of them
 """
 
 import os
@@ -19,7 +19,7 @@ import tempfile
 import time
 from pathlib import Path
 
-TOOLS = Path(__file__).resolve().parent.parent / "tools"
+TOOLS = Path(__file__).resolve().parents[2] / "tools"
 ATOMS = TOOLS.parent / "crates" / "atoms" / "out" / "atoms"
 COUNT_MANY, MERGE, MAPPER, DASK = (TOOLS / name for name in ("count_many.py", "merge_counts.py", "count_mapper.sh", "count_dask.py"))
 SECONDS = 120  # for one command

@@ -1,14 +1,14 @@
 #!/usr/bin/env python3
-"""Tries the wrong bodies that no contract sees (crates/NAME/caught/*.edit; gate/edits.py has what such a file says).
+"""Tries the wrong bodies that no contract sees (crates/NAME/caught/*.edit; gate/bodies/edits.py has what such a file says).
 
 They are applied to copies of the repository, and the tests are built there without proofs: all bodies for the tests of one crate side by
-side in one build, from which each body gets a program of its own (gate/shared_builds.py). One that changes more than bodies of functions,
+side in one build, from which each body gets a program of its own (gate/bodies/shared_builds.py). One that changes more than bodies of functions,
 or doesn't compile beside its own, has a build to itself.
 
 - 'test: FUNCTION' has to fail, or not to end in thirty times as long as it takes without the body (in ten seconds at least; in a minute at
   most, or in five times as long where that is more). What threads do wrong may not show at once, so a test that passes is run again until
   a minute has gone. It has to pass as often in the same build without the body.
-- 'refused: FUNCTION', a test of a module `refusals`, has to be found WRONG as gate/refused.py judges it, has to pass where nothing is
+- 'refused: FUNCTION', a test of a module `refusals`, has to be found WRONG as gate/refusals/refused.py judges it, has to pass where nothing is
   refused, and has to be found right in the same build without the body.
 - 'error: TEXT': the compiler has to say this, where a type alone forbids the body.
 
@@ -16,11 +16,11 @@ What hasn't ended in its time may only have met with other work. So the test is 
 longer by what that took, the body is tried once more.
 
 Each named test has to pass, or to be found right, over the crate as it is: built once more, with no body beside its own. With --tested it
-isn't built for that: `rt ci` and gate/refused.py, which run all these tests, say so.
+isn't built for that: `rt ci` and gate/refusals/refused.py, which run all these tests, say so.
 
 With --beside PID no build is begun, while that process runs, unless a processor is idle.
 
-usage: gate/caught.py [--jobs N] [--tested] [--beside PID] [WORD..]     with words: only the edits whose paths contain one of them; a word
+usage: gate/bodies/caught.py [--jobs N] [--tested] [--beside PID] [WORD..]     with words: only the edits whose paths contain one of them; a word
 that is in none is told, and nothing is tried
 """
 
@@ -35,12 +35,14 @@ import threading
 import time
 from pathlib import Path
 
-import find_tools  # has Python find the modules of gate/
+sys.path.append(str(Path(__file__).resolve().parent.parent))
+import find_modules  # has Python find the next ones
 from built import CANT_BUILD, CANT_RUN, named, outcome, passes, tests_of
 from edits import BadEdit, NoSuchEdit, applied, chosen, edited, read_edit
 from machine import Turns, processors
 from programs import NotBuilt, build, outcomes
 from refuser import refuser
+from repository import TOP
 from shared_builds import SharedBuild, can_share
 
 SECONDS = 60  # at most for one run with a wrong body, which may hang, and for all runs of a test that passes
@@ -341,14 +343,13 @@ def main():
     parser.add_argument("--beside", type=int, metavar="PID")
     parser.add_argument("words", nargs="*")
     given = parser.parse_args()
-    top = Path(__file__).resolve().parent.parent
     try:
-        edits, bad = read_edits(top, given.words)
+        edits, bad = read_edits(TOP, given.words)
     except NoSuchEdit as why:
         sys.exit(f"caught: {why}")
     trials, turns = Trials(), Turns(given.beside)
     expected = bad + add_tasks(edits, trials, given.tested)
-    workers = [threading.Thread(target=works_in, args=(trials, turns, top)) for _ in range(max(1, given.jobs))]
+    workers = [threading.Thread(target=works_in, args=(trials, turns, TOP)) for _ in range(max(1, given.jobs))]
     for worker in workers:
         worker.start()
     for worker in workers:

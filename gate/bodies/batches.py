@@ -19,7 +19,6 @@ import shutil
 from dataclasses import dataclass, field
 from pathlib import Path
 
-import find_tools  # has Python find the modules of tools/
 from copies import crates, linked
 from edits import BadEdit, replaced
 from functions import function_at

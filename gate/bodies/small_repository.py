@@ -7,7 +7,6 @@ from unittest import mock
 
 import batches
 import copies
-import find_tools  # has Python find the next one
 import repository
 
 

@@ -1,8 +1,8 @@
 #!/usr/bin/env python3
-"""Tries what gate/caught.py says of wrong bodies: of programs that are written here, which pass or fail as it is asked, and of edits of
+"""Tries what gate/bodies/caught.py says of wrong bodies: of programs that are written here, which pass or fail as it is asked, and of edits of
 a small crate, which are built side by side, and of which some show in no test.
 
-usage: gate/caught_test.py
+usage: gate/bodies/caught_test.py
 """
 
 import itertools
@@ -15,12 +15,14 @@ from pathlib import Path
 from types import SimpleNamespace
 from unittest import mock
 
+sys.path.append(str(Path(__file__).resolve().parent.parent))
+import find_modules  # has Python find the next ones
 import caught
-import find_tools  # has Python find the modules of gate/
 import refuser
 import shared_builds
 from edits import read_edit
 from programs import NotBuilt
+from repository import TOP
 
 # A program whose tests::one and tests::other end with the digits in the files of their names, a digit a run. Two more tests have one
 # name, and are never run.
@@ -236,12 +238,12 @@ class Words(unittest.TestCase):
     def test_a_word_that_is_in_no_path_is_told(self):
         bodies, scenes = "no wrong body has this in its path: nowhere", "no scene has this in its name: nowhere"
         for script, options, text in (
-            ("caught.py", ["--tested", "--jobs", "1"], bodies),
-            ("clients_caught.py", ["--archive", "nothing"], bodies),
+            ("bodies/caught.py", ["--tested", "--jobs", "1"], bodies),
+            ("clients/clients_caught.py", ["--archive", "nothing"], bodies),
             ("schedules/schedules.py", ["--bodies"], bodies),
             ("schedules/schedules.py", [], scenes),
         ):
-            command = [Path(__file__).resolve().parent / script, *options, "e", "nowhere"]
+            command = [TOP / "gate" / script, *options, "e", "nowhere"]
             ran = subprocess.run(command, stdout=subprocess.PIPE, stderr=subprocess.STDOUT, check=False)
             said = ran.stdout.decode()
             self.assertEqual((ran.returncode, text in said), (1, True), said)

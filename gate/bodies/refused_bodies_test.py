@@ -1,9 +1,9 @@
 #!/usr/bin/env python3
-"""Tries what gate/refused_bodies.py says of wrong bodies: where a text stands, what a check's lines mean, and, of a small crate that is
+"""Tries what gate/bodies/refused_bodies.py says of wrong bodies: where a text stands, what a check's lines mean, and, of a small crate that is
 proved, which bodies count as refused. Those that must not are of the same meaning, break a name that a proof cites, lie outside their
 function, or don't compile.
 
-usage: gate/refused_bodies_test.py
+usage: gate/bodies/refused_bodies_test.py
 """
 
 import os
@@ -14,6 +14,8 @@ from pathlib import Path
 from types import SimpleNamespace
 from unittest import mock
 
+sys.path.append(str(Path(__file__).resolve().parent.parent))
+import find_modules  # has Python find the next ones
 import batches
 import further
 import refused_bodies

@@ -1,12 +1,13 @@
 #!/usr/bin/env python3
-"""Sees that the tests of clients catch wrong bodies: those of gate/clients_caught/*.edit, each by the row of gate/clients.py that it names.
+"""Sees that the tests of clients catch wrong bodies: those of gate/clients/caught/*.edit, each by the row of gate/clients/clients.py that it names.
 
 Such a file has a line 'row: NAME', and then, as a must-fail edit, lines 'file: ..' (below clients), 'old: TEXT' and 'new: TEXT': the text, which
 stands once, is replaced in a copy, the library is built over that, and the row has to fail, which passes over the copy as it is.
 The exports are those of one archive, which is proved and built at the beginning.
 
-usage: gate/clients_caught.py [--archive FILE] [--jobs N] [WORD..]     with an archive that `rt lib` made: nothing is proved; with words: only
-the bodies whose names have one of them; a word that is in none is told, and nothing is tried. Bodies whose row needs a tool that isn't there are skipped.
+usage: gate/clients/clients_caught.py [--archive FILE] [--jobs N] [WORD..]     with an archive that `rt lib` made: nothing is proved; with
+words: only the bodies whose names have one of them; a word that is in none is told, and nothing is tried. Bodies whose row needs a tool that
+isn't there are skipped.
 """
 
 import argparse
@@ -19,11 +20,13 @@ import tempfile
 from concurrent.futures import ThreadPoolExecutor
 from pathlib import Path
 
+sys.path.append(str(Path(__file__).resolve().parent.parent))
+import find_modules  # has Python find the next ones
 from edits import BadEdit, NoSuchEdit, changed, changes_in, chosen
 from machine import processors
+from repository import TOP
 
-TOP = Path(__file__).resolve().parent.parent
-BODIES = TOP / "gate" / "clients_caught"
+BODIES = TOP / "gate" / "clients" / "caught"
 ARCHIVE = TOP / "crates" / "string_cache_c" / "out" / "libstring_cache_c.a"
 SECONDS = 900  # for one row
 # Most of what a row in Rust takes is the optimiser's work, and here no row is about that.
@@ -49,7 +52,7 @@ def passes(copy, archive, row):
     how = {"stdin": subprocess.DEVNULL, "stdout": subprocess.PIPE, "stderr": subprocess.STDOUT, "timeout": SECONDS, "env": {**os.environ, **UNOPTIMISED}}
     library = copy / "library"
     subprocess.run([copy / "tools" / "c_library.sh", library, archive], check=True, **how)
-    ran = subprocess.run([copy / "gate" / "clients.py", "--library", library, "--jobs", "1", row], check=False, **how)
+    ran = subprocess.run([copy / "gate" / "clients" / "clients.py", "--library", library, "--jobs", "1", row], check=False, **how)
     said = ran.stdout.decode(errors="replace")
     if "SKIPPED" in said:
         raise Skipped

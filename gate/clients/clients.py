@@ -6,7 +6,7 @@ exports are proved once more, and what isn't built. Then each test program is bu
 all warnings as errors, and run: plainly, under valgrind, and with sanitizers on the side of C. What needs a tool that isn't there is skipped,
 and the output says so. Nothing is read from a network, and nothing is written beside the sources.
 
-usage: gate/clients.py [--library DIR] [--jobs N] [WORD..]     with a folder that tools/c_library.sh filled: nothing is built or proved
+usage: gate/clients/clients.py [--library DIR] [--jobs N] [WORD..]     with a folder that tools/c_library.sh filled: nothing is built or proved
 anew; with words: only the rows of these names, or, where there is none, those whose names have one of them
 """
 
@@ -21,6 +21,8 @@ import tempfile
 from concurrent.futures import ThreadPoolExecutor
 from pathlib import Path
 
+sys.path.append(str(Path(__file__).resolve().parent.parent))
+import find_modules  # has Python find the next ones
 from clients_base import AS_C, C, CLIENTS, Failed, Place, SECONDS, Skipped, TOP, WARNINGS, cc, cpp, said_by, tool
 from clients_install import install_rows
 from copies import copy_over_built
@@ -332,7 +334,7 @@ def real_client(name):
     """A program over Debian's crate of this name writes the same over the facade as over Debian's string_cache."""
 
     def test(place):
-        said = said_by(TOP / "gate" / "real_client.py", place.library, place.room, name).strip()
+        said = said_by(TOP / "gate" / "clients" / "real_client.py", place.library, place.room, name).strip()
         if said.startswith("SKIPPED: "):
             raise Skipped(said.removeprefix("SKIPPED: "))
         print(f"clients {said}", flush=True)
