@@ -12,6 +12,7 @@ import subprocess
 import time
 from pathlib import Path
 
+SAID = 600  # how much is shown of what was said
 TESTS = "--test"  # what makes rt try take a crate's tests, and not its program
 OUTCOME = re.compile(r"test (\S+) \.\.\. (\w+)")
 # Rt try hands the program to its clang once with this word, for the run that finds bad addresses.
@@ -26,7 +27,11 @@ exec "{clang}" "$@"
 
 
 class NotBuilt(Exception):
-    """There is no program of the crate's tests."""
+    """There is no program of the crate's tests. It has all that was said, and shows the end of it."""
+
+    def __init__(self, said):
+        super().__init__(said.strip()[-SAID:])
+        self.said = said
 
 
 def kit():
@@ -117,7 +122,7 @@ def object_of(crate, room, *kind, level="-O0", **environment):
     said = "".join(try_tests(crate, *words, **environment))
     shutil.rmtree(room / "kit")
     if not made.is_file():
-        raise NotBuilt(said.strip()[-600:])
+        raise NotBuilt(said)
     return made
 
 

@@ -40,10 +40,10 @@ import find_modules  # has Python find the next ones
 from built import CANT_BUILD, CANT_RUN, named, outcome, passes, tests_of
 from edits import BadEdit, NoSuchEdit, applied, chosen, edited, read_edit
 from machine import Turns, processors
-from programs import NotBuilt, build, outcomes
+from programs import build, outcomes
 from refuser import refuser
 from repository import TOP
-from shared_builds import SharedBuild, can_share
+from shared_builds import NotShared, SharedBuild, apart, can_share
 
 SECONDS = 60  # at most for one run with a wrong body, which may hang, and for all runs of a test that passes
 LEAST_SECONDS = 10  # for one run with a wrong body
@@ -255,17 +255,16 @@ def try_edits(crate, edits, trials, root):
 
 
 def try_together(crate, edits, trials, root):
-    """Tries edits in one build. Where that doesn't compile, each half of them is to have one, and the last one its own."""
+    """Tries edits in one build. Where that doesn't compile, those at fault are to have one each, and the others one without them."""
     with tempfile.TemporaryDirectory(prefix="shared-") as room:
         try:
             shared = SharedBuild(crate, edits, root, Path(room))
-        except NotBuilt:
-            half = len(edits) // 2
-            if half:
-                trials.add(try_together, crate, edits[:half])
-                trials.add(try_together, crate, edits[half:])
-            else:
-                trials.add(try_alone, *edits)
+        except NotShared as why:
+            alone, lists = apart(edits, why.blamed)
+            for others in lists:
+                trials.add(try_together, crate, others)
+            for edit in alone:
+                trials.add(try_alone, edit)
             return
         own = Own(shared.program(0))
         for number, edit in enumerate(edits, 1):

@@ -21,7 +21,6 @@ import caught
 import refuser
 import shared_builds
 from edits import read_edit
-from programs import NotBuilt
 from repository import TOP
 
 # A program whose tests::one and tests::other end with the digits in the files of their names, a digit a run. Two more tests have one
@@ -320,7 +319,7 @@ class Sharing(InRoom):
             self.assertFalse(shared_builds.can_share(self.edit((old, new)), self.room), old)
 
 
-class Halves(WithPrograms):
+class Apart(WithPrograms):
     """Which edits are tried, and how, where one of them doesn't compile beside the others."""
 
     def setUp(self):
@@ -332,8 +331,10 @@ class Halves(WithPrograms):
 
     def built(self, crate, edits, root, room):
         """Stands for a build. One with the edit `bad` isn't built, and in the others each body is seen by its test."""
-        if any(edit.path.stem == "bad" for edit in edits):
-            raise NotBuilt("an error")
+        self.builds += 1
+        bad = [edit for edit in edits if edit.path.stem == "bad"]
+        if bad:
+            raise shared_builds.NotShared("an error", bad if self.is_named else [])
         programs = [self.program("0"), *(self.program("1") for _ in edits)]
         return SimpleNamespace(program=programs.__getitem__)
 
@@ -341,12 +342,14 @@ class Halves(WithPrograms):
         crate_in(self.room)
         names = ("a", "b", "bad", "c", "d")
         edits = [edit_in(self.room, name, "test: one", "file: src/lib.rt", "old: MOST;", "new: 5;") for name in names]
-        trials, said = caught.Trials(), []
-        trials.tell = lambda edit, passed, text: said.append((edit.path.stem, text))
-        trials.add(caught.try_together, "few", edits)
-        while not trials.tasks.empty():
-            trials.tasks.get()(trials, self.room)
-        self.assertEqual(sorted(said), [(name, "tried alone" if name == "bad" else "one fails, as it must") for name in names])
+        for self.is_named, builds in ((True, 2), (False, 5)):
+            trials, said, self.builds = caught.Trials(), [], 0
+            trials.tell = lambda edit, passed, text: said.append((edit.path.stem, text))
+            trials.add(caught.try_together, "few", edits)
+            while not trials.tasks.empty():
+                trials.tasks.get()(trials, self.room)
+            self.assertEqual(sorted(said), [(name, "tried alone" if name == "bad" else "one fails, as it must") for name in names])
+            self.assertEqual(self.builds, builds)
 
 
 class Build(InRoom):
@@ -376,6 +379,14 @@ class Build(InRoom):
             said[edit.path.stem] = caught.judge(edit, shared.program(number), own)[1]
         self.assertEqual(said, {name: wanted for name, (_, _, wanted) in rows.items()})
         self.assertEqual((self.room / "crates" / "few" / "src" / "lib.rt").read_text(encoding="utf-8"), CRATE)
+
+    def test_those_that_do_not_compile_are_named(self):
+        crate_in(self.room)
+        rows = {"good": ("    2", "    4"), "unknown": ("        return MOST;", "        return LEAST;"), "mismatched": ("    2", '    "2"')}
+        edits = [edit_in(self.room, name, "test: firsts", "file: src/lib.rt", f"old: {old}", f"new: {new}") for name, (old, new) in rows.items()]
+        with self.assertRaises(shared_builds.NotShared) as raised:
+            shared_builds.SharedBuild("few", edits, self.room, self.room)
+        self.assertEqual([edit.path.stem for edit in raised.exception.blamed], ["unknown", "mismatched"])
 
 
 def main():

@@ -13,22 +13,34 @@ The object that the compiler makes of the tests is linked once for each number, 
 doesn't see. So the program of number N has the Nth body alone, and that of number 0 is the crate as it is. No body can hide another, or
 pass for it.
 
-An edit can share where it changes no more than what stands between the braces of functions: no signature, type or constant.
+An edit can share where it changes no more than what stands between the braces of functions: no signature, type or constant. Where the build
+fails, the compiler names the lines at fault, and so the bodies.
 """
 
 import contextlib
+import re
 import subprocess
 
 from edits import FUNCTION, edited, replaced
-from programs import TESTS, compiler, kit, link, object_of
+from programs import TESTS, NotBuilt, compiler, kit, link, object_of
 
 SWITCH = 'unsafe extern "C" {\n    safe fn wrong_body() -> u32;\n}\n'
 ALLOWED = {"RT_ALLOW_C": "1"}  # what has rt take that function
+ARM = re.compile(r"(\d+|_) => \{")  # the line at which a body begins beside others
+ERROR = re.compile(r"^(\S+\.rt):(\d+):\d+: error\b", re.MULTILINE)
 ANSWER = "unsigned wrong_body(void) {{ return {number}; }}\n"
 
 
 class CantShare(Exception):
     """The edit changes more than bodies of functions."""
+
+
+class NotShared(NotBuilt):
+    """Bodies couldn't be built beside one another. It has those in which the compiler found errors."""
+
+    def __init__(self, said, blamed):
+        super().__init__(said)
+        self.blamed = blamed
 
 
 def braces(lines, first):
@@ -95,6 +107,27 @@ def shared_texts(edits, root):
     return {file: side_by_side(lines, arms[file]) for file, lines in before.items()}
 
 
+def blamed(said, texts, folder):
+    """The numbers of the bodies in which the compiler found errors as it built the crate in this folder with these texts, by their files."""
+    lines, numbers = {file.resolve(): text.split("\n") for file, text in texts.items()}, set()
+    for file, line in ERROR.findall(said):
+        above = lines.get((folder / file).resolve(), [])[: int(line)]
+        arm = next((found[1] for found in map(ARM.fullmatch, reversed(above)) if found), "_")
+        numbers |= set() if arm == "_" else {int(arm)}
+    return numbers
+
+
+def apart(edits, blamed):
+    """Those of these edits that are to be tried each by itself, since they couldn't be together, and lists of the others that may be: all but those
+    in which the compiler found errors, or, if it named none, halves."""
+    if not edits[1:]:
+        return edits, []
+    if blamed:
+        others = [edit for edit in edits if edit not in blamed]
+        return blamed, [others] if others else []
+    return [], [edits[: len(edits) // 2], edits[len(edits) // 2 :]]
+
+
 def can_share(edit, root):
     """Whether the body can stand beside others."""
     try:
@@ -129,9 +162,13 @@ class SharedBuild:
     """The tests of a crate of the copy at root, with the bodies of all these edits, built in the room, an empty folder."""
 
     def __init__(self, crate, edits, root, room):
-        self.room = room
-        with beside_their_own(edits, root):
-            self.tests = object_of(root / "crates" / crate, room, TESTS, **ALLOWED)
+        self.room, folder = room, root / "crates" / crate
+        try:
+            with beside_their_own(edits, root):
+                self.tests = object_of(folder, room, TESTS, **ALLOWED)
+        except NotBuilt as why:
+            numbers = blamed(why.said, shared_texts(edits, root), folder)
+            raise NotShared(why.said, [edit for number, edit in enumerate(edits, 1) if number in numbers]) from why
 
     def program(self, number):
         """The program with the body of this number, or as the crate is with 0."""
