@@ -21,7 +21,7 @@ from pathlib import Path
 
 from copies import crates, linked
 from edits import BadEdit, replaced
-from functions import function_at
+from functions import function_at, starts_of
 from programs import kit
 from repository import TOP, said_by
 from spared import emptied, spared
@@ -36,6 +36,7 @@ MEASURE = re.compile(r"expected a measure in ")
 GOAL = re.compile(r"`([^`]*)`")
 ERROR = re.compile(r"^(?:\./)?(proofs/\S+?):\d+:\d+: error: (.*(?:\n  .*)*)", re.MULTILINE)
 GONE = re.compile(r"has no field|is not in scope|has no `|was not admitted|is no name|projects from a record, but|rattle does not read")
+UNREAD = re.compile(r"^(?:\./)?(src/\S+?):(\d+):\d+: error\b.*", re.MULTILINE)
 NO_FUNCTION = re.compile(r"has no function `([^`]*)`")  # the check stops at the first name of none
 
 
@@ -167,6 +168,24 @@ def check(bodies, folder, only=True, proved=()):
             functions.remove(found[1])
             if not functions:
                 return "".join(stops)
+
+
+def unread(bodies, folder, said, proved=()):
+    """The bodies in whose functions the compiler found an error, each with the first one, where a check of these bodies told nothing of any
+    function for that; it spared the functions that are proved already."""
+    if TOLD.search(said):
+        return {}
+    texts, found = texts_with(bodies, folder, emptied(proved, bodies, folder)), {}
+    for error in UNREAD.finditer(said):
+        text = texts.get(folder / error[1], "")
+        try:
+            name, around, *_ = function_at(text, starts_of(text.split("\n"))[int(error[2]) - 1])
+        except (BadEdit, IndexError, ValueError):
+            continue
+        for body in bodies:
+            if any(file == error[1] for file, *_ in body.places) and is_of(body.function, name, around):
+                found.setdefault(body, error[0])
+    return found
 
 
 def goals_of(name, text, said):

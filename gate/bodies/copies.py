@@ -37,26 +37,20 @@ def linked(source, target):
     return shutil.copy2(source, target)
 
 
-
 def has_tests(name):
     """Whether the crate of this name has tests."""
     return any("#[test]" in file.read_text(encoding="utf-8") for file in (TOP / "crates" / name / "src").rglob("*.rt"))
 
 
-def copy_with_work(target, names):
-    """A copy of the repository in a new folder, with the libraries that were built, and with what earlier checks of these crates kept."""
-    shutil.copytree(TOP, target, ignore=shutil.ignore_patterns(".git", "out", "__pycache__"))
-    for out in TOP.glob("crates/*/out"):
-        for part in ("rlib", *(["incremental"] if out.parent.name in names else [])):
-            if (out / part).is_dir():
-                shutil.copytree(out / part, target / "crates" / out.parent.name / "out" / part)
-    return target
+def copy_without_work(target):
+    """A copy of the repository in a new folder, without what was proved or built of it."""
+    return shutil.copytree(TOP, target, ignore=shutil.ignore_patterns(".git", "out", "__pycache__"))
 
 
 def copy_over_built(target, name):
     """A copy of the repository in a new folder, in which `rt` takes the libraries below this crate as they were built last: `rt ci` leaves them
     without the mark by which `rt` knows its own, so it gets one there."""
-    shutil.copytree(TOP, target, ignore=shutil.ignore_patterns(".git", "out", "__pycache__"))
+    copy_without_work(target)
     for crate in crates()[name].below():
         own, copy = (top / "crates" / crate.name / "out" / "rlib" for top in (TOP, target))
         if own.is_dir():

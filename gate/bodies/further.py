@@ -7,7 +7,8 @@ Where proofs were written for the function, they are copied with it, and the fun
 goals of that are proved, what is said of the other copies shows nothing.
 
 A method of a trait can't be copied, nor can a function in whose proofs others stand: a second body of these waits for another check. What a
-check doesn't refuse so is checked once more alone, in its own function.
+check doesn't refuse so is checked once more alone, in its own function. A body that the compiler doesn't read would hide the others: where it
+names one, they are checked without that.
 """
 
 import contextlib
@@ -107,8 +108,16 @@ def in_one_check(first, further, folder, proved=()):
     what else is said of it; nothing where the check says nothing of any function. The functions that are proved already are spared."""
     copies, own = copies_of(further, folder)
     every = [*first, *copies.values(), *own.values()]
+    if not every:
+        return []
     with with_files(every):
         said = batches.check(every, folder, proved=proved)
+    unread = batches.unread(every, folder, said, proved)
+    if unread:
+        bad = {body: unread[it] for body, it in [*zip(first, first), *copies.items()] if it in unread}
+        rest = [body for body in further if body not in bad and own.get(body.function) not in unread]
+        others = in_one_check([body for body in first if body not in bad], rest, folder, proved)
+        return [(body, [], error) for body, error in bad.items()] + others
     others = batches.strangers(every, said)
     if not batches.TOLD.search(said) or others:
         return []
@@ -118,14 +127,21 @@ def in_one_check(first, further, folder, proved=()):
     return found + [(body, *batches.judge(copy.function, said)) for body, copy in trusted]
 
 
-def tried(bodies, folder, proved=()):
-    """Checks the bodies of a crate in as few checks as there may be, and those that these don't refuse once more, each alone. Gives each
-    body with its goals and with what else is said. The functions that are proved already are spared, but not where a body is alone."""
-    first = next(batches.batches(bodies), [])
-    left = [body for body in bodies if body not in first]
-    found, alone = in_one_check(first, left, folder, proved) if left else [], []
+def together(bodies, folder, proved=()):
+    """Checks the bodies of a crate in as few checks as there may be. Gives each with its goals and with what else is said, and those that were
+    alone in their check. The functions that are proved already are spared, but not where a body is alone."""
+    first, alone = next(batches.batches(bodies), []), []
+    found = in_one_check(first, [body for body in bodies if body not in first], folder, proved) if bodies[1:] else []
     for batch in batches.batches([body for body in bodies if body not in {it[0] for it in found}]):
-        (found if batch[1:] else alone).extend(batches.judged(batch, folder, proved if batch[1:] else ()))
-    yield from (it for it in found + alone if it[1] or it in alone)
-    for body in [body for body, goals, _ in found if not goals]:
+        found += batches.judged(batch, folder, proved if batch[1:] else ())
+        alone += [] if batch[1:] else batch
+    return found, alone
+
+
+def tried(bodies, folder, proved=()):
+    """Checks the bodies of a crate together, and those that are refused at no goal so once more, each alone. Gives each body with its goals and
+    with what else is said."""
+    found, alone = together(bodies, folder, proved)
+    yield from (it for it in found if it[1] or it[0] in alone)
+    for body in [body for body, goals, _ in found if not goals and body not in alone]:
         yield from batches.judged([body], folder)

@@ -309,6 +309,19 @@ class Crate(InSmallRepository):
                     self.assertEqual(found[name][0], well, (name, found[name]))
                     self.assertIn(text, found[name][1], name)
 
+    def test_what_is_not_read_hides_no_other(self):
+        rows = {
+            "unread": ("next", "wide + 1", "wider + 1"),
+            "wrong": ("next", "wide + 1", "wide + 2"),
+            "unread_too": ("twice", "    next(number) * 2", '    next(number) * "2"'),
+        }
+        bodies = [self.placed(name, function, (old, new)) for name, (function, old, new) in rows.items()]
+        with tempfile.TemporaryDirectory(prefix="refused-test-") as room, mock.patch.object(batches, "check", side_effect=batches.check) as checks:
+            found, alone = further.together(bodies, batches.copies_of(["few"], Path(room))["few"])
+        self.assertEqual({str(body): goals for body, goals, _ in found}, {"unread": [], "wrong": ["returns"], "unread_too": []})
+        self.assertEqual((alone, checks.call_count), ([], 2))
+        self.assertTrue(all("error" in text for _, goals, text in found if not goals))
+
     def test_a_name_of_no_function_hides_no_other(self):
         wrong = self.placed("wrong", "next", ("wide + 1", "wide + 2"))
         strays = [SimpleNamespace(function=name, places=[], files={}) for name in ("Texts::next", "nothing")]

@@ -11,17 +11,22 @@ The file has a body after another, each with a name of its own:
     new: TEXT
 
 The function is named by the end of its name as `rt check` prints it. TEXT is one line, and the old one stands once in its file; more
-pairs, and lines 'file:', may follow, all in the body of that function. Bodies of different functions of a crate share a check
-(gate/bodies/batches.py), and one that its own function doesn't refuse is checked once more alone, with all that calls it. Those that nothing
-refused are built beside the bodies that they replace (gate/bodies/shared_builds.py), and the tests that see their crate are run with each, plainly
-and with requests refused; a test that fails has to pass without the body, and one that doesn't end is run without the body too, and again
-with it where that takes long. What is proved and passes them all is printed last: nothing
-holds it. The exports of string_cache_c have their tests in gate/clients/clients.py, which is run over a library with the body.
+pairs, and lines 'file:', may follow, all in the body of that function.
+
+The bodies of a crate share a check of their functions (gate/bodies/further.py), and those that it doesn't refuse, one of each function at a
+time, a check of the whole crate, with all that calls them: no function's theorem rests on another's body. What it refuses elsewhere is sought
+by halves.
+
+Those that nothing refused are built beside the bodies that they replace (gate/bodies/shared_builds.py), and the tests that see their crate
+are run with each, plainly and with requests refused; a test that fails has to pass without the body, and one that doesn't end is run without
+the body too, and again with it where that takes long. The exports of string_cache_c have their tests in gate/clients/clients.py, which is run
+over a library with the body, built without proofs (gate/bodies/unproved_archive.py). What is proved and passes all is printed last: nothing
+holds it.
 
 A body that can't be read, proved or built is NOT CHECKED: it ends nothing, and counts in the status. So is one whose first line isn't
 'body: NAME', and each of those that have one name.
 
-usage: gate/bodies/review.py FILE
+usage: gate/bodies/review.py [--tests-first] FILE     with --tests-first: only what passes its tests is given to the prover, which takes longer
 """
 
 import argparse
@@ -35,14 +40,16 @@ from pathlib import Path
 sys.path.append(str(Path(__file__).resolve().parent.parent))
 import find_modules  # has Python find the next ones
 import batches
-from built import CANT_BUILD, tests_of
+import further
+from built import CANT_BUILD, CANT_RUN, tests_of
 from caught import FailsWithout, Own, fails, right_refused
-from copies import copy_with_work, has_tests
+from copies import copy_without_work, has_tests
 from edits import BadEdit, applied, changes_in
 from programs import build
 from refuser import refuser
 from repository import TOP, crates_listed, said_by, stands_on
-from shared_builds import SharedBuild, can_share
+from shared_builds import NotShared, SharedBuild, apart, can_share
+from unproved_archive import archive_of
 
 SECONDS = 60  # for one test, or longer where it takes so long without the body
 SAID = 400  # how much is told of what was said
@@ -55,23 +62,25 @@ SEEN_BY = {
 
 @dataclass(eq=False)
 class Body:
-    """A wrong body: its name, its crate, the function that it changes, what is replaced by what, file by file, and why it can't be read."""
+    """A wrong body: its name, its crate, the function that it changes, what is replaced by what, file by file, why it can't be read, and itself as
+    checks take it."""
 
     name: str
     crate: str = ""
     function: str = ""
     changes: list = field(default_factory=list)
     wrong: str = ""
+    placed: batches.Body = None
 
     def __str__(self):
         return f"{self.name or 'one without a name'} ({self.crate}, {self.function})"
 
 
 class Review:
-    """What is said of the bodies."""
+    """What is said of the bodies; of those that a test holds, this first."""
 
-    def __init__(self):
-        self.unheld, self.unchecked = [], []
+    def __init__(self, proved=""):
+        self.proved, self.unchecked = proved, []
 
     def held(self, body, by):
         print(f"{body}: {by}", flush=True)
@@ -111,17 +120,17 @@ def read_bodies(path):
     return [body for body, _ in bodies]
 
 
-def in_crates(bodies, review):
-    """The bodies that can be read, by their crates, each with its places."""
-    listed, found = crates_listed(), {}
+def readable(bodies, review):
+    """The bodies that can be read, each with its places."""
+    listed, found = crates_listed(), []
     for body in bodies:
         try:
             if body.wrong:
                 raise BadEdit(body.wrong)
             if body.crate not in listed or not (body.function and body.changes):
                 raise BadEdit("it lacks a crate of crates.txt, a function, or a pair 'old:' and 'new:'")
-            placed = batches.placed(str(body), TOP / "crates" / body.crate, body.function, body.changes)
-            found.setdefault(body.crate, []).append((body, placed))
+            body.placed = batches.placed(str(body), TOP / "crates" / body.crate, body.function, body.changes)
+            found.append(body)
         except (BadEdit, OSError) as why:
             review.not_checked(body, f"BAD EDIT: {why}")
     return found
@@ -133,71 +142,97 @@ def refusals(said):
     return {name: goals for name, goals in found.items() if goals}
 
 
-def is_proved(body, placed, folder, review):
-    """Whether a check of the whole crate with this body alone proves it. Where not, says what refused it."""
-    said = batches.check([placed], folder, only=False)
+def proved_whole(bodies, folder, review):
+    """Those of these bodies of different functions with which a check of the whole crate proves it. Says what refused the others."""
+    places = {body.placed: body for body in bodies}
+    said = batches.check(list(places), folder, only=False)
     if "logic=proved" in said:
-        return True
-    own = batches.judge(body.function, said)[0]
-    if own:
-        review.held(body, f"refused at {', '.join(own)}")
-        return False
+        return bodies
+    left = []
+    for body in bodies:
+        goals = batches.judge(body.function, said)[0]
+        if goals:
+            review.held(body, f"refused at {', '.join(goals)}")
+        else:
+            left.append(body)
+    if bodies[1:]:
+        blamed = [places[it] for it in batches.unread(list(places), folder, said)]
+        alone, lists = apart(left, blamed) if len(left) == len(bodies) else ([], [left])
+        return [it for part in [*([body] for body in alone), *lists] if part for it in proved_whole(part, folder, review)]
     found = "; ".join(f"{name} at {', '.join(goals)}" for name, goals in refusals(said).items())
-    if found:
-        review.held(body, f"refused elsewhere: {found}")
-    else:
-        review.not_checked(body, said)
-    return False
+    for body in left:
+        if found:
+            review.held(body, f"refused elsewhere: {found}")
+        else:
+            review.not_checked(body, said)
+    return []
 
 
-def proved(crate, pairs, review):
-    """The bodies of a crate that the prover passes."""
-    left, by = [], {placed: body for body, placed in pairs}
-    with tempfile.TemporaryDirectory(prefix="review-") as room:
-        folder = batches.copies_of([crate], Path(room))[crate]
-        for placed, goals, _ in (it for batch in batches.batches(list(by)) for it in batches.judged(batch, folder)):
-            if goals:
-                review.held(by[placed], f"refused at {', '.join(goals)}")
-            elif is_proved(by[placed], placed, folder, review):
-                left.append(by[placed])
+def proved(bodies, review):
+    """The bodies that the prover passes."""
+    left = []
+    for crate in dict.fromkeys(body.crate for body in bodies):
+        by, passed = {body.placed: body for body in bodies if body.crate == crate}, []
+        with tempfile.TemporaryDirectory(prefix="review-") as room:
+            folder = batches.copies_of([crate], Path(room))[crate]
+            for placed, goals, text in further.together(list(by), folder)[0]:
+                if goals:
+                    review.held(by[placed], f"refused at {', '.join(goals)}")
+                elif batches.UNREAD.match(text):
+                    review.not_checked(by[placed], text)
+                else:
+                    passed.append(placed)
+            for batch in batches.batches(passed):
+                left += proved_whole([by[it] for it in batch], folder, review)
     return left
 
 
 def failure(wrong, own):
     """The first test that fails in the program with a body, plainly or as requests are refused, and not in the one without; or None."""
-    without = Own(own)
     for test in tests_of(wrong):
         with contextlib.suppress(FailsWithout):
-            if fails(wrong, test, without, SECONDS) and without.passes(test, 1):
+            if fails(wrong, test, own, SECONDS) and own.passes(test, 1):
                 return test
     tried = refuser(wrong, wrong.parent)
     for test in tried.tests():
         with contextlib.suppress(FailsWithout):
-            if not right_refused(tried, test, without)[0]:
+            if not right_refused(tried, test, own)[0]:
                 return f"{test}, as requests are refused,"
     return None
 
 
+def failures_together(crate, bodies, root):
+    """The test of a crate that fails with each of these bodies, or None, by the body, for those that can be built beside others; and the rest."""
+    found, alone = {}, [body for body in bodies if not can_share(body, root)]
+    lists = [[body for body in bodies if body not in alone]]
+    while lists and lists[0]:
+        shared = lists.pop()
+        try:
+            with tempfile.TemporaryDirectory(prefix="review-") as room:
+                made = SharedBuild(crate, shared, root, Path(room))
+                own = Own(made.program(0))
+                for number, body in enumerate(shared, 1):
+                    found[body] = failure(made.program(number), own)
+        except NotShared as why:
+            bad, others = apart(shared, why.blamed)
+            alone, lists = alone + bad, lists + others
+        except CANT_RUN:
+            alone += [body for body in shared if body not in found]
+    return found, alone
+
+
 def failures(crate, bodies, root, review):
     """The test of a crate that fails with each of these bodies, or None, by the body, for those that can be built."""
-    found, alone = {}, [body for body in bodies if not can_share(body, root)]
-    shared = [body for body in bodies if body not in alone]
-    try:
-        with tempfile.TemporaryDirectory(prefix="review-") as room:
-            made = SharedBuild(crate, shared, root, Path(room)) if shared else None
-            own = made.program(0) if made else None
-            for number, body in enumerate(shared, 1):
-                found[body] = failure(made.program(number), own)
-    except CANT_BUILD:
-        alone += [body for body in shared if body not in found]
-    for body in alone:
-        try:
-            with tempfile.TemporaryDirectory(prefix="review-") as room, tempfile.TemporaryDirectory(prefix="review-") as other:
-                own = build(root / "crates" / crate, Path(other))
-                with applied(body, root):
-                    found[body] = failure(build(root / "crates" / crate, Path(room)), own)
-        except CANT_BUILD as why:
-            review.not_checked(body, f"it can't be built for the tests of {crate}: {why}")
+    found, alone = failures_together(crate, bodies, root)
+    folder, own = root / "crates" / crate, None
+    with tempfile.TemporaryDirectory(prefix="review-") as room:
+        for body in alone:
+            try:
+                own = own or Own(build(folder, Path(tempfile.mkdtemp(dir=room))))
+                with tempfile.TemporaryDirectory(dir=room) as made, applied(body, root):
+                    found[body] = failure(build(folder, Path(made)), own)
+            except CANT_BUILD as why:
+                review.not_checked(body, f"it can't be built for the tests of {crate}: {why}")
     return found
 
 
@@ -209,56 +244,73 @@ def seeing(listed, crate):
     return naming or [name for name in tested if crate in stands_on(listed, name)]
 
 
-def seen_by_clients(body, root):
-    """What gate/clients/clients.py says is wrong with the library that has this body, or None."""
-    with tempfile.TemporaryDirectory(prefix="review-") as room, applied(body, root):
-        status, said = said_by(root / "tools" / "c_library.sh", room, folder=root)
-        if status:
-            raise OSError(f"the library with it isn't built: {said}")
-        status, said = said_by(root / "gate" / "clients" / "clients.py", "--library", room, folder=root)
-    return next((line for line in said.splitlines() if "WRONG" in line), "gate/clients/clients.py") if status else None
+def wrong_rows(root):
+    """The rows of gate/clients/clients.py that are wrong over the exports of the copy at root, each with what is said of it."""
+    with tempfile.TemporaryDirectory(prefix="review-") as made, tempfile.TemporaryDirectory(prefix="review-") as library:
+        archive = archive_of(root / "crates" / LIBRARY, Path(made))
+        status, said = said_by(root / "tools" / "c_library.sh", library, archive, folder=root)
+        if not status:
+            status, said = said_by(root / "gate" / "clients" / "clients.py", "--library", library, folder=root)
+    rows = {line.partition(": WRONG: ")[0]: line for line in said.splitlines() if ": WRONG: " in line}
+    if status and not rows:
+        raise OSError(f"its clients can't be tried: {said}")
+    return rows
 
 
-def held_by_nothing(bodies, root, review):
-    """Runs the tests that are to see each body with it. The bodies that pass all of them."""
-    listed, left = crates_listed(), list(bodies)
-    for crate in listed:
-        seen = [body for body in left if crate in seeing(listed, body.crate)]
-        for body, test in (failures(crate, seen, root, review) if seen else {}).items():
-            if test:
-                review.held(body, f"proved, and the test {test} of {crate} fails")
-                left.remove(body)
-    for body in [body for body in left if body.crate == LIBRARY]:
+def seen_by_clients(bodies, root, review):
+    """Of each of these bodies of the exports what is wrong with their clients, and not without the body, or None, for those that can be built."""
+    found, own = {}, None
+    for body in bodies:
         try:
-            wrong = seen_by_clients(body, root)
-        except OSError as why:
+            with applied(body, root):
+                rows = wrong_rows(root)
+            own = wrong_rows(root) if rows and own is None else own
+            found[body] = next((line for name, line in rows.items() if name not in own), None)
+        except CANT_BUILD as why:
             review.not_checked(body, why)
-            continue
-        if wrong:
-            review.held(body, f"proved, and a client sees it: {wrong[:SAID]}")
-            left.remove(body)
-    return [body for body in left if body not in review.unchecked]
+    return found
+
+
+def tested(bodies, review):
+    """The bodies that pass all tests that are to see them."""
+    if not bodies:
+        return []
+    listed, left = crates_listed(), list(bodies)
+    with tempfile.TemporaryDirectory(prefix="review-") as room:
+        root = copy_without_work(Path(room) / "copy")
+        for crate in listed:
+            seen = [body for body in left if crate in seeing(listed, body.crate)]
+            for body, test in (failures(crate, seen, root, review) if seen else {}).items():
+                if test:
+                    review.held(body, f"{review.proved}the test {test} of {crate} fails")
+                    left.remove(body)
+        for body, wrong in seen_by_clients([body for body in left if body.crate == LIBRARY], root, review).items():
+            if wrong:
+                review.held(body, f"{review.proved}a client sees it: {wrong[:SAID]}")
+                left.remove(body)
+    return left
 
 
 def main():
     parser = argparse.ArgumentParser(description=__doc__, formatter_class=argparse.RawDescriptionHelpFormatter)
+    parser.add_argument("--tests-first", action="store_true")
     parser.add_argument("file", type=Path, metavar="FILE")
-    given, review = parser.parse_args(), Review()
+    given = parser.parse_args()
+    review = Review("" if given.tests_first else "proved, and ")
     try:
         bodies = read_bodies(given.file)
     except (OSError, ValueError) as why:
         sys.exit(f"review: {given.file} can't be read: {why}")
     if not bodies:
         sys.exit(f"review: {given.file} has no body")
-    found = [body for crate, pairs in in_crates(bodies, review).items() for body in proved(crate, pairs, review)]
-    with tempfile.TemporaryDirectory(prefix="review-") as room:
-        root = copy_with_work(Path(room) / "copy", {body.crate for body in found})
-        review.unheld = held_by_nothing(found, root, review)
-    what = f"{len(bodies)} bodies, {len(review.unheld)} that nothing holds, {len(review.unchecked)} not checked"
-    print(f"review: {what}{':' if review.unheld else ''}")
-    for body in review.unheld:
+    left = readable(bodies, review)
+    for way in (tested, proved) if given.tests_first else (proved, tested):
+        left = [body for body in way(left, review) if body not in review.unchecked]
+    what = f"{len(bodies)} bodies, {len(left)} that nothing holds, {len(review.unchecked)} not checked"
+    print(f"review: {what}{':' if left else ''}")
+    for body in left:
         print(f"  {body}")
-    return 1 if review.unheld or review.unchecked else 0
+    return 1 if left or review.unchecked else 0
 
 
 if __name__ == "__main__":
