@@ -47,11 +47,6 @@ KEPT = Path(os.environ.get("XDG_CACHE_HOME") or Path.home() / ".cache") / "jatzu
 TOOLS = ("refused_bodies.py", "batches.py", "further.py", "spared.py", "functions.py", "edits.py")
 SAID = 400  # how much is told of what was said
 PROVED = re.compile(r"^rt: (\w+) (?:proved$|is kept: )", re.MULTILINE)  # what `rt ci` says of a crate that it is done with
-MEASURED = {  # seconds of crates whose bodies were timed, alone
-    "set_atoms": 400, "commands": 220, "counted_set": 200, "interner_table": 200, "named_set": 175,
-    "example_tables": 135, "example_sets": 130, "word_counts": 130, "counted_cell": 125, "string_cache_c": 125, "table_generator": 110,
-    "example_named": 100, "atomic_steps": 95, "text_forms": 85, "text_streams": 65, "node_chain": 60, "replay_script": 45,
-}
 
 
 def read(path):
@@ -76,6 +71,11 @@ def bodies_of(folder):
     return bodies, wrong
 
 
+def files_of(name):
+    """What a check reads of the crate of this name."""
+    return sorted(path for part in batches.PARTS for path in (TOP / "crates" / name / part).rglob("*") if path.is_file())
+
+
 def sum_of(crate):
     """A sum of all that a check of the crate reads, and of these scripts."""
     crates = stands_on(crates_listed(), crate)
@@ -84,16 +84,17 @@ def sum_of(crate):
         found.update(f"{line}\n".encode() if re.split("[ :]", line)[0] in crates else b"")
     files = [TOP / "HANDLES", *(Path(__file__).resolve().parent / name for name in TOOLS)]
     for name in sorted(crates):
-        files += sorted(path for part in batches.PARTS for path in (TOP / "crates" / name / part).rglob("*") if path.is_file())
+        files += files_of(name)
     for path in files:
         found.update(f"{path.relative_to(TOP)}\n".encode() + hashlib.sha256(path.read_bytes()).digest())
     return found.hexdigest()
 
 
 def cost(folder):
-    """About how many seconds the bodies in the folder of a crate take: as once measured, or some for each body, and more for their check, which
-    reads the crates below. Only the order in which crates are tried depends on it."""
-    return MEASURED.get(folder.name) or 8 * len(bodies_of(folder)[0]) + 20 + 5 * len(stands_on(crates_listed(), folder.name))
+    """A number by which the bodies in the folder of a crate take longer than those of another: they are more, or a check of them reads more. Only
+    the order in which crates are tried depends on it."""
+    read_too = [path for name in stands_on(crates_listed(), folder.name) for path in files_of(name)]
+    return len(list((folder / "refused").iterdir())) * sum(path.stat().st_size for path in read_too) ** 0.5
 
 
 def kept(crate_sum, body):
