@@ -41,7 +41,9 @@ def all_stand(edits, folder):
             if path.parent.name == "refused":
                 refused_bodies.read(path)  # each text stands in the crate's own
             else:
-                changed(changes_in(path.read_text(encoding="utf-8").splitlines()), folder)
+                lines = path.read_text(encoding="utf-8").splitlines()
+                crate = next((line.removeprefix("crate: ") for line in lines if line.startswith("crate: ")), "")
+                changed(changes_in(lines), TOP / "crates" / crate if crate else folder)
         except BadEdit as why:
             wrong.append(f"{path.name}: {why}")
     return not wrong, "; ".join(wrong) or "the old texts of its wrong bodies stand once each"

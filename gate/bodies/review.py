@@ -49,7 +49,7 @@ from programs import build
 from refuser import refuser
 from repository import TOP, crates_listed, said_by, stands_on
 from shared_builds import NotShared, SharedBuild, apart, can_share
-from unproved_archive import archive_of
+from unproved_archive import Exports
 
 SECONDS = 60  # for one test, or longer where it takes so long without the body
 SAID = 400  # how much is told of what was said
@@ -247,7 +247,7 @@ def seeing(listed, crate):
 def wrong_rows(root):
     """The rows of gate/clients/clients.py that are wrong over the exports of the copy at root, each with what is said of it."""
     with tempfile.TemporaryDirectory(prefix="review-") as made, tempfile.TemporaryDirectory(prefix="review-") as library:
-        archive = archive_of(root / "crates" / LIBRARY, Path(made))
+        archive = Exports(LIBRARY, [], root, Path(made)).archive(0)
         status, said = said_by(root / "tools" / "c_library.sh", library, archive, folder=root)
         if not status:
             status, said = said_by(root / "gate" / "clients" / "clients.py", "--library", library, folder=root)

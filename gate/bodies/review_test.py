@@ -23,7 +23,7 @@ import review
 import shared_builds
 from programs import compiler, kit, link
 from small_repository import InSmallRepository
-from unproved_archive import archive_of
+from unproved_archive import Exports
 
 CRATE = """\
 //! What is edited.
@@ -298,14 +298,17 @@ class Archive(unittest.TestCase):
     def test_an_export_can_be_called_from_c(self):
         with tempfile.TemporaryDirectory(prefix="review-test-") as folder:
             room, crate = Path(folder), Path(folder) / "crates" / "few"
-            texts = {"crates.txt": "few staticlib: core\n", "crates/few/src/lib.rt": ROOT, "crates/few/src/sums.rt": EXPORTS, "made/main.c": CALLER}
+            texts = {"crates.txt": "few staticlib: core\n", "crates/few/src/lib.rt": ROOT, "crates/few/src/sums.rt": EXPORTS, "main.c": CALLER}
             for file, text in texts.items():
                 (room / file).parent.mkdir(parents=True, exist_ok=True)
                 (room / file).write_text(text, encoding="utf-8")
-            archive, program = archive_of(crate, room / "made"), room / "program"
-            subprocess.run([*compiler(kit())[:2], "-c", room / "made" / "main.c", "-o", room / "main.o"], check=True)
-            link([room / "main.o", archive], program)
-            self.assertEqual(subprocess.run([program], check=False).returncode, 7)
+            subprocess.run([*compiler(kit())[:2], "-c", room / "main.c", "-o", room / "main.o"], check=True)
+            wrong = review.Body("count_is_three", "few", "few_count", [("src/sums.rt", "    2", "    3")])
+            (room / "made").mkdir()
+            exports = Exports("few", [wrong], room, room / "made")
+            for number, status in ((0, 7), (1, 8)):
+                link([room / "main.o", exports.archive(number)], room / "program")
+                self.assertEqual(subprocess.run([room / "program"], check=False).returncode, status)
             self.assertEqual((crate / "src" / "sums.rt").read_text(encoding="utf-8"), EXPORTS)
 
 

@@ -1,7 +1,8 @@
 """The archive of a crate's exports for C, built without proofs, so that the tests of clients can be run over wrong bodies: `rt lib` proves each.
 
 What `rt try` makes without a proof is a program of tests. So each export gets a test that would call it, and its code is taken from the
-object of these tests: under its name in C, with what it reaches and nothing else.
+object of these tests: under its name in C, with what it reaches and nothing else. Several bodies share a build as those for tests do
+(gate/bodies/shared_builds.py).
 """
 
 import re
@@ -9,6 +10,7 @@ import subprocess
 
 from edits import replaced
 from programs import TESTS, object_of
+from shared_builds import ALLOWED, answer, beside_their_own
 
 EXPORT = re.compile(r'^#\[unsafe\(no_mangle\)\]\npub extern "C" fn (\w+)\(([^)]*)\)', re.M)
 
@@ -34,18 +36,32 @@ def exports_of(crate):
     return texts, names
 
 
-def archive_of(crate, room):
-    """The archive of the exports of the crate in this folder of a copy, made in the room, an empty folder."""
+def object_of_exports(crate, room, **environment):
+    """The object of the exports of the crate in this folder of a copy, made in the room, an empty folder."""
     texts, names = exports_of(crate)
     with replaced(texts):
-        made = object_of(crate, room, TESTS)
-    renamed, kept, named, part, archive = (room / name for name in ("renamed", "kept", "named.o", "part.o", f"lib{crate.name}.a"))
+        made = object_of(crate, room, TESTS, **environment)
+    renamed, kept, named, part = (room / name for name in ("renamed", "kept", "named.o", "part.o"))
     renamed.write_text("".join(f"{path} {name}\n" for path, name in names.items()), encoding="ascii")
     kept.write_text("".join(f"{name}\n" for name in names.values()), encoding="ascii")
     for words in (
         ["objcopy", f"--redefine-syms={renamed}", f"--globalize-symbols={kept}", "--localize-symbol=main", made, named],
         ["ld", "-r", "--gc-sections", *(f"--undefined={name}" for name in names.values()), "-o", part, named],
-        ["ar", "rcs", archive, part],
     ):
         subprocess.run(words, check=True)
-    return archive
+    return part
+
+
+class Exports:
+    """The exports of a crate of the copy at root, with these bodies of its functions side by side, built in the room, an empty folder."""
+
+    def __init__(self, crate, bodies, root, room):
+        self.room = room
+        with beside_their_own(bodies, root):
+            self.exports = object_of_exports(root / "crates" / crate, room, **ALLOWED)
+
+    def archive(self, number):
+        """The archive with the body of this number, or of the crate as it is with 0."""
+        archive = self.room / f"exports-{number}.a"
+        subprocess.run(["ar", "rcs", archive, self.exports, answer(number, self.room)], check=True)
+        return archive

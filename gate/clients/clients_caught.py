@@ -5,6 +5,9 @@ Such a file has a line 'row: NAME', and then, as a must-fail edit, lines 'file: 
 stands once, is replaced in a copy, the library is built over that, and the row has to fail, which passes over the copy as it is.
 The exports are those of one archive, which is proved and built at the beginning.
 
+With a line 'crate: NAME' the files are of that crate, whose exports are wrong in the body of a function: no clause says so. All such bodies
+share a build without proofs (gate/bodies/unproved_archive.py).
+
 usage: gate/clients/clients_caught.py [--archive FILE] [--jobs N] [WORD..]     with an archive that `rt lib` made: nothing is proved; with
 words: only the bodies whose names have one of them; a word that is in none is told, and nothing is tried. Bodies whose row needs a tool that
 isn't there are skipped.
@@ -18,16 +21,24 @@ import subprocess
 import sys
 import tempfile
 from concurrent.futures import ThreadPoolExecutor
+from dataclasses import dataclass
+from functools import partial
 from pathlib import Path
 
 sys.path.append(str(Path(__file__).resolve().parent.parent))
 import find_modules  # has Python find the next ones
 from edits import BadEdit, NoSuchEdit, changed, changes_in, chosen
 from machine import processors
+from programs import NotBuilt
 from repository import TOP
+from shared_builds import CantShare
+from unproved_archive import Exports
 
 BODIES = TOP / "gate" / "clients" / "caught"
-ARCHIVE = TOP / "crates" / "string_cache_c" / "out" / "libstring_cache_c.a"
+EXPORTS = "string_cache_c"  # the crate
+ARCHIVE = TOP / "crates" / EXPORTS / "out" / f"lib{EXPORTS}.a"
+NEEDED = ("clients", "tools", "gate", "crates/example_scopes")  # what the tests of clients need
+CRATES = ("crates", "crates.txt", "HANDLES")  # what a build of the exports needs
 SECONDS = 900  # for one row
 # Most of what a row in Rust takes is the optimiser's work, and here no row is about that.
 UNOPTIMISED = {"CARGO_PROFILE_RELEASE_OPT_LEVEL": "0"}
@@ -39,11 +50,36 @@ class Skipped(Exception):
     """A tool that the row needs isn't there."""
 
 
-def copied(folder):
-    """A copy of what the tests of clients need, in a new folder."""
+@dataclass
+class Body:
+    """A wrong body: what it is called, the row that has to fail, the crate whose files are changed, or '' for those of clients, and what is
+    replaced by what, file by file."""
+
+    label: str
+    row: str
+    crate: str
+    changes: list
+
+
+@dataclass
+class Trial:
+    """A row to be run over an archive of the exports and changed clients, whether it has to pass, and what that is called."""
+
+    label: str
+    row: str
+    archive: Path
+    changes: tuple = ()
+    has_to_pass: bool = False
+
+
+def copied(folder, names):
+    """A copy of these of the repository, in a new folder."""
     out = shutil.ignore_patterns("out", "target", "__pycache__", "Cargo.lock")
-    for name in ("clients", "tools", "gate", "crates/example_scopes"):
-        shutil.copytree(TOP / name, folder / name, ignore=out)
+    for name in names:
+        if (TOP / name).is_dir():
+            shutil.copytree(TOP / name, folder / name, ignore=out)
+        else:
+            shutil.copy2(TOP / name, folder / name)
     return folder
 
 
@@ -61,35 +97,61 @@ def passes(copy, archive, row):
     return ran.returncode == 0
 
 
-def row_of(lines):
-    return next((line.removeprefix("row: ") for line in lines if line.startswith("row: ")), "")
-
-
-def judge(path, archive, room):
-    """Whether the row catches the body, and what to say."""
+def read(path):
+    """The body in a file."""
     lines = path.read_text(encoding="utf-8").splitlines()
-    copy, row = copied(room / path.stem), row_of(lines)
+    row, crate = (next((line.removeprefix(word) for line in lines if line.startswith(word)), "") for word in ("row: ", "crate: "))
     try:
-        for file, text in changed(changes_in(lines), copy / "clients").items():
+        return Body(path.stem, row, crate, changes_in(lines))
+    except BadEdit as why:
+        raise BadEdit(f"{path.name}: {why}") from why
+
+
+def judge(trial, room):
+    """Whether the row passes or fails as it has to, and what to say. Skipped where a tool isn't there."""
+    copy = copied(Path(tempfile.mkdtemp(dir=room)), NEEDED)
+    try:
+        for file, text in changed(trial.changes, copy / "clients").items():
             file.write_text(text, encoding="utf-8")
-        passed = passes(copy, archive, row)
+        passed = passes(copy, trial.archive, trial.row)
     except (BadEdit, OSError, subprocess.SubprocessError) as why:
-        return False, f"BAD EDIT: {why}"
+        return False, f"{'' if trial.has_to_pass else 'BAD EDIT: '}{why}"
     finally:
         shutil.rmtree(copy)
-    return not passed, f"passes '{row}'" if passed else f"caught by '{row}'"
+    if trial.has_to_pass:
+        return passed, f"'{trial.row}' {'passes' if passed else 'fails'} as it is"
+    return not passed, f"{'passes' if passed else 'caught by'} '{trial.row}'"
 
 
-def judge_whole(row, archive, room):
-    """Whether the row passes over a copy as it is, and what to say."""
-    copy = copied(room / f"whole-{row.replace(' ', '-')}")
+def told(room, trial):
+    """Whether a trial goes as it has to, which is said, or None where it is skipped."""
     try:
-        passed = passes(copy, archive, row)
-    except (BadEdit, OSError, subprocess.SubprocessError) as why:
-        return False, str(why)
-    finally:
-        shutil.rmtree(copy)
-    return passed, f"'{row}' passes as it is" if passed else f"'{row}' fails as it is"
+        well, text = judge(trial, room)
+    except Skipped:
+        print(f"caught {trial.label}: SKIPPED", flush=True)
+        return None
+    print(f"caught {trial.label}: {'' if well else 'WRONG: '}{text}", flush=True)
+    return well
+
+
+def over_clients(bodies, archive):
+    """The trials of bodies of clients, behind those of their rows without any."""
+    rows = sorted({body.row for body in bodies})
+    trials = [Trial("nothing", row, archive, has_to_pass=True) for row in rows]
+    return trials + [Trial(body.label, body.row, archive, body.changes) for body in bodies]
+
+
+def over_exports(bodies, room):
+    """The trials of bodies of exports, behind those of their rows without any; none where they can't be built, which is told."""
+    made, rows = room / "made", sorted({body.row for body in bodies})
+    made.mkdir()
+    try:
+        exports = Exports(EXPORTS, bodies, copied(room / "root", CRATES), made)
+        trials = [Trial("no export", row, exports.archive(0), has_to_pass=True) for row in rows]
+        return trials + [Trial(body.label, body.row, exports.archive(number)) for number, body in enumerate(bodies, 1)]
+    except (BadEdit, CantShare, NotBuilt, OSError, subprocess.SubprocessError) as why:
+        print(f"caught {' '.join(body.label for body in bodies)}: WRONG: BAD EDIT: {why}", flush=True)
+        return []
 
 
 def main():
@@ -99,28 +161,18 @@ def main():
     parser.add_argument("words", nargs="*")
     given = parser.parse_args()
     try:
-        bodies = chosen(BODIES.glob("*.edit"), given.words, lambda path: path.stem)
-    except NoSuchEdit as why:
+        bodies = [read(path) for path in chosen(BODIES.glob("*.edit"), given.words, lambda path: path.stem)]
+    except (BadEdit, NoSuchEdit) as why:
         sys.exit(f"clients_caught: {why}")
-    with tempfile.TemporaryDirectory(prefix="clients-caught-") as folder:
-        room = Path(folder)
-        if not given.archive:
+    of_clients, of_exports = ([body for body in bodies if bool(body.crate) == is_export] for is_export in (False, True))
+    with tempfile.TemporaryDirectory(prefix="clients-caught-") as folder, ThreadPoolExecutor(max(1, given.jobs)) as workers:
+        room, results = Path(folder), []
+        if of_clients and not given.archive:
             subprocess.run([TOP / "tools" / "c_library.sh", room / "library"], check=True)
-        archive = (given.archive or ARCHIVE).resolve()
-        needed = sorted({row_of(path.read_text(encoding="utf-8").splitlines()) for path in bodies})
-
-        def told(name, judge_it, it):
-            try:
-                well, text = judge_it(it, archive, room)
-            except Skipped:
-                print(f"caught {name}: SKIPPED", flush=True)
-                return None
-            print(f"caught {name}: {'' if well else 'WRONG: '}{text}", flush=True)
-            return well
-
-        with ThreadPoolExecutor(max(1, given.jobs)) as workers:
-            results = [*workers.map(lambda row: told("nothing", judge_whole, row), needed)]
-            results += workers.map(lambda path: told(path.stem, judge, path), bodies)
+        results += workers.map(partial(told, room), over_clients(of_clients, (given.archive or ARCHIVE).resolve()))
+        if of_exports:
+            trials = over_exports(of_exports, room)
+            results += workers.map(partial(told, room), trials) if trials else [False] * len(of_exports)
     print(f"{results.count(True)} passed, {results.count(False)} failed")
     return 0 if True in results and False not in results else 1
 

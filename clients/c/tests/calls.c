@@ -70,8 +70,10 @@ static void limits_have_ranges(void) {
     CHECK(sc_open_with(&table, 1, 1, 15) == SC_NOT_LIMITS);
     CHECK(sc_open_with(&table, 1, 1, 255) == SC_NOT_LIMITS);
     CHECK(!table.full);
-    CHECK(sc_open_with(&table, (UINT64_C(1) << 63) - 1, (UINT64_C(1) << 48) - 1, 14) == SC_OK);
-    sc_close(&table);
+    for (uint8_t bits = 0; bits <= 14; bits++) {
+        CHECK(sc_open_with(&table, (UINT64_C(1) << 63) - 1, (UINT64_C(1) << 48) - 1, bits) == SC_OK);
+        sc_close(&table);
+    }
 }
 
 static void a_text_is_found_without_a_holder_more(void) {
@@ -188,18 +190,33 @@ static void tables_are_checked(void) {
 }
 
 static void many_texts_are_kept(void) {
+    enum { TEXTS = 21000 };
     sc_table table = opened();
     char text[32];
-    uint64_t words[3000];
-    for (int at = 0; at < 3000; at++) {
+    static uint64_t words[TEXTS];
+    for (int at = 0; at < TEXTS; at++) {
         snprintf(text, sizeof text, "text number %d", at);
         words[at] = word_of(&table, text);
     }
-    CHECK(sc_entries(&table) == 3000);
-    for (int at = 0; at < 3000; at++) {
+    CHECK(sc_entries(&table) == TEXTS);
+    for (int at = 0; at < TEXTS; at += 7) {
         snprintf(text, sizeof text, "text number %d", at);
         CHECK(has_text(&table, words[at], text));
     }
+    sc_close(&table);
+}
+
+static void large_texts_are_taken(void) {
+    enum { BYTES = 300000 };
+    sc_table table = opened();
+    static char text[BYTES], room[BYTES];
+    uint64_t word = 0;
+    size_t len = 0;
+    bool perfect = true;
+    memset(text, 'a', sizeof text);
+    CHECK(sc_intern(&table, text, sizeof text, &word) == SC_OK);
+    CHECK(sc_text(&table, word, room, sizeof room, &len) == SC_OK && len == BYTES && memcmp(room, text, BYTES) == 0);
+    CHECK(sc_check_tables(text, sizeof text, &perfect) == SC_OK && !perfect);
     sc_close(&table);
 }
 
@@ -228,6 +245,7 @@ static const test tests[] = {
     {"texts_have_hashes", texts_have_hashes},
     {"tables_are_checked", tables_are_checked},
     {"many_texts_are_kept", many_texts_are_kept},
+    {"large_texts_are_taken", large_texts_are_taken},
     {"numbers_have_texts", numbers_have_texts},
 };
 
