@@ -20,6 +20,7 @@ import machine
 import pages
 import quick
 import repository
+import run_tests
 from repository import TOP
 
 GLANCE = re.compile(rb"subject|table 100000 |hot |live 10000 12|live 1000000 14|crowd")  # the calls of README's picture
@@ -166,12 +167,5 @@ class Quick(unittest.TestCase):
         self.assertFalse(quick.is_proved("few")[0])
 
 
-def main():
-    result = unittest.TextTestRunner(stream=sys.stdout, verbosity=2).run(unittest.defaultTestLoader.loadTestsFromName("__main__"))
-    bad = len(result.failures) + len(result.errors)
-    print(f"{result.testsRun - bad} passed, {bad} failed")
-    return 0 if result.wasSuccessful() else 1
-
-
 if __name__ == "__main__":
-    sys.exit(main())
+    sys.exit(run_tests.main())

@@ -19,6 +19,7 @@ sys.path.append(str(Path(__file__).resolve().parent.parent))
 import find_modules  # has Python find the next ones
 import caught
 import refuser
+import run_tests
 import shared_builds
 from edits import read_edit
 from repository import TOP
@@ -389,12 +390,5 @@ class Build(InRoom):
         self.assertEqual([edit.path.stem for edit in raised.exception.blamed], ["unknown", "mismatched"])
 
 
-def main():
-    result = unittest.TextTestRunner(stream=sys.stdout, verbosity=2).run(unittest.defaultTestLoader.loadTestsFromName("__main__"))
-    bad = len(result.failures) + len(result.errors)
-    print(f"{result.testsRun - bad} passed, {bad} failed")
-    return 0 if result.wasSuccessful() else 1
-
-
 if __name__ == "__main__":
-    sys.exit(main())
+    sys.exit(run_tests.main())

@@ -19,6 +19,7 @@ import find_modules  # has Python find the next ones
 import batches
 import further
 import refused_bodies
+import run_tests
 from edits import BadEdit
 from functions import function_at, plain_bodies
 from small_repository import InSmallRepository
@@ -416,12 +417,5 @@ class Turn(unittest.TestCase):
         self.assertEqual((queue.take(), queue.take(), queue.take()), (self.FIRST, self.SECOND, None))
 
 
-def main():
-    result = unittest.TextTestRunner(stream=sys.stdout, verbosity=2).run(unittest.defaultTestLoader.loadTestsFromName("__main__"))
-    bad = len(result.failures) + len(result.errors)
-    print(f"{result.testsRun - bad} passed, {bad} failed")
-    return 0 if result.wasSuccessful() else 1
-
-
 if __name__ == "__main__":
-    sys.exit(main())
+    sys.exit(run_tests.main())

@@ -20,6 +20,7 @@ import find_modules  # has Python find the next ones
 import batches
 import caught
 import review
+import run_tests
 import shared_builds
 from programs import compiler, kit, link
 from small_repository import InSmallRepository
@@ -312,12 +313,5 @@ class Archive(unittest.TestCase):
             self.assertEqual((crate / "src" / "sums.rt").read_text(encoding="utf-8"), EXPORTS)
 
 
-def main():
-    result = unittest.TextTestRunner(stream=sys.stdout, verbosity=2).run(unittest.defaultTestLoader.loadTestsFromName("__main__"))
-    bad = len(result.failures) + len(result.errors)
-    print(f"{result.testsRun - bad} passed, {bad} failed")
-    return 0 if result.wasSuccessful() else 1
-
-
 if __name__ == "__main__":
-    sys.exit(main())
+    sys.exit(run_tests.main())

@@ -25,6 +25,7 @@ sys.path.append(str(Path(__file__).resolve().parent.parent))
 import find_modules  # has Python find the next ones
 import bodies_test
 import history_tests
+import run_tests
 from bodies import GUARDS, bodies_in, try_bodies
 from build import CantBuild, build
 from edits import NoSuchEdit
@@ -103,9 +104,8 @@ def test_tools():
     """How many tests of the checker of histories and of what is said of bodies pass, as a list with a truth value for each."""
     loader = unittest.defaultTestLoader
     suite = unittest.TestSuite(map(loader.loadTestsFromModule, (history_tests, bodies_test)))
-    result = unittest.TextTestRunner(stream=sys.stdout, verbosity=0).run(suite)
-    bad = len(result.failures) + len(result.errors)
-    return [True] * (result.testsRun - bad) + [False] * bad
+    passed, failed = run_tests.run(suite, verbosity=0)
+    return [True] * passed + [False] * failed
 
 
 def try_all(words, scenes, is_built):

@@ -16,6 +16,7 @@ from pathlib import Path
 
 sys.path.append(str(Path(__file__).resolve().parent.parent))
 import find_modules  # has Python find the next ones
+import run_tests
 from programs import compiler, end_hint, kit
 from repository import TOP
 
@@ -155,12 +156,5 @@ class Program(unittest.TestCase):
             self.assertEqual(ran(self.room / "atoms", *line, text=text, env=env), given)
 
 
-def main():
-    result = unittest.TextTestRunner(stream=sys.stdout, verbosity=2).run(unittest.defaultTestLoader.loadTestsFromName("__main__"))
-    bad = len(result.failures) + len(result.errors)
-    print(f"{result.testsRun - bad} passed, {bad} failed")
-    return 0 if result.wasSuccessful() else 1
-
-
 if __name__ == "__main__":
-    sys.exit(main())
+    sys.exit(run_tests.main())
