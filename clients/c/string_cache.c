@@ -55,7 +55,7 @@ static uint8_t *room_of(char *room, uint8_t *none) {
 const char *sc_strerror(uint32_t status) {
     switch (status) {
     case SC_OK:
-        return "it is done";
+        return "success";
     case SC_NO_MEMORY:
         return "there is no memory";
     case SC_FULL_COUNT:
@@ -77,11 +77,11 @@ const char *sc_strerror(uint32_t status) {
     case SC_NOT_A_WORD:
         return "it is no such word";
     case SC_BAD_ARGUMENT:
-        return "a pointer is null, a length too great, or a handle not one";
+        return "null pointer, length too large, or not a valid handle";
     case SC_NO_RANDOM:
         return "the system gave no random bytes";
     default:
-        return "no call answers this number";
+        return "unknown status";
     }
 }
 

@@ -73,7 +73,7 @@ typedef enum sc_status {
 /* Its former name. */
 typedef sc_status sc_number;
 
-/* What a status means, as a text that is never freed. Any number has one. */
+/* What a status means, as a text that is never freed. Any number has one: that of one which no call answers is "unknown status". */
 SC_EXPORT const char *sc_strerror(uint32_t status);
 
 /* The former name of sc_strerror. */

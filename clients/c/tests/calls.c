@@ -222,12 +222,18 @@ static void large_texts_are_taken(void) {
 
 static void numbers_have_texts(void) {
     CHECK(sc_version() == SC_VERSION && SC_VERSION == SC_VERSION_MAJOR * 10000 + SC_VERSION_MINOR * 100 + SC_VERSION_PATCH);
+    CHECK(strcmp(sc_strerror(SC_OK), "success") == 0);
     CHECK(strcmp(sc_strerror(SC_NO_MEMORY), "there is no memory") == 0);
+    CHECK(strcmp(sc_strerror(SC_BAD_ARGUMENT), "null pointer, length too large, or not a valid handle") == 0);
     for (uint32_t number = 0; number < 20; number++) {
-        CHECK(sc_strerror(number)[0] != '\0');
+        bool is_known = number <= SC_NO_RANDOM && number != 4;
+        CHECK(sc_strerror(number)[0] != '\0' && is_known == (strcmp(sc_strerror(number), "unknown status") != 0));
         CHECK(strcmp(sc_text_of_fault(number), sc_strerror(number)) == 0);
+        for (uint32_t other = 0; is_known && other < number; other++) {
+            CHECK(strcmp(sc_strerror(other), sc_strerror(number)) != 0);
+        }
     }
-    CHECK(strcmp(sc_strerror(4), sc_strerror(UINT32_MAX)) == 0);
+    CHECK(strcmp(sc_strerror(UINT32_MAX), "unknown status") == 0);
 }
 
 static const test tests[] = {
