@@ -68,7 +68,7 @@ static uint64_t without_shard(const struct sc_shards *shards, uint64_t word) {
 }
 
 /* The answer to a call with a word that is no ticket: an inline word is held for ever, and no other is. */
-static sc_number answer_without_table(uint64_t word) {
+static sc_status answer_without_table(uint64_t word) {
     sc_word_parts parts = {SC_TICKET, 0, 0, 0};
     return sc_form(word, &parts) == SC_OK && parts.kind == SC_INLINE ? SC_OK : SC_NOT_HELD;
 }
@@ -98,25 +98,25 @@ static struct sc_shards *block_of(uint8_t shard_bits, uint8_t bucket_bits) {
 }
 
 /* Opens a shard. Where it is refused, nothing is left of it. */
-static sc_number open_shard(shard *opened, uint64_t holders, uint64_t tickets, uint8_t bucket_bits) {
+static sc_status open_shard(shard *opened, uint64_t holders, uint64_t tickets, uint8_t bucket_bits) {
     const sc_table closed = SC_CLOSED_TABLE;
-    sc_number number;
+    sc_status status;
     opened->table = closed;
-    number = sc_open_with(&opened->table, holders, tickets, bucket_bits);
-    if (number == SC_OK && pthread_mutex_init(&opened->lock, NULL) != 0) {
+    status = sc_open_with(&opened->table, holders, tickets, bucket_bits);
+    if (status == SC_OK && pthread_mutex_init(&opened->lock, NULL) != 0) {
         sc_close(&opened->table);
-        number = SC_NO_MEMORY;
+        status = SC_NO_MEMORY;
     }
-    return number;
+    return status;
 }
 
-sc_number sc_shared_open(sc_shared *shared) {
+sc_status sc_shared_open(sc_shared *shared) {
     return sc_shared_open_with(shared, USUAL_SHARD_BITS, MOST_HOLDERS, MOST_TICKETS, USUAL_BUCKET_BITS);
 }
 
-sc_number sc_shared_open_with(sc_shared *shared, uint8_t shard_bits, uint64_t holders, uint64_t tickets, uint8_t bucket_bits) {
+sc_status sc_shared_open_with(sc_shared *shared, uint8_t shard_bits, uint64_t holders, uint64_t tickets, uint8_t bucket_bits) {
     struct sc_shards *shards;
-    sc_number number = SC_OK;
+    sc_status status = SC_OK;
     if (shared == NULL) {
         return SC_BAD_ARGUMENT;
     }
@@ -130,11 +130,11 @@ sc_number sc_shared_open_with(sc_shared *shared, uint8_t shard_bits, uint64_t ho
     if (shards == NULL) {
         return SC_NO_MEMORY;
     }
-    for (uint64_t at = 0; at <= shards->mask && number == SC_OK; at++) {
-        number = open_shard(shard_at(shards, at), holders, tickets, bucket_bits);
-        if (number != SC_OK) {
+    for (uint64_t at = 0; at <= shards->mask && status == SC_OK; at++) {
+        status = open_shard(shard_at(shards, at), holders, tickets, bucket_bits);
+        if (status != SC_OK) {
             end_shards(shards, at);
-            return number;
+            return status;
         }
     }
     shared->shards = shards;
@@ -149,7 +149,7 @@ void sc_shared_close(sc_shared *shared) {
 }
 
 /* What calls with a text answer before they look at it. */
-static sc_number answer_to_pointers(const sc_shared *shared, const char *text, size_t len, const void *answered) {
+static sc_status answer_to_pointers(const sc_shared *shared, const char *text, size_t len, const void *answered) {
     if (shared == NULL || answered == NULL || len > PTRDIFF_MAX || (text == NULL && len != 0)) {
         return SC_BAD_ARGUMENT;
     }
@@ -157,7 +157,7 @@ static sc_number answer_to_pointers(const sc_shared *shared, const char *text, s
 }
 
 /* What calls with a word answer before they look at it. */
-static sc_number answer_to_handle(const sc_shared *shared) {
+static sc_status answer_to_handle(const sc_shared *shared) {
     if (shared == NULL) {
         return SC_BAD_ARGUMENT;
     }
@@ -165,69 +165,69 @@ static sc_number answer_to_handle(const sc_shared *shared) {
 }
 
 /* A call of the table with a text, which is sc_intern or sc_get. */
-typedef sc_number text_call(sc_table *table, const char *text, size_t len, uint64_t *word);
+typedef sc_status text_call(sc_table *table, const char *text, size_t len, uint64_t *word);
 
 /* Makes a call with a text of more than 7 bytes, in its shard. */
-static sc_number in_shard_of(const struct sc_shards *shards, text_call *call, const char *text, size_t len, uint64_t *word) {
+static sc_status in_shard_of(const struct sc_shards *shards, text_call *call, const char *text, size_t len, uint64_t *word) {
     sc_hashes hashes;
     uint64_t found = 0, own;
     shard *inside;
-    sc_number number = sc_hash(text, len, 0, &hashes);
-    if (number != SC_OK) {
-        return number;
+    sc_status status = sc_hash(text, len, 0, &hashes);
+    if (status != SC_OK) {
+        return status;
     }
     own = hashes.g & shards->mask;
     inside = entered(shards, own);
-    number = call(&inside->table, text, len, &found);
+    status = call(&inside->table, text, len, &found);
     leave(inside);
-    if (number == SC_OK) {
+    if (status == SC_OK) {
         *word = found | own << shards->shift;
     }
-    return number;
+    return status;
 }
 
-static sc_number with_text(const sc_shared *shared, text_call *call, const char *text, size_t len, uint64_t *word) {
-    const sc_number number = answer_to_pointers(shared, text, len, word);
-    if (number != SC_OK) {
-        return number;
+static sc_status with_text(const sc_shared *shared, text_call *call, const char *text, size_t len, uint64_t *word) {
+    const sc_status status = answer_to_pointers(shared, text, len, word);
+    if (status != SC_OK) {
+        return status;
     }
     return len <= MOST_INLINE ? sc_pack(text, len, word) : in_shard_of(shared->shards, call, text, len, word);
 }
 
 /* A call of the table with a word, which is sc_clone or sc_give. */
-typedef sc_number word_call(sc_table *table, uint64_t word);
+typedef sc_status word_call(sc_table *table, uint64_t word);
 
-static sc_number with_word(const sc_shared *shared, word_call *call, uint64_t word) {
-    sc_number number = answer_to_handle(shared);
-    if (number == SC_OK && !is_ticket(word)) {
+static sc_status with_word(const sc_shared *shared, word_call *call, uint64_t word) {
+    sc_status status = answer_to_handle(shared);
+    if (status == SC_OK && !is_ticket(word)) {
         return answer_without_table(word);
     }
-    if (number == SC_OK) {
+    if (status == SC_OK) {
         shard *inside = entered(shared->shards, shard_of_ticket(shared->shards, word));
-        number = call(&inside->table, without_shard(shared->shards, word));
+        status = call(&inside->table, without_shard(shared->shards, word));
         leave(inside);
     }
-    return number;
+    return status;
 }
 
 /* sc_get as a text_call: it only reads its table. */
-static sc_number get_in(sc_table *table, const char *text, size_t len, uint64_t *word) {
+static sc_status get_in(sc_table *table, const char *text, size_t len, uint64_t *word) {
     return sc_get(table, text, len, word);
 }
 
-sc_number sc_shared_intern(const sc_shared *shared, const char *text, size_t len, uint64_t *word) {
+sc_status sc_shared_intern(const sc_shared *shared, const char *text, size_t len, uint64_t *word) {
     return with_text(shared, sc_intern, text, len, word);
 }
 
-sc_number sc_shared_get(const sc_shared *shared, const char *text, size_t len, uint64_t *word) {
+sc_status sc_shared_get(const sc_shared *shared, const char *text, size_t len, uint64_t *word) {
     return with_text(shared, get_in, text, len, word);
 }
 
-sc_number sc_shared_clone(const sc_shared *shared, uint64_t word) {
+sc_status sc_shared_clone(const sc_shared *shared, uint64_t word) {
     return with_word(shared, sc_clone, word);
 }
 
-sc_number sc_shared_give(const sc_shared *shared, uint64_t word) {
+sc_status sc_shared_give(const sc_shared *shared, uint64_t word) {
     return with_word(shared, sc_give, word);
 }
 
@@ -246,31 +246,31 @@ bool sc_shared_holds(const sc_shared *shared, uint64_t word) {
     return held;
 }
 
-sc_number sc_shared_holders(const sc_shared *shared, uint64_t word, uint64_t *holders) {
-    sc_number number = holders != NULL ? answer_to_handle(shared) : SC_BAD_ARGUMENT;
-    if (number == SC_OK && !is_ticket(word)) {
+sc_status sc_shared_holders(const sc_shared *shared, uint64_t word, uint64_t *holders) {
+    sc_status status = holders != NULL ? answer_to_handle(shared) : SC_BAD_ARGUMENT;
+    if (status == SC_OK && !is_ticket(word)) {
         return SC_NOT_HELD;
     }
-    if (number == SC_OK) {
+    if (status == SC_OK) {
         shard *inside = entered(shared->shards, shard_of_ticket(shared->shards, word));
-        number = sc_holders(&inside->table, without_shard(shared->shards, word), holders);
+        status = sc_holders(&inside->table, without_shard(shared->shards, word), holders);
         leave(inside);
     }
-    return number;
+    return status;
 }
 
-sc_number sc_shared_text(const sc_shared *shared, uint64_t word, char *room, size_t room_len, size_t *len) {
-    sc_number number = answer_to_pointers(shared, room, room_len, len);
-    if (number == SC_OK && !is_ticket(word)) {
-        number = sc_unpack(word, room, room_len, len);
-        return number == SC_NOT_A_WORD ? SC_NOT_HELD : number;
+sc_status sc_shared_text(const sc_shared *shared, uint64_t word, char *room, size_t room_len, size_t *len) {
+    sc_status status = answer_to_pointers(shared, room, room_len, len);
+    if (status == SC_OK && !is_ticket(word)) {
+        status = sc_unpack(word, room, room_len, len);
+        return status == SC_NOT_A_WORD ? SC_NOT_HELD : status;
     }
-    if (number == SC_OK) {
+    if (status == SC_OK) {
         shard *inside = entered(shared->shards, shard_of_ticket(shared->shards, word));
-        number = sc_text(&inside->table, without_shard(shared->shards, word), room, room_len, len);
+        status = sc_text(&inside->table, without_shard(shared->shards, word), room, room_len, len);
         leave(inside);
     }
-    return number;
+    return status;
 }
 
 /* Adds numbers, or answers 2^64 - 1 where the sum is more. */
@@ -318,12 +318,12 @@ uint64_t sc_shared_memory(const sc_shared *shared) {
     return bytes;
 }
 
-sc_number sc_shared_clear(const sc_shared *shared) {
-    sc_number number = answer_to_handle(shared);
-    for (uint64_t at = 0; number == SC_OK && at <= shared->shards->mask; at++) {
+sc_status sc_shared_clear(const sc_shared *shared) {
+    sc_status status = answer_to_handle(shared);
+    for (uint64_t at = 0; status == SC_OK && at <= shared->shards->mask; at++) {
         shard *inside = entered(shared->shards, at);
-        number = sc_clear(&inside->table);
+        status = sc_clear(&inside->table);
         leave(inside);
     }
-    return number;
+    return status;
 }

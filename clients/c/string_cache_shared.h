@@ -33,36 +33,36 @@ typedef struct sc_shared {
 /* Opens a closed interner, in which nothing is held, with 64 shards of 64 buckets each and the greatest limits.
  * Each shard has a key of its own, as sc_open draws it.
  * SC_NO_MEMORY, also where the system has no lock left, SC_NO_RANDOM, SC_NOT_CLOSED where it is open, SC_BAD_ARGUMENT. */
-SC_TO_BE_READ sc_number sc_shared_open(sc_shared *shared);
+SC_TO_BE_READ sc_status sc_shared_open(sc_shared *shared);
 
 /* Opens a closed interner of 2 to the power of shard_bits shards, whose tables have the limits and buckets of sc_open_with. The two numbers of
  * bits have a sum of at most 14.
  * SC_NOT_CLOSED where it is open, else SC_NOT_LIMITS outside of these ranges, SC_NO_RANDOM or SC_NO_MEMORY; SC_BAD_ARGUMENT. */
-SC_TO_BE_READ sc_number sc_shared_open_with(sc_shared *shared, uint8_t shard_bits, uint64_t holders, uint64_t tickets, uint8_t bucket_bits);
+SC_TO_BE_READ sc_status sc_shared_open_with(sc_shared *shared, uint8_t shard_bits, uint64_t holders, uint64_t tickets, uint8_t bucket_bits);
 
 /* Closes the interner and frees all that it keeps; all its words are void. Does nothing to one that is closed, and to null. */
 void sc_shared_close(sc_shared *shared);
 
 /* The word of a text of len bytes, with one holder more: as sc_intern. */
-SC_TO_BE_READ sc_number sc_shared_intern(const sc_shared *shared, const char *text, size_t len, uint64_t *word);
+SC_TO_BE_READ sc_status sc_shared_intern(const sc_shared *shared, const char *text, size_t len, uint64_t *word);
 
 /* The word of a text, with no holder more: as sc_get. Another thread may have given it back when the answer is read. */
-SC_TO_BE_READ sc_number sc_shared_get(const sc_shared *shared, const char *text, size_t len, uint64_t *word);
+SC_TO_BE_READ sc_status sc_shared_get(const sc_shared *shared, const char *text, size_t len, uint64_t *word);
 
 /* One holder more of a word that is held: as sc_clone. */
-SC_TO_BE_READ sc_number sc_shared_clone(const sc_shared *shared, uint64_t word);
+SC_TO_BE_READ sc_status sc_shared_clone(const sc_shared *shared, uint64_t word);
 
 /* One holder less of a word that is held; with the last one the entry goes: as sc_give. */
-sc_number sc_shared_give(const sc_shared *shared, uint64_t word);
+sc_status sc_shared_give(const sc_shared *shared, uint64_t word);
 
 /* Whether the word is held: as sc_holds. */
 bool sc_shared_holds(const sc_shared *shared, uint64_t word);
 
 /* How many holders a word of more than 7 bytes has: as sc_holders. */
-SC_TO_BE_READ sc_number sc_shared_holders(const sc_shared *shared, uint64_t word, uint64_t *holders);
+SC_TO_BE_READ sc_status sc_shared_holders(const sc_shared *shared, uint64_t word, uint64_t *holders);
 
 /* Copies the text of a word: as sc_text. */
-SC_TO_BE_READ sc_number sc_shared_text(const sc_shared *shared, uint64_t word, char *room, size_t room_len, size_t *len);
+SC_TO_BE_READ sc_status sc_shared_text(const sc_shared *shared, uint64_t word, char *room, size_t room_len, size_t *len);
 
 /* How many texts of more than 7 bytes are held, and how many bytes they have together: as sc_entries and sc_text_bytes. */
 size_t sc_shared_entries(const sc_shared *shared);
@@ -72,7 +72,7 @@ uint64_t sc_shared_text_bytes(const sc_shared *shared);
 uint64_t sc_shared_memory(const sc_shared *shared);
 
 /* Takes all entries away, shard by shard; no word that was given comes again. SC_CLOSED, SC_BAD_ARGUMENT. */
-sc_number sc_shared_clear(const sc_shared *shared);
+sc_status sc_shared_clear(const sc_shared *shared);
 
 #ifdef __cplusplus
 }

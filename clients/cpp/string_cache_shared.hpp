@@ -53,18 +53,18 @@ public:
     static bool is_ticket(std::uint64_t word) noexcept { return word >> tag_bits << tag_bits == word; }
 
     // Calls with the table of a text of more than 7 bytes, under its lock: sc_intern or sc_get. Makes the word that is answered one of all shards.
-    template <typename Call> sc_number with_text(Call call, std::string_view text, std::uint64_t &word) const {
+    template <typename Call> sc_status with_text(Call call, std::string_view text, std::uint64_t &word) const {
         sc_hashes hashes{};
-        sc_number number = sc_hash(text.data(), text.size(), 0, &hashes);
-        if (number != SC_OK) {
-            return number;
+        sc_status status = sc_hash(text.data(), text.size(), 0, &hashes);
+        if (status != SC_OK) {
+            return status;
         }
         const std::uint64_t own = hashes.g & (count_ - 1);
         Shard &shard = list_[own];
         const std::lock_guard<std::mutex> inside(shard.lock);
-        number = call(&shard.table, text.data(), text.size(), &word);
-        word |= number == SC_OK ? own << shift_ : 0;
-        return number;
+        status = call(&shard.table, text.data(), text.size(), &word);
+        word |= status == SC_OK ? own << shift_ : 0;
+        return status;
     }
 
     // Calls with the table of a ticket, under its lock, and with the ticket as that table knows it.
@@ -195,15 +195,15 @@ public:
         }
         // The symbol is one holder more, and gets it under the same lock, before another thread takes the text away.
         const auto call = [](sc_table *table, const char *bytes, std::size_t length, std::uint64_t *found) {
-            const sc_number number = sc_get(table, bytes, length, found);
-            return number == SC_OK ? sc_clone(table, *found) : number;
+            const sc_status status = sc_get(table, bytes, length, found);
+            return status == SC_OK ? sc_clone(table, *found) : status;
         };
         std::uint64_t word = 0;
-        const sc_number number = shards_->with_text(call, text, word);
-        if (number == SC_NOT_HELD) {
+        const sc_status status = shards_->with_text(call, text, word);
+        if (status == SC_NOT_HELD) {
             return std::nullopt;
         }
-        detail::throw_unless_ok(number);
+        detail::throw_unless_ok(status);
         return SharedSymbol(shards_.get(), word);
     }
 

@@ -233,7 +233,7 @@ static void numbers_have_texts(void) {
             CHECK(strcmp(sc_strerror(other), sc_strerror(number)) != 0);
         }
     }
-    CHECK(strcmp(sc_strerror(UINT32_MAX), "unknown status") == 0);
+    CHECK(strcmp(sc_strerror(UINT32_MAX), "unknown status") == 0 && sizeof(sc_number) == sizeof(sc_status));
 }
 
 static const test tests[] = {

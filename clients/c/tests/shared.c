@@ -197,15 +197,15 @@ static void limits_have_ranges(void) {
     sc_shared_close(&shared);
 }
 
-/* What calls answer for a handle: the same number of all that answer one, and nothing of the others. */
-static bool all_answer(const sc_shared *shared, sc_number number) {
+/* What calls answer for a handle: the same status of all that answer one, and nothing of the others. */
+static bool all_answer(const sc_shared *shared, sc_status status) {
     uint64_t word = 77, holders = 77;
     size_t len = 77;
     char room[ROOM];
-    bool same = sc_shared_intern(shared, "a longer text", 13, &word) == number && sc_shared_intern(shared, "abc", 3, &word) == number;
-    same = same && sc_shared_get(shared, "abc", 3, &word) == number && sc_shared_clone(shared, 1) == number && sc_shared_give(shared, 1) == number;
-    same = same && sc_shared_holders(shared, 1, &holders) == number && sc_shared_text(shared, 1, room, ROOM, &len) == number;
-    same = same && sc_shared_clear(shared) == number && !sc_shared_holds(shared, 1) && sc_shared_entries(shared) == 0;
+    bool same = sc_shared_intern(shared, "a longer text", 13, &word) == status && sc_shared_intern(shared, "abc", 3, &word) == status;
+    same = same && sc_shared_get(shared, "abc", 3, &word) == status && sc_shared_clone(shared, 1) == status && sc_shared_give(shared, 1) == status;
+    same = same && sc_shared_holders(shared, 1, &holders) == status && sc_shared_text(shared, 1, room, ROOM, &len) == status;
+    same = same && sc_shared_clear(shared) == status && !sc_shared_holds(shared, 1) && sc_shared_entries(shared) == 0;
     same = same && sc_shared_text_bytes(shared) == 0 && sc_shared_memory(shared) == 0;
     return same && word == 77 && holders == 77 && len == 77;
 }

@@ -31,17 +31,17 @@ int __wrap_pthread_mutex_destroy(pthread_mutex_t *lock) {
     return __real_pthread_mutex_destroy(lock);
 }
 
-static sc_number open_small(sc_shared *shared) {
+static sc_status open_small(sc_shared *shared) {
     return sc_shared_open_with(shared, SHARD_BITS, UINT64_C(1) << 62, UINT64_C(1) << 47, 0);
 }
 
 /* Opens an interner, again where memory was refused. How often it was. */
 static int open_again(sc_shared *shared) {
-    const sc_number number = open_small(shared);
-    if (number == SC_OK) {
+    const sc_status status = open_small(shared);
+    if (status == SC_OK) {
         return 0;
     }
-    CHECK(number == SC_NO_MEMORY && shared->shards == NULL && bytes_given == 0 && blocks_given == 0 && locks_made == 0);
+    CHECK(status == SC_NO_MEMORY && shared->shards == NULL && bytes_given == 0 && blocks_given == 0 && locks_made == 0);
     CHECK(open_small(shared) == SC_OK);
     return 1;
 }
@@ -53,11 +53,11 @@ static int intern_again(const sc_shared *shared, int at) {
     const size_t entries = sc_shared_entries(shared);
     const uint64_t bytes = sc_shared_text_bytes(shared);
     const size_t len = (size_t)snprintf(text, sizeof text, "text number %d", at);
-    const sc_number number = sc_shared_intern(shared, text, len, &word);
-    if (number == SC_OK) {
+    const sc_status status = sc_shared_intern(shared, text, len, &word);
+    if (status == SC_OK) {
         return 0;
     }
-    CHECK(number == SC_NO_MEMORY && word == 77 && sc_shared_entries(shared) == entries && sc_shared_text_bytes(shared) == bytes);
+    CHECK(status == SC_NO_MEMORY && word == 77 && sc_shared_entries(shared) == entries && sc_shared_text_bytes(shared) == bytes);
     CHECK(sc_shared_get(shared, text, len, &word) == SC_NOT_HELD);
     CHECK(sc_shared_intern(shared, text, len, &word) == SC_OK && sc_shared_holds(shared, word));
     return 1;
