@@ -4,10 +4,10 @@
 // text goes with its last symbol. Symbols of one interner are equal exactly if their texts are, and comparing them reads two numbers.
 //
 // What is refused is thrown: std::bad_alloc where there is no memory, std::invalid_argument where bytes aren't UTF-8, and string_cache::Refused,
-// which has the number, for the rest. A call that throws has changed nothing. What is never refused is noexcept.
+// which has the status, for the rest. A call that throws has changed nothing. What is never refused is noexcept.
 //
-// No symbol may be used after its interner has ended. What is const only reads the table, and threads may call it side by side: text, contains, size,
-// empty, text_bytes, memory and for_each. All else that takes an interner writes it, and so does the copy and the end of a symbol: while a thread
+// No symbol may be used after its interner has ended. What is const only reads the table, and threads may call it side by side: text, holders, contains,
+// size, empty, text_bytes, memory and for_each. All else that takes an interner writes it, and so does the copy and the end of a symbol: while a thread
 // does one of these, no other uses the interner or any of its symbols. So where one thread may write, all hold a lock. To move, to compare and to
 // hash a symbol reads no table.
 #ifndef STRING_CACHE_HPP
@@ -33,12 +33,15 @@ namespace string_cache {
 // A refusal other than want of memory and of UTF-8.
 class Refused : public std::runtime_error {
 public:
-    explicit Refused(sc_status number) : std::runtime_error(sc_strerror(number)), number_(number) {}
+    explicit Refused(sc_status status) : std::runtime_error(sc_strerror(status)), status_(status) {}
 
-    sc_status number() const noexcept { return number_; }
+    sc_status status() const noexcept { return status_; }
+
+    // The former name of status.
+    [[deprecated("it is status() now")]] sc_status number() const noexcept { return status_; }
 
 private:
-    sc_status number_;
+    sc_status status_;
 };
 
 namespace detail {
@@ -99,6 +102,12 @@ public:
             throw std::logic_error("string_cache::Symbol::text: the symbol was moved from");
         }
         return detail::text_of(table_, word_);
+    }
+
+    // How many holders the text has; none is told of one of at most 7 bytes.
+    std::optional<std::uint64_t> holders() const noexcept {
+        std::uint64_t holders = 0;
+        return sc_holders(table_, word_, &holders) == SC_OK ? std::optional<std::uint64_t>(holders) : std::nullopt;
     }
 
     // The number that stands for the text in this interner.

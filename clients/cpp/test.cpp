@@ -60,6 +60,7 @@ void a_text_goes_with_its_last_symbol() {
         CHECK(names.size() == 2 && holders_at(names, 0) == 2 && holders_at(names, 1) == 1);
         moved = copy;
         CHECK(holders_at(names, 0) == 3 && moved == first && taken.text() == "another long name");
+        CHECK(first.holders() == 3U && taken.holders() == 1U && !names.intern("short").holders().has_value());
     }
     CHECK(names.empty() && names.text_bytes() == 0 && !names.get("a longer name").has_value());
 }
@@ -89,7 +90,7 @@ void a_symbol_that_was_moved_from_says_so() {
     Symbol name = names.intern("a longer name");
     CHECK(static_cast<bool>(name));
     const Symbol taken = std::move(name);
-    CHECK(!name && name.word() == 0 && name != taken && taken);
+    CHECK(!name && name.word() == 0 && name != taken && taken && !name.holders().has_value());
     CHECK(throws<std::logic_error>([&] { name.text(); }));
     CHECK(throws<std::logic_error>([&] { std::cout << name; }));
     const Symbol copy = name;
@@ -168,7 +169,7 @@ void refusals_are_thrown() {
         names.intern("the third name");
         CHECK(false);
     } catch (const Refused &refused) {
-        CHECK(refused.number() == SC_TICKETS_SPENT);
+        CHECK(refused.status() == SC_TICKETS_SPENT && refused.what() == std::string(sc_strerror(SC_TICKETS_SPENT)));
     }
     CHECK(throws<Refused>([] { Interner none(0, 1, 0); }));
     CHECK(throws<std::bad_alloc>([&] { names.reserve(SIZE_MAX / 2); }));
@@ -211,10 +212,22 @@ void a_given_key_changes_no_word() {
     try {
         const Interner none(9, 9, 15, sc_key{1, 2});
     } catch (const string_cache::Refused &fault) {
-        refused = fault.number() == SC_NOT_LIMITS;
+        refused = fault.status() == SC_NOT_LIMITS;
     }
     CHECK(refused);
 }
+
+#if defined(__GNUC__)
+#pragma GCC diagnostic push
+#pragma GCC diagnostic ignored "-Wdeprecated-declarations"
+#endif
+void former_names_answer_the_same() {
+    const Refused refused(SC_TICKETS_SPENT);
+    CHECK(refused.number() == SC_TICKETS_SPENT);
+}
+#if defined(__GNUC__)
+#pragma GCC diagnostic pop
+#endif
 
 struct Test {
     const char *name;
@@ -234,6 +247,7 @@ const Test tests[] = {
     {"memory_is_told", memory_is_told},
     {"an_interner_is_moved", an_interner_is_moved},
     {"a_given_key_changes_no_word", a_given_key_changes_no_word},
+    {"former_names_answer_the_same", former_names_answer_the_same},
 };
 
 } // namespace

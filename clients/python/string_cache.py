@@ -24,6 +24,7 @@ import ctypes.util
 import itertools
 import os
 import threading
+import warnings
 from collections.abc import Callable, Iterator
 from pathlib import Path
 from types import TracebackType
@@ -46,9 +47,15 @@ ROOM = 256  # bytes that most texts have room in
 class Refused(Exception):
     """A call was refused, and has changed nothing."""
 
-    def __init__(self, number: int) -> None:
-        super().__init__(_library.sc_strerror(number).decode("ascii"))
-        self.number = number
+    def __init__(self, status: int) -> None:
+        super().__init__(_library.sc_strerror(status).decode("ascii"))
+        self.status = status
+
+    @property
+    def number(self) -> int:
+        """The former name of `status`."""
+        warnings.warn("Refused.number is Refused.status now", DeprecationWarning, stacklevel=2)
+        return self.status
 
 
 class Closed(Refused, ValueError):

@@ -210,9 +210,15 @@ class Ending(unittest.TestCase):
                 names.intern("a longer name")
             with self.assertRaises(Refused) as spent:
                 names.intern("another long name")
-            self.assertEqual((full.exception.number, spent.exception.number), (2, 3))
+            self.assertEqual((full.exception.status, spent.exception.status), (2, 3))
         for limits in ((0, 1, 0), (1, 0, 0), (1 << 63, 1, 0), (1, 1 << 48, 0), (1, 1, 15), (-1, 1, 0), (1, 1, 256)):
             self.assertRaises(ValueError, Interner, *limits)
+
+    def test_a_refusal_has_its_status_by_a_former_name_too(self) -> None:
+        refused = Refused(3)
+        with self.assertWarnsRegex(DeprecationWarning, "status") as warned:
+            self.assertEqual((refused.number, refused.status), (3, 3))
+        self.assertEqual(warned.filename, __file__)
 
     def test_an_interner_that_is_forgotten_is_closed(self) -> None:
         names = Interner()

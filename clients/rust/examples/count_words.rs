@@ -13,7 +13,7 @@ fn main() -> Result<(), Box<dyn std::error::Error>> {
     io::stdin().read_to_string(&mut text)?;
     let mut names = Interner::new()?;
     for (symbol, times) in most_frequent(counts(&mut names, &text)?) {
-        println!("{times:>8} {}", names.resolve(symbol).unwrap_or_default());
+        println!("{times:>8} {}", names.text(symbol).unwrap_or_default());
     }
     Ok(())
 }

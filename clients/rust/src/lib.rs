@@ -6,13 +6,13 @@
 //! let mut names = Interner::new()?;
 //! let first = names.intern("a longer name")?;
 //! assert_eq!(names.intern("a longer name")?, first);
-//! assert_eq!(names.resolve(first).as_deref(), Some("a longer name"));
+//! assert_eq!(names.text(first).as_deref(), Some("a longer name"));
 //! # Ok::<(), interned_names::Fault>(())
 //! ```
 //!
 //! A symbol is a number and may be copied freely. The names of an interner live as long as it does, unless they are given back: each
 //! [`Interner::intern`] counts one holder, and each [`Interner::release`] takes one off; with the last one the name goes. The symbol of a name
-//! that went never comes back, so that a stale one resolves to nothing, and never to another name.
+//! that went never comes back, so that a stale one has no text, and never that of another name.
 //!
 //! Threads share the names of a [`SharedInterner`].
 //!
@@ -93,7 +93,7 @@ fn done(number: u32) -> Result<(), Fault> {
 pub struct Symbol(NonZeroU64);
 
 impl Symbol {
-    /// The symbol with this word, as [`Symbol::word`] told it. Any number is safe: an interner resolves what it holds, and nothing else.
+    /// The symbol with this word, as [`Symbol::word`] told it. Any number is safe: an interner has a text for what it holds, and for nothing else.
     pub fn from_word(word: u64) -> Option<Symbol> {
         NonZeroU64::new(word).map(Symbol)
     }
@@ -171,15 +171,15 @@ impl Interner {
         }
     }
 
-    /// The name of a symbol. `None` where it isn't held.
-    pub fn resolve(&self, symbol: Symbol) -> Option<String> {
-        let mut name = String::new();
-        self.resolve_into(symbol, &mut name).then_some(name)
+    /// The text of a symbol, which is its name. `None` where it isn't held.
+    pub fn text(&self, symbol: Symbol) -> Option<String> {
+        let mut text = String::new();
+        self.text_into(symbol, &mut text).then_some(text)
     }
 
-    /// Puts the name of a symbol in place of a text, whose memory it takes over. Whether it is held: the text is empty where it isn't.
-    pub fn resolve_into(&self, symbol: Symbol, name: &mut String) -> bool {
-        let mut room = std::mem::take(name).into_bytes();
+    /// Puts the text of a symbol in place of another, whose memory it takes over. Whether it is held: the text is empty where it isn't.
+    pub fn text_into(&self, symbol: Symbol, text: &mut String) -> bool {
+        let mut room = std::mem::take(text).into_bytes();
         room.resize(room.capacity().max(32), 0);
         let mut number = self.copy_text(symbol, &mut room);
         if let Err((sys::TOO_SMALL, length)) = number {
@@ -187,11 +187,23 @@ impl Interner {
             number = self.copy_text(symbol, &mut room);
         }
         room.truncate(number.unwrap_or(0));
-        *name = String::from_utf8(room).unwrap_or_default();
+        *text = String::from_utf8(room).unwrap_or_default();
         number.is_ok()
     }
 
-    /// Copies the name of a symbol to the front of the room. Its length, or the number of the refusal and the length.
+    /// The former name of [`Interner::text`].
+    #[deprecated(since = "0.1.2", note = "it is `text` now")]
+    pub fn resolve(&self, symbol: Symbol) -> Option<String> {
+        self.text(symbol)
+    }
+
+    /// The former name of [`Interner::text_into`].
+    #[deprecated(since = "0.1.2", note = "it is `text_into` now")]
+    pub fn resolve_into(&self, symbol: Symbol, name: &mut String) -> bool {
+        self.text_into(symbol, name)
+    }
+
+    /// Copies the text of a symbol to the front of the room. Its length, or the number of the refusal and the length.
     fn copy_text(&self, symbol: Symbol, room: &mut [u8]) -> Result<usize, (u32, usize)> {
         let mut length = 0;
         let front = room.as_mut_ptr().cast::<c_char>();
@@ -302,7 +314,7 @@ impl Iterator for Iter<'_> {
     fn next(&mut self) -> Option<(Symbol, String)> {
         let symbol = self.names.at(self.place)?;
         self.place += 1;
-        Some((symbol, self.names.resolve(symbol)?))
+        Some((symbol, self.names.text(symbol)?))
     }
 
     fn size_hint(&self) -> (usize, Option<usize>) {

@@ -70,7 +70,7 @@ impl SharedInterner {
     }
 
     /// The symbol of a name that has one: names of at most 7 bytes always do. [`Fault::FullCount`] under limits, since it is one holder more.
-    pub fn get(&self, name: &str) -> Result<Option<SharedSymbol<'_>>, Fault> {
+    pub fn try_get(&self, name: &str) -> Result<Option<SharedSymbol<'_>>, Fault> {
         let found = match inline_symbol(name) {
             Some(inline) => Some(inline),
             None => {
@@ -79,6 +79,12 @@ impl SharedInterner {
             }
         };
         Ok(found.map(|symbol| SharedSymbol { names: self, symbol }))
+    }
+
+    /// The former name of [`SharedInterner::try_get`].
+    #[deprecated(since = "0.1.2", note = "it is `try_get` now, since `get` of an `Interner` is never refused")]
+    pub fn get(&self, name: &str) -> Result<Option<SharedSymbol<'_>>, Fault> {
+        self.try_get(name)
     }
 }
 
@@ -199,9 +205,15 @@ pub struct LockedSymbol<'a, Beside> {
 }
 
 impl<Beside> LockedSymbol<'_, Beside> {
-    /// As [`Interner::resolve`].
+    /// As [`Interner::text`].
+    pub fn text(&self) -> Option<String> {
+        self.inside.0.text(self.own?)
+    }
+
+    /// The former name of [`LockedSymbol::text`].
+    #[deprecated(since = "0.1.2", note = "it is `text` now")]
     pub fn resolve(&self) -> Option<String> {
-        self.inside.0.resolve(self.own?)
+        self.text()
     }
 
     /// As [`Interner::contains`].
@@ -235,7 +247,7 @@ impl<Beside> LockedSymbol<'_, Beside> {
 /// exactly if they are of one interner and their names are equal.
 ///
 /// Its name is held until it is dropped, unless [`LockedSymbol::release`] takes off more holders than were counted by hand. That is safe, but if the
-/// last holder goes in this way, the symbol stands for nothing from then on: [`SharedSymbol::name`] is empty, [`SharedSymbol::holders`] is `None`,
+/// last holder goes in this way, the symbol stands for nothing from then on: [`SharedSymbol::text`] is empty, [`SharedSymbol::holders`] is `None`,
 /// [`SharedSymbol::try_clone`] is [`Fault::NotHeld`], a clone panics, and the drop does nothing. It never stands for another name, and it isn't
 /// equal to the symbol of its name if that is interned again.
 pub struct SharedSymbol<'a> {
@@ -244,18 +256,29 @@ pub struct SharedSymbol<'a> {
 }
 
 impl<'a> SharedSymbol<'a> {
-    /// The name, as a copy. It is empty if the last holder was [released](LockedSymbol::release) from below the symbol.
-    pub fn name(&self) -> String {
+    /// The text, which is the name, as a copy. It is empty if the last holder was [released](LockedSymbol::release) from below the symbol.
+    pub fn text(&self) -> String {
         match is_ticket(self.symbol) {
-            true => self.names.lock_symbol(self.symbol).resolve(),
+            true => self.names.lock_symbol(self.symbol).text(),
             false => inline_name(self.symbol),
         }
         .unwrap_or_default()
     }
 
+    /// The former name of [`SharedSymbol::text`].
+    #[deprecated(since = "0.1.2", note = "it is `text` now")]
+    pub fn name(&self) -> String {
+        self.text()
+    }
+
     /// What stands for the name in its interner.
     pub fn symbol(&self) -> Symbol {
         self.symbol
+    }
+
+    /// The number that stands for the name in its interner, as [`Symbol::word`] tells it.
+    pub fn word(&self) -> u64 {
+        self.symbol.word()
     }
 
     /// The interner.
@@ -308,13 +331,13 @@ impl Hash for SharedSymbol<'_> {
 
 impl fmt::Debug for SharedSymbol<'_> {
     fn fmt(&self, out: &mut fmt::Formatter<'_>) -> fmt::Result {
-        fmt::Debug::fmt(&self.name(), out)
+        fmt::Debug::fmt(&self.text(), out)
     }
 }
 
 impl fmt::Display for SharedSymbol<'_> {
     fn fmt(&self, out: &mut fmt::Formatter<'_>) -> fmt::Result {
-        out.pad(&self.name())
+        out.pad(&self.text())
     }
 }
 

@@ -38,13 +38,13 @@ fn different_names_have_different_symbols() {
 }
 
 #[test]
-fn a_symbol_resolves_to_its_name() {
+fn a_symbol_has_its_text() {
     let mut names = new_interner();
     let symbols: Vec<Symbol> = samples().iter().map(|name| intern(&mut names, name)).collect();
     let mut room = String::new();
     for (symbol, name) in symbols.into_iter().zip(samples()) {
-        assert_eq!(names.resolve(symbol).as_ref(), Some(&name));
-        assert!(names.resolve_into(symbol, &mut room) && room == name);
+        assert_eq!(names.text(symbol).as_ref(), Some(&name));
+        assert!(names.text_into(symbol, &mut room) && room == name);
     }
 }
 
@@ -119,17 +119,17 @@ fn a_name_goes_with_its_last_holder() {
     assert!(names.release(symbol) && !names.release(symbol));
     assert_eq!((names.len(), names.text_bytes(), names.holders(symbol)), (0, 0, None));
     assert_eq!(names.hold(symbol), Err(Fault::NotHeld));
-    assert_eq!(names.resolve(symbol), None);
+    assert_eq!(names.text(symbol), None);
     assert_ne!(intern(&mut names, "a longer name"), symbol);
 }
 
 #[test]
-fn a_text_that_was_there_is_gone_where_nothing_resolves() {
+fn a_text_that_was_there_is_gone_where_there_is_none() {
     let mut names = new_interner();
     let symbol = intern(&mut names, "a longer name");
     names.clear();
     let mut room = String::from("what was here before");
-    assert!(!names.resolve_into(symbol, &mut room) && room.is_empty());
+    assert!(!names.text_into(symbol, &mut room) && room.is_empty());
 }
 
 #[test]
@@ -163,7 +163,7 @@ fn any_number_may_be_asked_for() {
     assert_eq!(Symbol::from_word(symbol.word()), Some(symbol));
     assert_eq!(Symbol::from_word(0), None);
     for other in (0..64).filter_map(|shift| Symbol::from_word(symbol.word() ^ 1 << shift)) {
-        assert!(!names.contains(other) && names.resolve(other).is_none() && !names.release(other));
+        assert!(!names.contains(other) && names.text(other).is_none() && !names.release(other));
     }
     assert_eq!(names.len(), 1);
 }
@@ -250,6 +250,17 @@ fn a_text_has_its_hash() {
 }
 
 #[test]
+#[allow(deprecated)]
+fn former_names_answer_the_same() {
+    let mut names = new_interner();
+    let (symbol, mut room) = (intern(&mut names, "a longer name"), String::from("what was here before"));
+    assert_eq!(names.resolve(symbol), names.text(symbol));
+    assert!(names.resolve_into(symbol, &mut room) && room == "a longer name");
+    names.clear();
+    assert!(names.resolve(symbol).is_none() && !names.resolve_into(symbol, &mut room) && room.is_empty());
+}
+
+#[test]
 fn a_million_names_are_kept() {
     const NAMES: usize = 1_000_000;
     let mut names = new_interner();
@@ -259,7 +270,7 @@ fn a_million_names_are_kept() {
     let mut room = String::new();
     for (at, &symbol) in symbols.iter().enumerate() {
         let name = format!("name number {at}");
-        assert!(names.resolve_into(symbol, &mut room) && room == name);
+        assert!(names.text_into(symbol, &mut room) && room == name);
         assert_eq!(names.get(&name), Some(symbol));
     }
     assert!(symbols.iter().rev().all(|&symbol| names.release(symbol)));
@@ -277,7 +288,7 @@ fn threads_read_one_interner() {
             scope.spawn(|| {
                 for (text, &symbol) in texts.iter().zip(&symbols) {
                     assert_eq!(shared.get(text), Some(symbol));
-                    assert_eq!(shared.resolve(symbol).as_deref(), Some(&text[..]));
+                    assert_eq!(shared.text(symbol).as_deref(), Some(&text[..]));
                     assert_eq!(shared.holders(symbol), Some(1));
                 }
                 assert_eq!(shared.iter().count(), 500);

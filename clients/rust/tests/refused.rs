@@ -42,7 +42,7 @@ fn a_request_for_shards_is_refused() {
     assert!(!IS_REFUSED.with(Cell::get));
     assert_eq!((refused, BLOCKS.with(Cell::get)), (Some(Fault::Memory), before));
     let names = SharedInterner::with_limits(3, 9, 9, 0).expect("an interner");
-    assert_eq!(names.intern("a longer name").map(|symbol| symbol.name()).as_deref(), Ok("a longer name"));
+    assert_eq!(names.intern("a longer name").map(|symbol| symbol.text()).as_deref(), Ok("a longer name"));
 }
 
 #[test]
@@ -59,7 +59,7 @@ fn interning_asks_for_none() {
     IS_REFUSED.with(|is| is.set(true));
     let symbol = names.intern("a longer name").expect("a symbol");
     let copy = symbol.clone();
-    assert!(symbol == copy && names.get("a longer name").is_ok_and(|found| found.is_some()));
+    assert!(symbol == copy && names.try_get("a longer name").is_ok_and(|found| found.is_some()));
     drop((symbol, copy));
     assert!(names.is_empty() && IS_REFUSED.with(|is| is.replace(false)));
 }

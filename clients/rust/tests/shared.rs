@@ -31,10 +31,10 @@ fn a_symbol_has_its_name() {
     let names = new_interner();
     for name in ["", "a", "1234567", "12345678", "é", "日本語の長い名前", "\0\0\0\0\0\0\0\0\0", &"x".repeat(1 << 20)] {
         let symbol = intern(&names, name);
-        assert_eq!((symbol.name(), symbol.to_string(), format!("{symbol:?}")), (name.into(), name.into(), format!("{name:?}")));
+        assert_eq!((symbol.text(), symbol.to_string(), format!("{symbol:?}")), (name.into(), name.into(), format!("{name:?}")));
         assert_eq!(symbol, intern(&names, &name.to_owned()));
-        assert_eq!(names.get(name), Ok(Some(symbol.clone())));
-        assert_eq!(symbol.holders(), (name.len() > 7).then_some(1));
+        assert_eq!(names.try_get(name), Ok(Some(symbol.clone())));
+        assert_eq!((symbol.holders(), symbol.word()), ((name.len() > 7).then_some(1), symbol.symbol().word()));
     }
     assert!(names.is_empty());
 }
@@ -47,9 +47,9 @@ fn a_name_goes_with_its_last_symbol() {
     assert_eq!((names.len(), names.text_bytes(), copy.holders(), copy.interner().len()), (1, 13, Some(2), 1));
     let symbol = first.symbol();
     drop(first);
-    assert_eq!((copy.name().as_str(), copy.holders()), ("a longer name", Some(1)));
+    assert_eq!((copy.text().as_str(), copy.holders()), ("a longer name", Some(1)));
     drop(copy);
-    assert_eq!((names.len(), names.text_bytes(), names.get("a longer name")), (0, 0, Ok(None)));
+    assert_eq!((names.len(), names.text_bytes(), names.try_get("a longer name")), (0, 0, Ok(None)));
     assert!(!names.lock_symbol(symbol).is_held() && !names.lock_symbol(symbol).release());
     assert_ne!(intern(&names, "a longer name").symbol(), symbol);
 }
@@ -60,17 +60,17 @@ fn symbols_whose_holders_are_released_stand_for_nothing() {
     let names = new_interner();
     let (first, second) = (intern(&names, "a longer name"), intern(&names, "a longer name"));
     assert!(names.lock_symbol(first.symbol()).release());
-    assert_eq!((first.name().as_str(), second.holders()), ("a longer name", Some(1)));
+    assert_eq!((first.text().as_str(), second.holders()), ("a longer name", Some(1)));
     assert!(names.lock_symbol(first.symbol()).release() && !names.lock_symbol(first.symbol()).release());
     for symbol in [&first, &second] {
-        assert_eq!((symbol.name(), symbol.to_string(), symbol.holders()), (String::new(), String::new(), None));
+        assert_eq!((symbol.text(), symbol.to_string(), symbol.holders()), (String::new(), String::new(), None));
         assert_eq!(symbol.try_clone(), Err(Fault::NotHeld));
     }
     assert!(names.is_empty() && thread::scope(|scope| scope.spawn(|| first.clone()).join().is_err()));
     let again = intern(&names, "a longer name");
     assert!(first == second && first != again);
     drop((first, second));
-    assert_eq!((again.name().as_str(), again.holders(), names.len()), ("a longer name", Some(1), 1));
+    assert_eq!((again.text().as_str(), again.holders(), names.len()), ("a longer name", Some(1), 1));
 }
 
 #[test]
@@ -88,7 +88,7 @@ fn two_names_never_share_a_symbol() {
         let names = SharedInterner::<()>::with_limits(shard_bits, 9, 1 << 40, bucket_bits).expect("an interner");
         let symbols: Vec<SharedSymbol<'_>> = (0..count).map(|number| intern(&names, &numbered(number))).collect();
         assert_eq!(symbols.iter().map(SharedSymbol::symbol).collect::<HashSet<Symbol>>().len(), count);
-        assert!(symbols.iter().enumerate().all(|(number, symbol)| symbol.name() == numbered(number)));
+        assert!(symbols.iter().enumerate().all(|(number, symbol)| symbol.text() == numbered(number)));
     }
 }
 
@@ -98,7 +98,7 @@ fn any_symbol_may_be_asked_for() {
     let held = intern(&names, "a longer name");
     for other in (0..64).filter_map(|shift| Symbol::from_word(held.symbol().word() ^ 1 << shift)) {
         let mut locked = names.lock_symbol(other);
-        assert!(!locked.is_held() && locked.resolve().is_none() && locked.holders().is_none() && !locked.release());
+        assert!(!locked.is_held() && locked.text().is_none() && locked.holders().is_none() && !locked.release());
         assert_eq!(locked.hold(), Err(Fault::NotHeld));
     }
     assert_eq!(held.holders(), Some(1));
@@ -111,7 +111,7 @@ fn limits_are_kept() {
     let _copy = symbol.clone();
     assert_eq!(symbol.try_clone(), Err(Fault::FullCount));
     assert_eq!(names.intern("a longer name"), Err(Fault::FullCount));
-    assert_eq!(names.get("a longer name"), Err(Fault::FullCount));
+    assert_eq!(names.try_get("a longer name"), Err(Fault::FullCount));
     assert_eq!(names.intern("another long name"), Err(Fault::TicketsSpent));
     assert_eq!(symbol.holders(), Some(2));
     let rows = [(2, 0, 1, 2), (2, 1, 0, 2), (2, 1 << 63, 1, 2), (2, 1, 1 << 48, 2), (15, 1, 1, 0), (7, 1, 1, 8), (0, 1, 1, 15)];
@@ -162,8 +162,8 @@ fn a_panic_under_a_lock_takes_nothing_from_the_others() {
         thread.join().is_err()
     });
     assert!(panicked && names.len() == 1 && names.memory() > names.text_bytes());
-    assert_eq!((held.name().as_str(), held.holders()), ("a longer name", Some(2)));
-    assert_eq!(names.get("a longer name"), Ok(Some(held.clone())));
+    assert_eq!((held.text().as_str(), held.holders()), ("a longer name", Some(2)));
+    assert_eq!(names.try_get("a longer name"), Ok(Some(held.clone())));
     assert!(names.lock_symbol(held.symbol()).release());
     drop(held);
     assert!(names.is_empty());
@@ -174,7 +174,7 @@ fn a_panic_under_a_lock_takes_nothing_from_the_others() {
 fn a_look_up_interns_nothing() {
     let (names, mut given) = (new_interner(), HashSet::new());
     let look = || -> HashSet<Symbol> {
-        let found = (0..100_000).filter_map(|_| names.get("a longer name").expect("a look-up"));
+        let found = (0..100_000).filter_map(|_| names.try_get("a longer name").expect("a look-up"));
         found.map(|symbol| symbol.symbol()).collect()
     };
     thread::scope(|scope| {
@@ -194,6 +194,19 @@ fn a_symbol_is_written_in_its_width() {
         let symbol = intern(&names, name);
         assert_eq!((format!("{symbol:>10}"), format!("{symbol:.^10}"), format!("{symbol:.3}")), (right.into(), middle.into(), cut.into()));
     }
+}
+
+#[test]
+#[allow(deprecated)]
+fn former_names_answer_the_same() {
+    let names = SharedInterner::<()>::with_limits(0, 3, 9, 0).expect("an interner");
+    assert_eq!(names.get("a longer name"), Ok(None));
+    let symbol = intern(&names, "a longer name");
+    let resolved = names.lock_symbol(symbol.symbol()).resolve();
+    assert_eq!((symbol.name(), resolved), (symbol.text(), Some(symbol.text())));
+    assert_eq!(names.get("a longer name"), names.try_get("a longer name"));
+    let _copies = [symbol.clone(), symbol.clone()];
+    assert_eq!(names.get("a longer name"), Err(Fault::FullCount));
 }
 
 /// How often each name of a shard was locked.
@@ -226,7 +239,7 @@ fn work(names: &SharedInterner, seed: usize) {
             (0, _) | (_, None) => own.push(intern(names, &numbered(number))),
             (1, Some(copy)) => own.push(copy),
             (2, _) => drop(own.pop()),
-            (_, Some(symbol)) => assert_eq!(symbol.name(), numbered(number)),
+            (_, Some(symbol)) => assert_eq!(symbol.text(), numbered(number)),
         }
         assert!(own.iter().all(|symbol| *symbol == own[0]));
     }
