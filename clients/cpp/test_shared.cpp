@@ -132,6 +132,14 @@ void a_text_goes_with_its_last_symbol() {
     CHECK(names.empty() && names.text_bytes() == 0 && !names.get("a longer name").has_value());
 }
 
+// As the tests of the shared interner for C and Rust have them.
+void words_are_those_of_each_language() {
+    SharedInterner names;
+    const SharedSymbol first = names.intern("a longer name"), second = names.intern("another long name");
+    CHECK(first.word() == 0x122cc && second.word() == 0x13130);
+    CHECK(names.intern("\xe6\x97\xa5\xe6\x9c\xac\xe8\xaa\x9e\xe3\x81\xae\xe9\x95\xb7\xe3\x81\x84\xe5\x90\x8d\xe5\x89\x8d").word() == 0x10ea4);
+}
+
 void two_texts_never_share_a_symbol() {
     for (std::uint8_t shard_bits = 0; shard_bits <= 14; shard_bits += 2) {
         SharedInterner names(shard_bits, 9, 9999, static_cast<std::uint8_t>(14 - shard_bits));
@@ -315,6 +323,7 @@ struct Test {
 const Test tests[] = {
     {"equal_texts_are_equal_symbols", equal_texts_are_equal_symbols},
     {"a_text_goes_with_its_last_symbol", a_text_goes_with_its_last_symbol},
+    {"words_are_those_of_each_language", words_are_those_of_each_language},
     {"two_texts_never_share_a_symbol", two_texts_never_share_a_symbol},
     {"all_bits_of_symbols_are_compared", all_bits_of_symbols_are_compared},
     {"memory_has_its_shards", memory_has_its_shards},

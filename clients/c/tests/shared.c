@@ -265,6 +265,15 @@ static void long_texts_and_letters_are_kept(void) {
     sc_shared_close(&shared);
 }
 
+/* As another program has them, which was written from the description of SipHash and of words. C++ and Rust have the same. */
+static void words_are_those_of_each_language(void) {
+    sc_shared shared = SC_CLOSED_SHARED;
+    CHECK(sc_shared_open(&shared) == SC_OK);
+    CHECK(word_of(&shared, "a longer name") == 0x122cc && word_of(&shared, "another long name") == 0x13130);
+    CHECK(word_of(&shared, "\xe6\x97\xa5\xe6\x9c\xac\xe8\xaa\x9e\xe3\x81\xae\xe9\x95\xb7\xe3\x81\x84\xe5\x90\x8d\xe5\x89\x8d") == 0x10ea4);
+    sc_shared_close(&shared);
+}
+
 static const test tests[] = {
     {"a_text_is_kept_until_its_last_holder_goes", a_text_is_kept_until_its_last_holder_goes},
     {"a_short_text_is_the_same_word_everywhere", a_short_text_is_the_same_word_everywhere},
@@ -278,6 +287,7 @@ static const test tests[] = {
     {"wrong_pointers_and_bytes_are_refused", wrong_pointers_and_bytes_are_refused},
     {"a_cleared_interner_gives_no_word_twice", a_cleared_interner_gives_no_word_twice},
     {"long_texts_and_letters_are_kept", long_texts_and_letters_are_kept},
+    {"words_are_those_of_each_language", words_are_those_of_each_language},
 };
 
 int main(void) {

@@ -81,6 +81,15 @@ fn symbols_of_two_interners_differ() {
     assert_eq!(intern(&names, "short").symbol(), intern(&others, "short").symbol());
 }
 
+/// As the tests of the shared interner for C and C++ have them.
+#[test]
+fn words_are_those_of_each_language() {
+    let names = new_interner();
+    for (name, word) in [("a longer name", 0x122cc), ("another long name", 0x13130), ("日本語の長い名前", 0x10ea4)] {
+        assert_eq!(intern(&names, name).word(), word);
+    }
+}
+
 /// The first tickets of all shards are the same number.
 #[test]
 fn two_names_never_share_a_symbol() {
