@@ -46,6 +46,17 @@ RACES = ["-g", "-O1", "-fsanitize=thread", "-pthread"]
 CPP_WRAPS = [f"-Wl,--wrap={function}" for function in WRAPPED["memory"]]
 CRATES = ("precomputed_hash", "rust", "rust_facade", "rust_facade_0_8")
 REGISTRY = Path("/usr/share/cargo/registry")  # of Debian's packages of crates
+# Programs that call by former names, and how many of these each has.
+FORMER_CPP = '#include "string_cache.hpp"\nint main() { return string_cache::Refused(SC_CLOSED).number() == SC_CLOSED ? 0 : 1; }\n', 1
+FORMER_RUST = """use interned_names::{Interner, SharedInterner};
+fn main() {
+    let (mut names, shared) = (Interner::new().unwrap(), SharedInterner::new().unwrap());
+    let (symbol, mut room) = (names.intern("a longer name").unwrap(), String::new());
+    assert!(names.resolve(symbol).is_some() && names.resolve_into(symbol, &mut room));
+    let symbol = shared.intern(&room).unwrap();
+    assert!(shared.get(&symbol.name()).is_ok() && shared.lock_symbol(symbol.symbol()).resolve().is_some());
+}
+""", 5
 OUTCOME = re.compile(r"^test (.+) \.\.\. (\w+)$", re.MULTILINE)
 
 
@@ -294,6 +305,33 @@ def cpp_checked(place):
     return outcomes(said_by(built(place, "cpp-checked", compiler, [CLIENTS / "cpp" / "test.cpp"], *words)))
 
 
+def expect_deprecated(said, number):
+    """How many warnings there are of names that are deprecated. Failed where it isn't this number."""
+    found = len(re.findall(r"^.*\bwarning:.*\bdeprecated\b", said, re.MULTILINE))
+    if found != number:
+        raise Failed(f"of {number} former names {found} are warned of:\n{said[-3000:]}")
+    return number
+
+
+def cpp_former_names(place):
+    """The compiler takes each former name, and warns of it."""
+    source, (text, number) = place.room / "former.cpp", FORMER_CPP
+    source.write_text(text, encoding="ascii")
+    words = ["-std=c++17", "-Wall", "-I", place.library, "-I", CLIENTS / "cpp", source, place.library / "libstring_cache.a", "-o", place.room / "former"]
+    found = expect_deprecated(said_by(cpp(), *words), number)
+    said_by(place.room / "former")
+    return found
+
+
+def rust_former_names(place):
+    """The same of the crate."""
+    crate, (text, number) = place.room / "rust", FORMER_RUST
+    shutil.copytree(CLIENTS / "rust", crate, ignore=shutil.ignore_patterns("target", "Cargo.lock"))
+    (crate / "examples" / "former.rs").write_text(text, encoding="ascii")
+    words = [tool("cargo"), "run", "--offline", "--example", "former", "--target-dir", place.room / "target"]
+    return expect_deprecated(said_by(*words, cwd=crate, env={**os.environ, "STRING_CACHE_DIR": str(place.library)}), number)
+
+
 def crate_tests(place, name, *more):
     """The tests of a crate of clients, in a copy beside its neighbours, since cargo writes beside the sources. More words are for cargo."""
     cargo = tool("cargo")
@@ -367,6 +405,7 @@ def rows():
     found.update({"cpp shared races": cpp_races, "cpp shared memcheck": shared_cpp_memcheck, "c shared header": shared_header_alone})
     found.update({"rust": rust_tests, "rust facade": facade_tests("rust_facade"), "rust facade 0.8": facade_tests("rust_facade_0_8")})
     found.update({"rust facade serde": serde_tests, "python": python_tests})
+    found.update({"cpp former names": cpp_former_names, "rust former names": rust_former_names})
     found.update({f"rust {name}": real_client(name) for name in ("html5ever", "lalrpop")})
     return found
 
