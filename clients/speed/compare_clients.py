@@ -1,7 +1,7 @@
 #!/usr/bin/env python3
 """Times and memory of programs that were written for string_cache 0.8, over Debian's string_cache and over clients/rust_facade_0_8: html5ever, in
 clients/page_tree, over pages that are made and those of /usr/share/doc, and lalrpop over its own grammar. Both are built with all optimisations, as
-gate/real_client.py builds them without, and run in turn. Of each: the middle one of its turns, seconds of processors and megabytes at their peak.
+gate/clients/real_client.py builds them without, and run in turn. Of each: the middle one of its turns, seconds of processors and megabytes at their peak.
 
 usage: clients/speed/compare_clients.py LIBRARY [TURNS [NAME..]]     LIBRARY is a folder that tools/c_library.sh filled; 7 turns of all
 The words of RUN stand before each program: with RUN='chrt -f 1' other work on the machine waits meanwhile.

@@ -4,7 +4,7 @@
 ghost use Rattle.std.specs.Prelude.{◌≡◌};
 
 use crate::calls::interned;
-use crate::named_cells::{Named, Words, bytes_of, takes, text_of};
+use crate::named_cells::{Named, Words, bytes_of, let_go_at, takes, text_of};
 use crate::{assert_for, assert_that};
 use named_set::{FreshName, SetName};
 use std::alloc::Global;
@@ -83,7 +83,7 @@ fn come_again<'s, N: SetName, R: Wait + Abort>(
     words: &mut Words<'s, N>,
 ) {
     for text in texts {
-        drop(words.remove(0));
+        let_go_at(words, 0);
         let word = interned(rt, set, text.as_str()).expect(rt, "a word");
         words.push(word).expect(rt, "room");
     }

@@ -206,7 +206,8 @@ fn come_and_go<N: SetName, R: Wait + Abort>(
     are_there && is_half && are_left && are_gone && keeps && stand(rt, set, &words, empty, 0)
 }
 
-fn let_go_at<N: SetName>(words: &mut Words<'_, N>, at: usize) {
+/// Lets the one that stands there go, if there is one.
+pub fn let_go_at<N: SetName>(words: &mut Words<'_, N>, at: usize) {
     if at < words.len() {
         drop(words.remove(at));
     }
