@@ -17,26 +17,7 @@ import shutil
 
 import batches
 from batches import Body
-from edits import FUNCTION
-
-OF_TRAIT = re.compile(r"(?:unsafe )?impl\b.* for ")
-
-
-def whole_function(text, place):
-    """Where the function in whose body this place lies begins, with what stands above it, and where it ends. None for a method of a trait."""
-    lines, starts = text.split("\n"), [0]
-    for line in lines:
-        starts.append(starts[-1] + len(line) + 1)
-    number = next(it for it in range(len(lines)) if starts[it + 1] > place)
-    head = next(it for it in range(number, -1, -1) if FUNCTION.match(lines[it]))
-    indent = FUNCTION.match(lines[head])[1]
-    around = next((it for it in reversed(lines[:head]) if indent and it.startswith(("impl", "unsafe impl"))), "")
-    if OF_TRAIT.match(around):
-        return None
-    first = head
-    while first and lines[first - 1].strip().startswith(("///", "#[")):
-        first -= 1
-    return starts[first], starts[lines.index(f"{indent}}}", head) + 1]
+from functions import whole_function
 
 
 def changed(text, places, begins=0):

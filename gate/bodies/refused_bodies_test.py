@@ -21,7 +21,7 @@ import further
 import refused_bodies
 import run_tests
 from edits import BadEdit
-from functions import function_at, plain_bodies
+from functions import function_at, plain_bodies, spans, whole_function
 from small_repository import InSmallRepository
 from spared import emptied, functions_told, spared
 
@@ -116,6 +116,29 @@ pub trait Calls {
     fn called(&self) -> u8;
 }
 """
+# Functions with no body, or with nothing in it, between those with one.
+EMPTY = """\
+trait Sides {
+    fn left(self) -> u8
+        ensures { result ≡ 0 };
+}
+
+fn none() {}
+
+impl Sides for Few {
+    fn left(self) -> u8
+        ensures { self.new ≡ record self.old {
+          left = 0;
+        } }
+    {
+        self.left
+    }
+}
+
+fn right() {
+    left()
+}
+"""
 # What is said of two functions of which one calls the other, and of a third whose proof names what is gone.
 SAID = """\
 ./proofs/low/third/Answers.antt:4:15: error: `returns`: `goal.returns`: module `Goals` has no `returns` that can be named from here
@@ -170,6 +193,14 @@ class Places(unittest.TestCase):
             function_at(METHODS, METHODS.index("List"))
         with self.assertRaises(BadEdit):
             function_at(METHODS, METHODS.index("called"))
+
+
+    def test_bodies_begin_and_end_at_their_own_braces(self):
+        lines = EMPTY.splitlines()
+        self.assertEqual([(lines[head].strip(), lines[opens + 1].strip(), lines[closes]) for head, opens, closes in spans(lines)], [
+            ("fn left(self) -> u8", "self.left", "    }"),
+            ("fn right() {", "left()", "}"),
+        ])
 
 
 class Lines(unittest.TestCase):
@@ -267,8 +298,8 @@ class Crate(InSmallRepository):
 
     def test_a_method_of_a_trait_is_not_copied(self):
         first = METHODS.index("self.step()")
-        self.assertIsNone(further.whole_function(METHODS, first))
-        begins, ends = further.whole_function(METHODS, METHODS.index("7"))
+        self.assertIsNone(whole_function(METHODS, first))
+        begins, ends = whole_function(METHODS, METHODS.index("7"))
         self.assertEqual(METHODS[begins:ends], "    pub const fn next(&self) -> u8 {\n        7\n    }\n")
 
     def test_copies_count_where_the_function_itself_is_proved_as_one(self):

@@ -21,7 +21,8 @@ import contextlib
 import re
 import subprocess
 
-from edits import FUNCTION, edited, replaced
+from edits import edited, replaced
+from functions import spans
 from programs import TESTS, NotBuilt, compiler, kit, link, object_of
 
 SWITCH = 'unsafe extern "C" {\n    safe fn wrong_body() -> u32;\n}\n'
@@ -43,38 +44,10 @@ class NotShared(NotBuilt):
         self.blamed = blamed
 
 
-def braces(lines, first):
-    """The lines that open and close the body of the function that begins in the first line, or None where it has none. The files are
-    formatted by `rt fmt`, so that the brace that closes stands under the function's first word."""
-    indent = FUNCTION.match(lines[first])[1]
-    for at in range(first, len(lines)):
-        line = lines[at]
-        if line.endswith(";"):
-            return None
-        if at == first or not line.startswith(f"{indent} "):
-            if line.endswith("{"):
-                return at, lines.index(f"{indent}}}", at)
-            if line.endswith("}"):
-                return None
-    return None
-
-
-def bodies(lines):
-    """The lines that open and close the bodies of the functions in these lines."""
-    at = 0
-    while at < len(lines):
-        # (a constant function can ask nothing of C)
-        found = braces(lines, at) if FUNCTION.match(lines[at]) and "const fn " not in lines[at] else None
-        if found:
-            yield found
-            at = found[1]
-        at += 1
-
-
 def other_bodies(before, after):
     """The lines between the braces of each function that is changed, by the lines before the change that open and close its body.
     An edit changes what stands in lines, and never how many there are."""
-    own, found = list(bodies(before)), {}
+    own, found = [span for _, *span in spans(before)], {}
     for at, (old, new) in enumerate(zip(before, after)):
         if old != new:
             span = next(((opens, closes) for opens, closes in own if opens <= at < closes), None)
