@@ -1,4 +1,4 @@
-"""Wrong bodies side by side in one build, of which each program that is linked from it has one.
+"""Wrong bodies side by side in one build, of which each program that is made of it has one.
 
 A build takes a minute, and most tests a blink. So each function that wrong bodies change gets all of them beside its own body, and
 learns from a function in C which of them is meant:
@@ -9,9 +9,9 @@ learns from a function in C which of them is meant:
         _ => { its own body }
     }
 
-The object that the compiler makes of the tests is linked once for each number, with a `wrong_body` that answers it, which the compiler
-doesn't see. So the program of number N has the Nth body alone, and that of number 0 is the crate as it is. No body can hide another, or
-pass for it.
+The object that the compiler makes of the tests is linked with a `wrong_body` that answers a number, which the compiler doesn't see, and which
+is another in each copy of the program. So the program of number N has the Nth body alone, and that of number 0 is the crate as it is. No body
+can hide another, or pass for it.
 
 An edit can share where it changes no more than what stands between the braces of functions: no signature, type or constant. Where the build
 fails, the compiler names the lines at fault, and so the bodies.
@@ -19,6 +19,7 @@ fails, the compiler names the lines at fault, and so the bodies.
 
 import contextlib
 import re
+import struct
 import subprocess
 
 from edits import edited, replaced
@@ -29,7 +30,11 @@ SWITCH = 'unsafe extern "C" {\n    safe fn wrong_body() -> u32;\n}\n'
 ALLOWED = {"RT_ALLOW_C": "1"}  # what has rt take that function
 ARM = re.compile(r"(\d+|_) => \{")  # the line at which a body begins beside others
 ERROR = re.compile(r"^(\S+\.rt):(\d+):\d+: error\b", re.MULTILINE)
-ANSWER = "unsigned wrong_body(void) {{ return {number}; }}\n"
+MARK = b"wrong body here:"  # behind which the number is in a program
+ANSWER = """\
+static const volatile struct {{ char mark[{size}]; unsigned number; }} own = {{"{mark}", {number}}};
+unsigned wrong_body(void) {{ return own.number; }}
+"""
 
 
 class CantShare(Exception):
@@ -127,8 +132,17 @@ def answer(number, room):
     """The object of a `wrong_body` that answers this number, made in the room."""
     made = room / f"wrong_body-{number}.o"
     words = [*compiler(kit())[:2], "-c", "-x", "c", "-", "-o", made]
-    subprocess.run(words, input=ANSWER.format(number=number).encode(), check=True)
+    subprocess.run(words, input=ANSWER.format(size=len(MARK), mark=MARK.decode(), number=number).encode(), check=True)
     return made
+
+
+def renumbered(program, number, copy):
+    """Copies a program that was linked with the number 0, with this one in its place."""
+    parts = program.read_bytes().split(MARK + struct.pack("=I", 0))
+    if len(parts) != 2:
+        raise OSError(f"{program} has {len(parts) - 1} places for the number of a body, and not one")
+    copy.write_bytes((MARK + struct.pack("=I", number)).join(parts))
+    copy.chmod(0o755)
 
 
 class SharedBuild:
@@ -145,6 +159,8 @@ class SharedBuild:
 
     def program(self, number):
         """The program with the body of this number, or as the crate is with 0."""
-        program = self.room / f"tests-{number}"
-        link([self.tests, answer(number, self.room)], program)
+        first, program = (self.room / f"tests-{name}" for name in ("linked", number))
+        if not first.is_file():
+            link([self.tests, answer(0, self.room)], first)
+        renumbered(first, number, program)
         return program
