@@ -316,6 +316,7 @@ class Sharing(InRoom):
             ("    3", "    4"),
             ("pub fn none() {}", "pub fn none() { first(3); }"),
             ("#[cfg(test)]", "fn more() {} #[cfg(test)]"),
+            ("    2", "    2 } pub fn more() -> u32 { 3"),
         ):
             self.assertFalse(shared_builds.can_share(self.edit((old, new)), self.room), old)
 

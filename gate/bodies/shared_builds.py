@@ -18,6 +18,7 @@ fails, the compiler names the lines at fault, and so the bodies.
 """
 
 import contextlib
+import itertools
 import re
 import struct
 import subprocess
@@ -49,6 +50,11 @@ class NotShared(NotBuilt):
         self.blamed = blamed
 
 
+def closes_more(body):
+    """Whether a brace in a body closes what none in it opened, also one in a text."""
+    return min(itertools.accumulate({"{": 1, "}": -1}.get(it, 0) for it in body), default=0) < 0
+
+
 def other_bodies(before, after):
     """The lines between the braces of each function that is changed, by the lines before the change that open and close its body.
     An edit changes what stands in lines, and never how many there are."""
@@ -60,6 +66,8 @@ def other_bodies(before, after):
                 raise CantShare(f"it changes more than bodies of functions: {old.strip()}")
             opens, closes = span
             found[span] = [after[opens][len(before[opens]) :], *after[opens + 1 : closes]]
+            if closes_more("\n".join(found[span])):
+                raise CantShare(f"it closes the function, and opens another: {new.strip()}")
     return found
 
 
