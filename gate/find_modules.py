@@ -1,11 +1,11 @@
-"""Has Python find the modules that scripts of the test command share: those of the folders beside this file, and those of tools/.
+"""Has Python find the modules that scripts of the test command share: those in folders beside this file, and those of tools/.
 
-Before anything of these, a script that is run in such a folder has two lines, by which it can be called from anywhere:
+A script that is run, in any of these folders, has two lines before it imports such a module, and so can be called from anywhere:
 
     sys.path.append(str(Path(__file__).resolve().parent.parent))
     import find_modules  # has Python find the next ones
 
-What is only imported needs none, so each module has a name of its own in all these folders.
+A module that is only imported needs neither. No two modules of the shared folders have one name.
 """
 
 import sys

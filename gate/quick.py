@@ -10,6 +10,7 @@ texts of the wrong bodies of clients are looked for each time.
 usage: gate/quick.py [CRATE ..]     without names: the crates that differ from the last commit
 """
 
+import argparse
 import sys
 import tempfile
 from concurrent.futures import ThreadPoolExecutor
@@ -89,8 +90,9 @@ def tests_pass(name):
 
 
 def main():
-    listed = crates_listed()
-    named = set(sys.argv[1:])
+    parser = argparse.ArgumentParser(description=__doc__, formatter_class=argparse.RawDescriptionHelpFormatter)
+    parser.add_argument("crates", nargs="*", metavar="CRATE")
+    listed, named = crates_listed(), set(parser.parse_args().crates)
     if named - set(listed):
         sys.exit(f"quick: crates.txt has no crate {', '.join(sorted(named - set(listed)))}")
     named = [name for name in listed if name in (named or differing())]
