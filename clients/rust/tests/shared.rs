@@ -183,7 +183,7 @@ fn a_panic_under_a_lock_takes_nothing_from_the_others() {
 fn a_look_up_interns_nothing() {
     let (names, mut given) = (new_interner(), HashSet::new());
     let look = || -> HashSet<Symbol> {
-        let found = (0..100_000).filter_map(|_| names.try_get("a longer name").expect("a look-up"));
+        let found = (0..400_000).filter_map(|_| names.try_get("a longer name").expect("a look-up"));
         found.map(|symbol| symbol.symbol()).collect()
     };
     thread::scope(|scope| {
