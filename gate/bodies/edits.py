@@ -6,7 +6,7 @@ The first line says what has to come of the body:
     test: FUNCTION      this test of the crate fails
     refused: FUNCTION   this test, of a module `refusals`, is WRONG for gate/refusals/refused.py
     error: TEXT         the compiler says this
-    scene: NAME         an outcome of this scene of gate/schedules/scenes.txt is wrong
+    scene: NAME         an outcome of this scene of gate/schedules is wrong
 
 The test is named by the end of its path. A line 'of: NAME' may follow where it is a test of another crate, which stands above the edit's.
 Then come, as in a must-fail edit, lines 'file: src/..', 'old: TEXT' and 'new: TEXT': the text, which stands once, is replaced.

@@ -5,6 +5,9 @@ bucket; then the next interning, look-up or sweep there does, unless it had begu
 drop noted; if several noted, it looks at 16 entries, and no scene has more.) Which call had the lock is guessed, drop by drop, and the answers
 have to be right under one guess: a drop that had a lock was a last one, and left nothing itself; and a call that goes over all buckets took
 their locks from the first to the last.
+
+A list holds the atoms that are in it: a text is pushed as one is interned, a copy is a clone of the last place, what is popped stays held, and
+each place that goes is a drop.
 """
 
 from itertools import product
@@ -28,10 +31,11 @@ HASHES = {
 
 WALKS = ("linked", "visit")  # they go over the buckets one after another, and leave each as it is
 PASSES = (*WALKS, "sweep", "memory")  # they take the lock of each bucket, from the first to the last
+DROPS = ("drop", "clear", "end")  # the last two end a place of a list
 
 # What a call may answer; all others give an atom or are refused.
 ANSWERS = {"linked": ("linked",), "visit": ("visited",), "sweep": ("nothing",), "memory": ("nothing",), "drop": ("ticket",)}
-ANSWERS["find"] = ("ticket", "fault", "absent")
+ANSWERS |= {"find": ("ticket", "fault", "absent"), "push": ("nothing", "fault"), "pop": ("ticket",), "clear": ("nothing",), "end": ("nothing",)}
 GIVES = ("ticket", "fault")
 
 
@@ -70,16 +74,20 @@ class Call(NamedTuple):
         return self.text.upper() if self.name == "upper" else self.text.lower() if self.name == "lower" else self.text
 
     def is_clone(self):
-        return self.name == "clone" or self.name in ("upper", "lower") and self.atoms_text() == self.text
+        return self.name in ("clone", "copy") or self.name in ("upper", "lower") and self.atoms_text() == self.text
 
     def takes_lock(self, bucket, limits):
         """Whether it may take the lock of the bucket."""
         if self.name in PASSES:
             return True
-        return not self.is_clone() and limits.bucket_of(self.atoms_text()) == bucket
+        return not self.is_clone() and self.name != "pop" and limits.bucket_of(self.atoms_text()) == bucket
 
     def fault(self):
         return self.number if self.answer == "fault" else None
+
+    def is_of(self, ticket):
+        """Whether its answer is of this ticket, if it tells one."""
+        return self.answer == "nothing" or (self.answer, self.number) == ("ticket", ticket)
 
 
 class Map(NamedTuple):
@@ -121,7 +129,7 @@ def after_walk(state, call, limits):
 
 def after_drop(state, call):
     ticket, holders = state.of(call.text)
-    if not holders or call.number != ticket or call.is_last and holders > 1:
+    if not holders or not call.is_of(ticket) or call.is_last and holders > 1:
         return None
     new = state.with_held(call.text, ticket, holders - 1)
     return new._replace(dying=new.dying | {call}) if holders == 1 and call.may_leave else new
@@ -132,8 +140,12 @@ def after_share(state, call, text, limits):
     ticket, holders = state.of(text)
     if holders >= limits.holders:
         return state if call.fault() == FULL_COUNT else None
-    is_right = holders and call.answer == "ticket" and call.number == ticket
-    return state.with_held(text, ticket, holders + 1) if is_right else None
+    return state.with_held(text, ticket, holders + 1) if holders and call.is_of(ticket) else None
+
+
+def after_refusal(state, limits):
+    """The map after a request for memory that was refused."""
+    return state._replace(refused=state.refused + 1) if state.refused < limits.refusals else None
 
 
 def after_link(state, call, text, limits):
@@ -142,11 +154,12 @@ def after_link(state, call, text, limits):
     serial = last.get(bucket, 0) + 1
     if serial > limits.serials:
         return state if call.fault() == TICKETS_SPENT else None
-    if call.fault() == MEMORY and state.refused < limits.refusals:
-        return state._replace(refused=state.refused + 1)
-    if call.answer != "ticket" or call.number != serial << 16 | bucket << 2:
+    if call.fault() == MEMORY:
+        return after_refusal(state, limits)
+    ticket = serial << 16 | bucket << 2
+    if not call.is_of(ticket):
         return None
-    return state._replace(last=frozenset({**last, bucket: serial}.items())).with_held(text, call.number, 1)
+    return state._replace(last=frozenset({**last, bucket: serial}.items())).with_held(text, ticket, 1)
 
 
 def after_pass(state, call, text, limits):
@@ -171,8 +184,12 @@ def after(state, call, limits):
         return state.without_dying(lambda drop: drop.ended < call.begun)
     if call.name in WALKS:
         return after_walk(state, call, limits)
-    if call.name == "drop":
+    if call.name in DROPS:
         return after_drop(state, call)
+    if call.name == "pop":
+        return state if call.is_of(state.of(call.text)[0]) else None
+    if call.name == "push" and call.fault() == MEMORY:  # maybe for its place, before it looked for the text
+        return after_refusal(state, limits)
     if call.is_clone():  # it is made on an atom, which is held
         return after_share(state, call, call.text, limits)
     return after_pass(state, call, call.atoms_text(), limits)
@@ -183,7 +200,7 @@ def keepers_of(at, calls, limits):
     may of which nothing else follows then, it stands for all calls."""
     drop, bucket = calls[at], limits.bucket_of(calls[at].text)
     found = [n for n, it in enumerate(calls) if it.thread != drop.thread and it.overlaps(drop) and it.takes_lock(bucket, limits)]
-    plain = [n for n in found if calls[n].name != "drop" and not (limits.bits and calls[n].name in PASSES)]
+    plain = [n for n in found if calls[n].name not in DROPS and not (limits.bits and calls[n].name in PASSES)]
     return [plain[0], None] if plain else [None, *found]
 
 
@@ -202,7 +219,7 @@ def is_possible(guess, calls, limits):
 
 def guesses_of(calls, limits):
     """Each guess of which call had the lock while a drop tried, as places among the calls, the keeper's by the drop's."""
-    drops = [at for at, call in enumerate(calls) if call.name == "drop"]
+    drops = [at for at, call in enumerate(calls) if call.name in DROPS]
     for keepers in product(*(keepers_of(at, calls, limits) for at in drops)):
         guess = dict(zip(drops, keepers))
         if is_possible(guess, calls, limits):
@@ -224,7 +241,7 @@ def steps_of(calls, guess, limits):
         if call.name in WALKS:
             tried = [calls[drop] for drop, keeper in guess.items() if keeper == at]
             yield from (part_of(call, bucket, tried, limits)._replace(is_end=bucket == buckets[-1]) for bucket in buckets)
-        elif call.name == "drop":
+        elif call.name in DROPS:
             yield call._replace(may_leave=guess[at] is not None, is_last=at in guess.values())
         else:
             yield call

@@ -21,6 +21,10 @@ def drop(thread, begun, ended, number, text="forgotten"):
     return call(thread, begun, ended, "drop", text, number)
 
 
+def push(thread, begun, ended, fault=0):
+    return call(thread, begun, ended, "push", "forgotten", fault, "fault" if fault else "nothing")
+
+
 def linked(thread, begun, ended, number):
     return call(thread, begun, ended, "linked", "-", number, "linked")
 
@@ -191,7 +195,54 @@ class Histories(unittest.TestCase):
             (self.well if is_in_order else self.wrong)(*dropped, linked(2, 1, 30, 2), passed, linked(2, 32, 32, 1), bits=4)
             self.well(*dropped, linked(2, 1, 30, 1), passed, linked(2, 32, 32, 1), bits=4)
 
+    def test_what_is_pushed_is_held_until_its_place_goes(self):
+        pushed, found = push(1, 0, 0), call(2, 2, 2, "find", "forgotten", 0, "absent")
+        self.well(pushed, call(2, 1, 1, "find", "forgotten", FIRST))
+        self.wrong(pushed, found)
+        for name in ("clear", "end"):
+            self.well(pushed, call(1, 1, 1, name, "forgotten", 0, "nothing"), found)
+            self.wrong(pushed, push(1, 0, 0), call(1, 1, 1, name, "forgotten", 0, "nothing"), found)
+            self.wrong(call(1, 1, 1, name, "forgotten", 0, "nothing"))
+        self.well(push(1, 0, 0), intern(1, 1, 1, FIRST))
+        self.well(push(1, 0, 0), call(1, 1, 1, "end", "forgotten", 0, "nothing"), intern(1, 2, 2, SECOND))
+
+    def test_places_that_go_in_one_call_go_one_after_another(self):
+        pushed = push(1, 0, 0), push(1, 1, 1)
+        cleared = [call(1, 2, 4, "clear", "forgotten", 0, "nothing")] * 2
+        for ticket in (FIRST, SECOND):
+            self.well(*pushed, *cleared, intern(2, 3, 3, ticket))
+        self.wrong(*pushed, cleared[0], intern(2, 3, 3, SECOND))
+        self.well(*pushed, *cleared, call(2, 3, 3, "memory", "-", 0, "nothing"), linked(2, 5, 5, 1))
+        self.wrong(*pushed, *cleared, call(2, 3, 3, "memory", "-", 0, "nothing"), linked(2, 5, 5, 2))
+
+    def test_a_popped_atom_stays_held(self):
+        popped = push(1, 0, 0), call(1, 1, 1, "pop", "forgotten", FIRST)
+        self.well(*popped, drop(1, 2, 2, FIRST), call(2, 3, 3, "find", "forgotten", 0, "absent"))
+        self.well(*popped, call(2, 2, 2, "find", "forgotten", FIRST))
+        self.wrong(*popped, call(2, 2, 2, "find", "forgotten", 0, "absent"))
+        self.wrong(push(1, 0, 0), call(1, 1, 1, "pop", "forgotten", SECOND))
+        self.wrong(push(1, 0, 0), call(1, 1, 1, "pop", "forgotten", 0, "absent"))
+        self.wrong(intern(1, 0, 0, FIRST), drop(1, 1, 1, FIRST), call(2, 2, 2, "pop", "forgotten", FIRST))
+
+    def test_a_copy_is_one_holder_more(self):
+        copied = push(1, 0, 0), call(1, 1, 1, "copy", "forgotten", FIRST), call(1, 2, 2, "end", "forgotten", 0, "nothing")
+        self.well(*copied, call(2, 3, 3, "find", "forgotten", FIRST))
+        self.well(*copied, drop(1, 3, 3, FIRST), call(2, 4, 4, "find", "forgotten", 0, "absent"))
+        self.well(push(1, 0, 0), call(1, 1, 1, "copy", "forgotten", FULL_COUNT, "fault"), holders=1)
+        self.wrong(push(1, 0, 0), call(1, 1, 1, "copy", "forgotten", FULL_COUNT, "fault"), holders=2)
+        self.wrong(*copied, holders=1)
+        self.wrong(push(1, 0, 0), call(1, 1, 1, "copy", "forgotten", SECOND))
+
+    def test_a_push_is_refused_as_an_interning_is_or_for_its_place(self):
+        for fault, limits in ((FULL_COUNT, {"holders": 1}), (MEMORY, {"refusals": 1})):
+            self.well(intern(1, 0, 0, FIRST), push(2, 1, 1, fault), **limits)
+            self.wrong(intern(1, 0, 0, FIRST), push(2, 1, 1, fault))
+        self.well(intern(1, 0, 0, FIRST), drop(1, 1, 1, FIRST), push(2, 2, 2, TICKETS_SPENT), serials=1)
+        self.wrong(intern(1, 0, 0, FIRST), push(2, 1, 1), holders=1)
+        self.wrong(intern(1, 0, 0, FIRST), push(2, 1, 1, MEMORY), push(2, 2, 2, MEMORY), refusals=1)
+
     def test_a_call_answers_in_its_own_way(self):
+        self.wrong(call(1, 0, 0, "push", "forgotten", FIRST))
         self.wrong(intern(1, 0, 0, FIRST, "absent"))
         self.wrong(intern(1, 0, 0, FIRST), call(1, 1, 1, "clone", "forgotten", FIRST, "absent"))
         self.wrong(intern(1, 0, 0, FIRST), call(1, 1, 1, "linked", "-", 1, "visited"))
@@ -221,10 +272,30 @@ linked 0 left 0
 status 0 blocks 0 """
 
 
+LIST_SCENE = """scene: a list
+thread: push forgotten push geometric copy | pop clear copy push forgotten push forgotten pop
+"""
+
+LIST_LINES = """1 push forgotten 0 1 nothing 0
+1 push geometric 2 3 nothing 0
+1 copy geometric 4 5 ticket 131072
+1 pop geometric 6 7 ticket 131072
+1 clear forgotten 8 9 nothing 0
+1 push forgotten 10 11 nothing 0
+1 push forgotten 12 13 nothing 0
+1 pop forgotten 14 15 ticket 196608
+1 drop forgotten 16 17 ticket 196608
+1 drop geometric 18 19 ticket 131072
+1 drop geometric 20 21 ticket 131072
+1 end forgotten 22 23 nothing 0
+linked 0 left 0
+status 0 blocks 0 """
+
+
 class Outcomes(unittest.TestCase):
-    def wrong(self, old="", new=""):
+    def wrong(self, old="", new="", scene=SCENE, lines=LINES):
         """What is wrong with the lines, of which one text is replaced."""
-        return Outcome(1, "", LINES.replace(old, new).split("\n")).wrong(read_scenes(SCENE)[0], 0)
+        return Outcome(1, "", lines.replace(old, new).split("\n")).wrong(read_scenes(scene)[0], 0)
 
     def test_the_calls_are_those_of_the_scene(self):
         self.assertIsNone(self.wrong())
@@ -243,6 +314,21 @@ class Outcomes(unittest.TestCase):
         ]
         for old, new in strange:
             self.assertEqual(self.wrong(old, new), "these aren't the calls of the scene", new)
+
+    def test_the_calls_on_a_list_are_those_of_the_scene(self):
+        self.assertIsNone(self.wrong(scene=LIST_SCENE, lines=LIST_LINES))
+        strange = [
+            ("1 pop forgotten", "1 pop geometric"),
+            ("1 copy geometric", "1 copy forgotten"),
+            ("1 clear forgotten 8 9 nothing 0\n", ""),
+            ("1 clear forgotten", "1 end forgotten"),
+            ("1 end forgotten 22 23 nothing 0\n", ""),
+            ("1 end forgotten 22 23 nothing 0\n", "1 end forgotten 22 23 nothing 0\n" * 2),
+            ("1 push forgotten 12 13 nothing 0", "1 push forgotten 12 13 fault 1"),
+            ("1 drop geometric 20 21 ticket 131072\n", ""),
+        ]
+        for old, new in strange:
+            self.assertEqual(self.wrong(old, new, LIST_SCENE, LIST_LINES), "these aren't the calls of the scene", new)
 
     def test_it_ends_with_nothing_that_is_left(self):
         self.assertIn("linked 1", self.wrong("linked 0 left", "linked 1 left"))

@@ -12,11 +12,11 @@ def parse(line):
 
 
 def text_of(what, numbers, calls):
-    """What a step does, in words; `calls` are those of its thread that weren't begun yet, before it drops what it has left."""
+    """What a step does, in words; `calls` are those of its thread that weren't begun yet, before it lets go what it has left."""
     block, offset, found, left = numbers
     place = f"block {block}+{offset}"  # by the order in which blocks were made
     if what == "begins":
-        return f"begins {calls.pop(0) if calls else 'a drop at its end'}"
+        return f"begins {calls.pop(0) if calls else 'to let go at its end'}"
     if what in ("ends", "is refused memory"):
         return what
     if "sleep" in what or "wakes" in what:

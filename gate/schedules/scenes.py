@@ -1,15 +1,16 @@
-"""Scenes as the file scenes.txt has them, and as the program crates/schedules takes them."""
+"""Scenes as the files scenes.txt and list_scenes.txt have them, and as the program crates/schedules takes them."""
 
 from dataclasses import dataclass, field, replace
 from pathlib import Path
 
 from history import Limits
 
-FILE = Path(__file__).resolve().parent / "scenes.txt"
+FILES = [Path(__file__).resolve().parent / name for name in ("scenes.txt", "list_scenes.txt")]
 WORDS = ("forgotten", "magnitude", "afterwards", "geometric", "elsewhere")
 TEXTS = (*WORDS, *map(str.upper, WORDS))
 LETTERS = {"clone": "c", "drop": "d", "upper": "u", "lower": "w", "sweep": "s", "linked": "l", "visit": "v", "memory": "m"}
-FIRST_LETTERS = {"intern": "0", "read": "A", "find": "K"}  # of the first text
+LETTERS |= {"copy": "y", "pop": "p", "clear": "e"}
+FIRST_LETTERS = {"intern": "0", "read": "A", "find": "K", "push": "U"}  # of the first text
 NINE = [f"intern {text}" for text in ("elsewhere", *WORDS[:4], *TEXTS[5:9])] + ["drop"] * 8
 ON_ATOM = ("clone", "drop", "upper", "lower")
 
@@ -56,21 +57,39 @@ class Scene:
         return all(are_made(it, [call for call in calls if call.thread == thread]) for thread, it in enumerate(asked, 1))
 
 
+def texts_of(name, text, atoms, places):
+    """The texts on which a thread with these atoms, and these places of its list, makes a call: several where it lets its list go, and none
+    where what the call is made on isn't there."""
+    if name in ("clear", "end"):
+        return places[::-1]
+    if name in ("copy", "pop"):
+        return places[-1:]
+    return atoms[-1:] if name in ON_ATOM else [text or "-"]
+
+
+def keep(made, atoms, places):
+    """Has the atoms and places of a thread be those that it has behind this call."""
+    if made.name == "drop":
+        atoms.pop()
+    elif made.answer == "ticket":
+        atoms.append(made.atoms_text())
+    if made.name in ("pop", "clear", "end"):
+        places.pop()
+    elif made.name == "push" and made.answer == "nothing":
+        places.append(made.text)
+
+
 def are_made(asked, own):
-    """Whether a thread that is asked for these calls makes its own ones, by their answers: none on its newest atom where it has none, and
-    at its end a drop of each that it has."""
-    atoms, left = [], list(own)
-    for call in asked + ["drop"] * len(own):
+    """Whether a thread that is asked for these calls makes its own ones, by their answers: none on its newest atom, or on its list, where it
+    has none, and at its end a drop of each atom that it has, and the end of each place of its list."""
+    atoms, places, left = [], [], list(own)
+    for call in [*asked, *["drop"] * len(own), "end"]:
         name, _, text = call.partition(" ")
-        if name in ON_ATOM and not atoms:
-            continue
-        made = left.pop(0) if left else None
-        if not made or (made.name, made.text) != (name, text or (atoms[-1] if name in ON_ATOM else "-")):
-            return False
-        if name == "drop":
-            atoms.pop()
-        elif made.answer == "ticket":
-            atoms.append(made.atoms_text())
+        for wanted in texts_of(name, text, atoms, places):
+            made = left.pop(0) if left else None
+            if not made or (made.name, made.text) != (name, wanted):
+                return False
+            keep(made, atoms, places)
     return not left
 
 
@@ -137,4 +156,4 @@ def read_scenes(text):
 
 
 def all_scenes():
-    return read_scenes(FILE.read_text(encoding="utf-8"))
+    return read_scenes("\n".join(file.read_text(encoding="utf-8") for file in FILES))

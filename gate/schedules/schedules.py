@@ -1,5 +1,5 @@
 #!/usr/bin/env python3
-"""Tries the schedules of the scenes in scenes.txt on the compiled set, and says of each scene what was found (docs/SCHEDULES.md).
+"""Tries the schedules of all scenes (scenes.py) on the compiled set, and says of each scene what was found (docs/SCHEDULES.md).
 
 usage: gate/schedules/schedules.py [--built] [WORD..]       with words: only the scenes whose names contain one of them
        gate/schedules/schedules.py --again SCENE SEARCH CHOICES

@@ -3,7 +3,7 @@
 use crate::texts::{Case, Word};
 use string_cache::Fault;
 
-/// A call. `Again` and `Drop` are made on the newest atom that the thread has.
+/// A call. `Again` and `Drop` are made on the newest atom that the thread has, and `Push` and `Listed` on its list.
 #[derive(Clone, Copy)]
 pub enum Call {
     Intern(Word),
@@ -14,8 +14,21 @@ pub enum Call {
     /// Makes an atom of its text in this case, or a clone.
     Again(Option<Case>),
     Drop,
+    /// Appends a text to the list.
+    Push(Word),
+    Listed(Listed),
     /// A call on the whole set.
     Whole(Whole),
+}
+
+/// A call on the thread's list, which isn't made if the list is empty.
+#[derive(Clone, Copy)]
+pub enum Listed {
+    /// Makes another atom of the last place.
+    Copy,
+    /// Takes the last atom out.
+    Pop,
+    Clear,
 }
 
 /// A call on the whole set.
@@ -29,17 +42,21 @@ pub enum Whole {
 }
 
 impl Call {
-    /// The call that a letter stands for: a digit interns the text of that number, a letter from `A` reads it from a JSON value, and one
-    /// from `K` looks it up.
+    /// The call that a letter stands for: a digit interns the text of that number, a letter from `A` reads it from a JSON value, one from `K`
+    /// looks it up, and one from `U`, or one of the four signs behind `Z`, appends it to the list.
     pub fn of_letter(letter: u8) -> Option<Call> {
         match letter {
             b'0'..=b'9' => Some(Call::Intern(Word::of_number(letter - b'0')?)),
             b'A'..=b'J' => Some(Call::Read(Word::of_number(letter - b'A')?)),
             b'K'..=b'T' => Some(Call::Find(Word::of_number(letter - b'K')?)),
+            b'U'..=b'^' => Some(Call::Push(Word::of_number(letter - b'U')?)),
             b'c' => Some(Call::Again(None)),
             b'd' => Some(Call::Drop),
             b'u' => Some(Call::Again(Some(Case::Upper))),
             b'w' => Some(Call::Again(Some(Case::Lower))),
+            b'y' => Some(Call::Listed(Listed::Copy)),
+            b'p' => Some(Call::Listed(Listed::Pop)),
+            b'e' => Some(Call::Listed(Listed::Clear)),
             b's' => Some(Call::Whole(Whole::Sweep)),
             b'l' => Some(Call::Whole(Whole::Linked)),
             b'v' => Some(Call::Whole(Whole::Visit)),

@@ -2,7 +2,8 @@
 //!
 //! `schedules [named] HOLDERS SERIALS BITS THREAD ..`: the set, which has a name if that is asked for, has these limits, and 2 to the power of `BITS`
 //! buckets. A thread is `CALLS/CALLS`, each made of letters; the first calls are made before any thread is started. At its end a thread drops what it
-//! has. A line says for each call which thread made it, on which text, when it began and ended, and what it returned.
+//! has, and ends its list of the set's atoms. A line says for each call which thread made it, on which text, when it began and ended, and what it
+//! returned; one that lets a list go has a line for each place.
 #![tactic(auto)]
 
 mod calls;
@@ -73,6 +74,7 @@ fn start_to<'x, 'e: 'x, S: Shared + Send + 'e, R: Threads + Wait + Sync>(
 ) -> Result<(), Fault>
 where
     S::Atom: Send,
+    S::List: Send,
 {
     if left == 0 {
         return Ok(());
@@ -96,6 +98,7 @@ fn run<'e, S: Shared + Send + 'e, R: Threads + Wait + Sync>(
 ) -> Result<(), Fault>
 where
     S::Atom: Send,
+    S::List: Send,
 {
     let left = starts.len();
     thread::scope(thread::scope_env::<'e>(), rt, move |scope| {
@@ -201,6 +204,7 @@ fn make_calls<'e, S: Shared + Send + 'e, R: Threads + Wait + Sync>(
 ) -> Result<()>
 where
     S::Atom: Send,
+    S::List: Send,
 {
     let mut starts = Vec::new(alloc);
     push_starts(rt, alloc, set, clock, threads, &mut starts)?;
@@ -219,6 +223,7 @@ fn play<'e, S: Shared + Send + 'e, R: Threads + Wait + Print + Sync>(
 ) -> Result<()>
 where
     S::Atom: Send,
+    S::List: Send,
 {
     let mut done = Vec::new(alloc);
     make_calls(rt, alloc, set, clock, threads, &mut done)?;

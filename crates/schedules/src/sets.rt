@@ -6,12 +6,15 @@ use named_set::{NamedSet, SetName};
 use serde_json::Value;
 use std::sync::Wait;
 use string_cache::dynamic_set::Set;
-use string_cache::{DefaultAtom, EmptyStaticAtomSet, Fault, NamedAtom};
+use string_cache::{AtomList, DefaultAtom, EmptyStaticAtomSet, Fault, NamedAtom, NamedAtomList};
 
 /// A set that threads share, by what each of them has of it.
 pub trait Shared: Copy {
     /// An atom of the set.
     type Atom: Drop;
+
+    /// A list of such atoms.
+    type List: Drop;
 
     fn intern<R: Wait>(self, rt: &R, text: &str) -> Result<Self::Atom, Fault>;
 
@@ -28,6 +31,19 @@ pub trait Shared: Copy {
         case: Option<Case>,
     ) -> Result<Self::Atom, Fault>;
 
+    /// An empty list.
+    fn list(self) -> Self::List;
+
+    fn push<R: Wait>(rt: &R, list: &mut Self::List, text: &str) -> Result<(), Fault>;
+
+    /// Another atom of the last place, or `None` if there is none.
+    fn copy<R: Wait>(rt: &R, list: &Self::List) -> Result<Option<Self::Atom>, Fault>;
+
+    /// The last atom, which is taken out, or `None` if there is none.
+    fn pop(list: &mut Self::List) -> Option<Self::Atom>;
+
+    fn clear(list: &mut Self::List);
+
     /// An atom's ticket, and whether it has this text.
     fn ticket(atom: &Self::Atom, text: &str) -> (u64, bool);
 
@@ -43,6 +59,8 @@ pub trait Shared: Copy {
 
 impl<'s> Shared for &'s Set<EmptyStaticAtomSet> {
     type Atom = DefaultAtom<'s>;
+
+    type List = AtomList<'s, EmptyStaticAtomSet>;
 
     fn intern<R: Wait>(self, rt: &R, text: &str) -> Result<DefaultAtom<'s>, Fault> {
         DefaultAtom::from_str_in(rt, self, text)
@@ -69,6 +87,33 @@ impl<'s> Shared for &'s Set<EmptyStaticAtomSet> {
         }
     }
 
+    fn list(self) -> AtomList<'s, EmptyStaticAtomSet> {
+        AtomList::new(self)
+    }
+
+    fn push<R: Wait>(
+        rt: &R,
+        list: &mut AtomList<'s, EmptyStaticAtomSet>,
+        text: &str,
+    ) -> Result<(), Fault> {
+        list.push_str(rt, text)
+    }
+
+    fn copy<R: Wait>(
+        rt: &R,
+        list: &AtomList<'s, EmptyStaticAtomSet>,
+    ) -> Result<Option<DefaultAtom<'s>>, Fault> {
+        list.clone_atom(rt, list.len().saturating_sub(1))
+    }
+
+    fn pop(list: &mut AtomList<'s, EmptyStaticAtomSet>) -> Option<DefaultAtom<'s>> {
+        list.pop()
+    }
+
+    fn clear(list: &mut AtomList<'s, EmptyStaticAtomSet>) {
+        list.clear();
+    }
+
     fn ticket(atom: &DefaultAtom<'s>, text: &str) -> (u64, bool) {
         (atom.unsafe_data(), atom.eq_str(text))
     }
@@ -92,6 +137,8 @@ impl<'s> Shared for &'s Set<EmptyStaticAtomSet> {
 
 impl<'s, N: SetName> Shared for &'s NamedSet<EmptyStaticAtomSet, N> {
     type Atom = NamedAtom<'s, EmptyStaticAtomSet, N>;
+
+    type List = NamedAtomList<'s, EmptyStaticAtomSet, N>;
 
     fn intern<R: Wait>(
         self,
@@ -128,6 +175,35 @@ impl<'s, N: SetName> Shared for &'s NamedSet<EmptyStaticAtomSet, N> {
             Some(Case::Lower) => atom.to_ascii_lowercase_in(rt, self),
             Some(Case::Upper) => atom.to_ascii_uppercase_in(rt, self),
         }
+    }
+
+    fn list(self) -> NamedAtomList<'s, EmptyStaticAtomSet, N> {
+        NamedAtomList::new(self)
+    }
+
+    fn push<R: Wait>(
+        rt: &R,
+        list: &mut NamedAtomList<'s, EmptyStaticAtomSet, N>,
+        text: &str,
+    ) -> Result<(), Fault> {
+        list.push_str(rt, text)
+    }
+
+    fn copy<R: Wait>(
+        rt: &R,
+        list: &NamedAtomList<'s, EmptyStaticAtomSet, N>,
+    ) -> Result<Option<NamedAtom<'s, EmptyStaticAtomSet, N>>, Fault> {
+        list.clone_atom(rt, list.len().saturating_sub(1))
+    }
+
+    fn pop(
+        list: &mut NamedAtomList<'s, EmptyStaticAtomSet, N>,
+    ) -> Option<NamedAtom<'s, EmptyStaticAtomSet, N>> {
+        list.pop()
+    }
+
+    fn clear(list: &mut NamedAtomList<'s, EmptyStaticAtomSet, N>) {
+        list.clear();
     }
 
     fn ticket(atom: &NamedAtom<'s, EmptyStaticAtomSet, N>, text: &str) -> (u64, bool) {

@@ -1,16 +1,17 @@
-//! A thread's atoms, and the calls that it makes one after another.
+//! A thread's atoms and its list, and the calls that it makes one after another.
 
-use crate::calls::{Answer, Begun, Call, Done, Whole};
+use crate::calls::{Answer, Begun, Call, Done, Listed, Whole};
 use crate::seen::Seen;
 use crate::sets::Shared;
 use crate::texts::{Case, Word};
 use serde_json::Value;
 use std::alloc::Global;
+use std::mem;
 use std::sync::Wait;
 use std::sync::atomic::{AtomicU64, Ordering};
 use string_cache::Fault;
 
-/// The most atoms and calls of a thread for which it has room before it begins.
+/// The most atoms, places of its list and calls of a thread for which it has room before it begins.
 const ROOM: usize = 8;
 
 /// An atom, and the word that it should have.
@@ -39,11 +40,14 @@ pub struct Worker<'c, S: Shared> {
     clock: &'c AtomicU64,
     thread: u64,
     atoms: Vec<Kept<S>>,
+    list: S::List,
+    /// The word that each place of the list should have.
+    listed: Vec<Word>,
     done: Vec<Done>,
 }
 
 impl<'c, S: Shared> Worker<'c, S> {
-    /// A worker without atoms.
+    /// A worker without atoms, whose list is empty.
     pub fn new(
         alloc: Global,
         set: S,
@@ -56,14 +60,17 @@ impl<'c, S: Shared> Worker<'c, S> {
             clock,
             thread,
             atoms: Vec::with_capacity(alloc, ROOM)?,
+            list: set.list(),
+            listed: Vec::with_capacity(alloc, ROOM)?,
             done: Vec::with_capacity(alloc, ROOM)?,
         })
     }
 
-    /// Makes the calls of these letters, and then drops the atoms that are left, the newest first. Returns what each call returned.
+    /// Makes the calls of these letters, then drops the atoms that are left, the newest first, and ends the list. Returns what each call returned.
     pub fn work<R: Wait>(mut self, rt: &R, letters: &str) -> Result<Vec<Done>, Fault> {
         self.make_all(rt, letters)?;
         self.let_all_go()?;
+        self.end_list()?;
         Ok(self.done)
     }
 
@@ -86,7 +93,7 @@ impl<'c, S: Shared> Worker<'c, S> {
         Ok(())
     }
 
-    /// Makes one call. One on an atom isn't made if there is none.
+    /// Makes one call. One on an atom, or on a place of the list, isn't made if there is none.
     fn make<R: Wait>(&mut self, rt: &R, call: Call) -> Result<(), Fault> {
         match call {
             Call::Intern(word) => self.intern(rt, word),
@@ -94,6 +101,10 @@ impl<'c, S: Shared> Worker<'c, S> {
             Call::Find(word) => self.find(rt, word),
             Call::Again(case) => self.renew(rt, case),
             Call::Drop => self.let_go(),
+            Call::Push(word) => self.push(rt, word),
+            Call::Listed(Listed::Copy) => self.copy(rt),
+            Call::Listed(Listed::Pop) => self.pop(),
+            Call::Listed(Listed::Clear) => self.clear(),
             Call::Whole(call) => self.ask(rt, call),
         }
     }
@@ -137,6 +148,20 @@ impl<'c, S: Shared> Worker<'c, S> {
         }
     }
 
+    /// Ends a call that was to give an atom of the word or none, and keeps the atom.
+    fn keep_found(
+        &mut self,
+        begun: Begun,
+        word: Word,
+        found: Result<Option<S::Atom>, Fault>,
+    ) -> Result<(), Fault> {
+        match found {
+            Ok(None) => self.end(begun, Answer::Absent),
+            Ok(Some(atom)) => self.keep_atom(begun, Kept { atom, word }),
+            Err(fault) => self.end(begun, Answer::Fault(fault)),
+        }
+    }
+
     /// Keeps the atom that a call gave, and ends the call.
     fn keep_atom(&mut self, begun: Begun, kept: Kept<S>) -> Result<(), Fault> {
         let answer = kept.answer();
@@ -164,11 +189,8 @@ impl<'c, S: Shared> Worker<'c, S> {
 
     fn find<R: Wait>(&mut self, rt: &R, word: Word) -> Result<(), Fault> {
         let begun = self.begin("find", word.as_str());
-        match self.set.find(rt, begun.text) {
-            Ok(None) => self.end(begun, Answer::Absent),
-            Ok(Some(atom)) => self.keep_atom(begun, Kept { atom, word }),
-            Err(fault) => self.end(begun, Answer::Fault(fault)),
-        }
+        let found = self.set.find(rt, begun.text);
+        self.keep_found(begun, word, found)
     }
 
     /// Makes another atom from the newest one: of its text in this case, or a clone.
@@ -190,6 +212,81 @@ impl<'c, S: Shared> Worker<'c, S> {
         let begun = self.begin("drop", kept.word.as_str());
         drop(kept);
         self.end(begun, answer)
+    }
+
+    fn push<R: Wait>(&mut self, rt: &R, word: Word) -> Result<(), Fault> {
+        let begun = self.begin("push", word.as_str());
+        match S::push(rt, &mut self.list, begun.text) {
+            Ok(()) => {
+                self.listed.push(word)?;
+                self.end(begun, Answer::Nothing)
+            }
+            Err(fault) => self.end(begun, Answer::Fault(fault)),
+        }
+    }
+
+    fn copy<R: Wait>(&mut self, rt: &R) -> Result<(), Fault> {
+        let Some(word) = self.listed.last() else {
+            return Ok(());
+        };
+        let word = *word;
+        let begun = self.begin("copy", word.as_str());
+        let copied = S::copy(rt, &self.list);
+        self.keep_found(begun, word, copied)
+    }
+
+    fn pop(&mut self) -> Result<(), Fault> {
+        let Some(word) = self.listed.pop() else {
+            return Ok(());
+        };
+        let begun = self.begin("pop", word.as_str());
+        let popped = S::pop(&mut self.list);
+        self.keep_found(begun, word, Ok(popped))
+    }
+
+    fn clear(&mut self) -> Result<(), Fault> {
+        if self.listed.is_empty() {
+            return Ok(());
+        }
+        let begun = self.begin("clear", "-");
+        S::clear(&mut self.list);
+        self.end_each(begun)
+    }
+
+    /// Ends the list, if it isn't empty, and begins a new one.
+    fn end_list(&mut self) -> Result<(), Fault> {
+        if self.listed.is_empty() {
+            return Ok(());
+        }
+        let list = mem::replace(&mut self.list, self.set.list());
+        let begun = self.begin("end", "-");
+        drop(list);
+        self.end_each(begun)
+    }
+
+    /// Ends a call that let all places of the list go. It is noted as a call for each, from the last to the first.
+    fn end_each(&mut self, begun: Begun) -> Result<(), Fault> {
+        let ended = self.tick();
+        for _ in 0..self.listed.len() {
+            self.note_place(begun, ended)?;
+        }
+        Ok(())
+    }
+
+    /// Notes that the last place of the list went in a call.
+    fn note_place(&mut self, begun: Begun, ended: u64) -> Result<(), Fault> {
+        let Some(word) = self.listed.pop() else {
+            return Ok(());
+        };
+        let text = word.as_str();
+        let done = Done {
+            thread: self.thread,
+            begun: Begun { text, ..begun },
+            ended,
+            answer: Answer::Nothing,
+        };
+        self.done.push(done)?;
+        Ok(())
     }
 
     /// Makes a call on the whole set.
