@@ -37,7 +37,7 @@ wait (`may_wait=N`), and the crates that it uses. `HANDLES` says what all crates
 
 | Command | Where | What it does |
 |---|---|---|
-| `rt try{stdin}` | `crates/{example}` | runs it at once, and proves nothing |
+| `rt try{stdin}` | `crates/{example}` | runs it, in half a minute or more, and proves nothing |
 | `rt check` | there | proves it, and first what it stands on, which takes minutes the first time |
 | `rt run{stdin}` | there | proves it, and runs what the compiler made |
 | `rt ci` | here | proves all crates and their tests, and runs tests and programs |
