@@ -236,14 +236,15 @@ class Words(unittest.TestCase):
     """What is said of words that choose no wrong body, and no scene."""
 
     def test_a_word_that_is_in_no_path_is_told(self):
-        bodies, scenes = "no wrong body has this in its path: nowhere", "no scene has this in its name: nowhere"
+        word = "in no path"
+        bodies, scenes = f"no wrong body has this in its path: {word}", f"no scene has this in its name: {word}"
         for script, options, text in (
             ("bodies/caught.py", ["--tested", "--jobs", "1"], bodies),
             ("clients/clients_caught.py", ["--archive", "nothing"], bodies),
             ("schedules/schedules.py", ["--bodies"], bodies),
             ("schedules/schedules.py", [], scenes),
         ):
-            command = [TOP / "gate" / script, *options, "e", "nowhere"]
+            command = [TOP / "gate" / script, *options, "e", word]
             ran = subprocess.run(command, stdout=subprocess.PIPE, stderr=subprocess.STDOUT, check=False)
             said = ran.stdout.decode()
             self.assertEqual((ran.returncode, text in said), (1, True), said)

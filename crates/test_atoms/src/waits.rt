@@ -26,6 +26,8 @@ pub enum Call {
     /// Interning and looking up in the bucket of the lock, and in others.
     SameBucket,
     OtherBucket,
+    /// Looking up a text that is held, in the bucket of the lock.
+    LookUp,
     /// What takes no lock.
     Unlocked,
 }
@@ -133,6 +135,14 @@ fn is_found<S: SharedSet, R: Wait + Abort>(rt: &R, set: S, text: &str) -> bool {
     }
 }
 
+/// Whether the text is found.
+fn is_there<S: SharedSet, R: Wait>(rt: &R, set: S, text: &str) -> bool {
+    match look_up(rt, set, text) {
+        Ok(Some(found)) => has_text(&found, text),
+        _ => false,
+    }
+}
+
 /// Whether this is a text's first word, and it is found as itself.
 fn is_first<S: SharedSet, R: Wait + Abort>(rt: &R, set: S, text: &str, word: u64) -> bool {
     let atom = intern(rt, set, text);
@@ -183,6 +193,7 @@ fn works<S: SharedSet, R: Clock + Wait + Abort>(
     let is_right = match call {
         Call::Sweep => sweeps(rt, set),
         Call::SameBucket => is_found(rt, set, "geometric"),
+        Call::LookUp => is_there(rt, set, "geometric"),
         Call::OtherBucket => is_first(rt, set, "interned", 0x1_0840),
         _ => tells_two(rt, set, kind, call),
     };
@@ -287,6 +298,11 @@ fn texts_wait_for_the_lock_of_their_bucket(rt: HostRuntime) {
         USUAL,
         sets::Question::Waits(Call::SameBucket),
     );
+}
+
+#[test]
+fn look_ups_wait_for_the_lock_of_their_bucket(rt: HostRuntime) {
+    ask(&rt, rt.alloc(), USUAL, sets::Question::Waits(Call::LookUp));
 }
 
 #[test]
