@@ -23,7 +23,7 @@ import repository
 import run_tests
 from repository import TOP
 
-GLANCE = re.compile(rb"subject|table 100000 |hot |live 10000 12|live 1000000 14|crowd")  # the calls of README's picture
+GLANCE = re.compile(rb"subject|table 100000 |hot |live 10000 12|live 1000000 14|named 1000000 8|crowd")  # the calls of README's picture
 PICTURES = [  # the script, what it reads, which lines of that, and what it draws
     ("ratios.py", "speed.txt", None, "speed.svg"),
     ("ratios.py", "speed.txt", GLANCE, "glance.svg"),
