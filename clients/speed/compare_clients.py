@@ -17,7 +17,7 @@ import tempfile
 from pathlib import Path
 
 TOP = Path(__file__).resolve().parent.parent.parent
-sys.path.append(str(TOP / "gate"))
+sys.path.append(str(TOP / "gate" / "clients"))
 import real_client  # noqa: E402
 
 TURNS = 7
