@@ -145,12 +145,12 @@ def answer(number, room):
 
 
 def renumbered(program, number, copy):
-    """Copies a program that was linked with the number 0, with this one in its place."""
+    """Copies a program that was linked with the number 0, with this one in its place. Another process writes the copy: what a thread of this one
+    has open to write, a process that another thread starts meanwhile has open too, and as long as it has, the copy can't be run."""
     parts = program.read_bytes().split(MARK + struct.pack("=I", 0))
     if len(parts) != 2:
         raise OSError(f"{program} has {len(parts) - 1} places for the number of a body, and not one")
-    copy.write_bytes((MARK + struct.pack("=I", number)).join(parts))
-    copy.chmod(0o755)
+    subprocess.run(["install", "-m", "755", "/dev/stdin", copy], input=(MARK + struct.pack("=I", number)).join(parts), check=True)
 
 
 class SharedBuild:
