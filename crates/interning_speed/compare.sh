@@ -18,18 +18,15 @@ compare() {
     done | awk -F'[|]|: ' -v what="$*" '
         / ns$/ {
             nanos = $3 + 0
-            if (!(($1, $2) in least)) { if ($1 == "ours") names[kinds++] = $2; least[$1, $2] = nanos }
-            if (nanos < least[$1, $2]) least[$1, $2] = nanos
+            if (!($2 in known)) { known[$2] = 1; names[kinds++] = $2 }
+            if (!(($1, $2) in least) || nanos < least[$1, $2]) least[$1, $2] = nanos
         }
         END {
             for (i = 0; i < kinds; i++) {
-                ours = least["ours", names[i]]
-                if (("plain", names[i]) in least) {
-                    plain = least["plain", names[i]]
-                    printf("%-26s %-36s %10.1f %10.1f %6.2f\n", what, names[i], ours, plain, (plain > 0) ? ours / plain : 0)
-                } else {
-                    printf "%-26s %-36s %10.1f %10s %6s\n", what, names[i], ours, "-", "-"
-                }
+                ours = (("ours", names[i]) in least) ? sprintf("%.1f", least["ours", names[i]]) : "-"
+                plain = (("plain", names[i]) in least) ? sprintf("%.1f", least["plain", names[i]]) : "-"
+                ratio = (ours != "-" && plain + 0 > 0) ? sprintf("%.2f", ours / plain) : "-"
+                printf "%-26s %-36s %10s %10s %6s\n", what, names[i], ours, plain, ratio
             }
         }'
 }
@@ -53,4 +50,9 @@ for bits in 8 10; do
         compare named "$texts" "$bits" 1
     done
     turns=1 compare named 1000000 "$bits" 1
+done
+for texts in 10000 100000 1000000; do
+    for threads in 1 2 4; do
+        compare named_crowd "$texts" 8 "$threads"
+    done
 done

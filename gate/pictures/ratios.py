@@ -62,6 +62,8 @@ def group_name(what):
         return f"Set of {2 ** int(bits):,} buckets, {number} live texts"
     if subject == "named":
         return f"Set with a name, {2 ** int(bits):,} buckets, {number} live texts"
+    if subject == "named_crowd":
+        return f"Set with a name, {number} texts, threads: {threads}"
     return f"Set, {number} texts, threads: {threads}"
 
 

@@ -45,10 +45,12 @@ impl<Static> Atom<Static> {
         Atom { word: entry.symbol.word().to_le_bytes(), entry: Some(entry), phantom: PhantomData }
     }
 
+    #[inline]
     fn word(&self) -> u64 {
         u64::from_le_bytes(self.word)
     }
 
+    #[inline]
     fn static_index(&self) -> usize {
         (self.word() >> 32) as usize
     }
@@ -62,16 +64,19 @@ impl<Static: StaticAtomSet> Atom<Static> {
     }
 
     /// Whether its text is one of the static type.
+    #[inline]
     pub fn is_static(&self) -> bool {
         self.word() & 3 == STATIC_TAG
     }
 
     /// Whether its text is shared by all its atoms.
+    #[inline]
     pub fn is_dynamic(&self) -> bool {
         self.entry.is_some()
     }
 
     /// Whether its text lies in the atom.
+    #[inline]
     pub fn is_inline(&self) -> bool {
         self.word() & 3 == INLINE_TAG
     }
@@ -97,13 +102,29 @@ impl<Static: StaticAtomSet> Atom<Static> {
     }
 
     /// Its text.
+    #[inline]
     pub fn as_str(&self) -> &str {
         self
     }
 
     /// The bytes of its text.
+    #[inline]
     pub fn as_bytes(&self) -> &[u8] {
-        self.as_str().as_bytes()
+        match &self.entry {
+            Some(entry) => entry.text.as_bytes(),
+            None if self.is_static() => Static::get().atoms[self.static_index()].as_bytes(),
+            None => {
+                let [head, bytes @ ..] = &self.word;
+                // Only pack_inline, which trusts its caller, can have made a longer one.
+                bytes.get(..usize::from(head >> 4)).expect("an inline text")
+            }
+        }
+    }
+
+    /// The place of an inline text among all such, in order: its bytes, with zeros for those that it doesn't have, and then its length.
+    #[inline]
+    fn inline_place(&self) -> u64 {
+        u64::from_be_bytes(self.word).rotate_left(8)
     }
 
     /// The atom of its text with the letters a to z in capitals.
@@ -155,38 +176,41 @@ impl<'a, Static: StaticAtomSet> From<Cow<'a, str>> for Atom<Static> {
 impl<Static: StaticAtomSet> Deref for Atom<Static> {
     type Target = str;
 
+    #[inline]
     fn deref(&self) -> &str {
         match &self.entry {
             Some(entry) => &entry.text,
             None if self.is_static() => Static::get().atoms[self.static_index()],
-            None => {
-                let [head, bytes @ ..] = &self.word;
-                let len = usize::from(head >> 4);
-                // Only pack_inline, which trusts its caller, can have made another.
-                bytes.get(..len).and_then(|bytes| std::str::from_utf8(bytes).ok()).expect("an inline text")
-            }
+            // Only pack_inline, which trusts its caller, can have made another.
+            None => std::str::from_utf8(self.as_bytes()).expect("an inline text"),
         }
     }
 }
 
 impl<Static: StaticAtomSet> Clone for Atom<Static> {
+    #[inline]
     fn clone(&self) -> Self {
         Atom { word: self.word, entry: self.entry.clone(), phantom: PhantomData }
     }
 }
 
 impl<Static: StaticAtomSet> PartialOrd for Atom<Static> {
+    #[inline]
     fn partial_cmp(&self, other: &Self) -> Option<Ordering> {
         Some(self.cmp(other))
     }
 }
 
 impl<Static: StaticAtomSet> Ord for Atom<Static> {
+    #[inline]
     fn cmp(&self, other: &Self) -> Ordering {
+        if self.is_inline() && other.is_inline() {
+            return self.inline_place().cmp(&other.inline_place());
+        }
         if self == other {
             return Ordering::Equal;
         }
-        self.as_str().cmp(other.as_str())
+        self.as_bytes().cmp(other.as_bytes())
     }
 }
 

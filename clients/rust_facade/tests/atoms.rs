@@ -100,7 +100,8 @@ fn a_constant_stands_in_a_match() {
 
 #[test]
 fn equal_texts_are_equal_atoms() {
-    let texts = ["short", "a longer name", "another long name", "sentence", ""];
+    let texts =
+        ["short", "a longer name", "another long name", "sentence", "", "a", "a\0", "ab", "abcdefg", "b", "\u{7f}", "é", "日本", "zz"];
     for one in texts {
         for other in texts {
             assert_eq!(StaticAtom::from(one) == StaticAtom::from(other), one == other);

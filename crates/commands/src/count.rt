@@ -130,8 +130,7 @@ pub fn count_command<R: Threads + Wait + Sync, S: Source, K: Sink>(
     requires high { n ≤ 64 }
     requires reader { S.has_failed reader.old ≡ false }
     requires writer { K.has_failed writer.old ≡ false }
-    ensures { Tells S.remaining S.has_ended S.has_failed K.contents K.has_failed
-        AreCountLines IsUnwrittenFault IsCountCommandFault reader.old reader.new writer.old writer.new result }
+    ensures { Tells S.Source K.Sink AreCountLines IsUnwrittenFault IsCountCommandFault reader.old reader.new writer.old writer.new result }
 {
     let text = read_text(alloc, reader)?;
     write_counts(rt, alloc, keys, n, &text, writer)

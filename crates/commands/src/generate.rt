@@ -52,8 +52,7 @@ pub fn generate_command<S: Source, K: Sink>(
 ) -> Result<(), AppFault>
     requires reader { S.has_failed reader.old ≡ false }
     requires writer { K.has_failed writer.old ≡ false }
-    ensures told { Tells S.remaining S.has_ended S.has_failed K.contents K.has_failed
-        (IsTableOutput key bound) IsNotWrite IsGenerateFault reader.old reader.new writer.old writer.new result }
+    ensures told { Tells S.Source K.Sink (IsTableOutput key bound) IsNotWrite IsGenerateFault reader.old reader.new writer.old writer.new result }
     ensures refused { (g : GenFault) → result ≡ Err (AppFault.Gen g) → S.has_ended reader.new ≡ true
         × IfSome (S.remaining reader.old) (λ bytes. TellsTables (script_lines bytes) key bound (Err g)) }
 {
@@ -85,8 +84,7 @@ pub fn check_command<S: Source, K: Sink>(
 ) -> Result<(), AppFault>
     requires reader { S.has_failed reader.old ≡ false }
     requires writer { K.has_failed writer.old ≡ false }
-    ensures { Tells S.remaining S.has_ended S.has_failed K.contents K.has_failed
-        IsAnswer IsNotWrite IsCheckFault reader.old reader.new writer.old writer.new result }
+    ensures { Tells S.Source K.Sink IsAnswer IsNotWrite IsCheckFault reader.old reader.new writer.old writer.new result }
 {
     let text = read_text(alloc, reader)?;
     let answer = answer_of(alloc, &text)?;

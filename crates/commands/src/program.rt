@@ -1,8 +1,8 @@
 //! Everything the program does, over any reader and writers.
 
-ghost use Rattle.std.specs.Prelude.{◌≡◌, ◌≢◌, ℕ, ◌≤◌, codes, false, IfOk, IfSome, IsErr, IfErr, MatchOption, MatchResult, OnOk, OnErr};
-ghost use Rattle.commands.specs.Commands.{AreCheck, AreCount, AreGenerate, AreWords, AreReplay, IsRequest, IsWorkers, NeedKeys};
-ghost use Rattle.commands.specs.Program.{IsOutputOf, NeedsKeys, Runs, Yields};
+ghost use Rattle.std.specs.Prelude.{◌≡◌, [], ◌∷◌, map, string_bytes, false, IfOk, IfSome, IsErr, IfErr, MatchResult};
+ghost use Rattle.commands.specs.Commands.{AsksFor, InRange, NeedKeys, NeedsKeys};
+ghost use Rattle.commands.specs.Program.{IsOutputOf, Runs, Yields};
 
 use crate::count::count_command;
 use crate::generate::{check_command, generate_command};
@@ -62,42 +62,9 @@ enum Command {
 /// The most workers that count.
 const MOST_WORKERS: u64 = 64;
 
-/// The number of workers that a text spells. `None` if it spells none from 1 to 64.
-fn workers_of(text: &str) -> Option<u32>
-    ensures { MatchOption result ((n : ℕ) → ¬ (IsWorkers text.now n))
-        (λ n. IsWorkers text.now n × ((m : ℕ) → IsWorkers text.now m → m ≡ n)) }
-{
-    let Some(n) = number_of(text) else {
-        return None;
-    };
-    if n == 0 || n > MOST_WORKERS {
-        return None;
-    }
-    Some(n as u32)
-}
-
-/// The key and the bound that two texts spell. `None` if they spell none.
-fn request_of(key: &str, bound: &str) -> Option<(u64, u32)>
-    ensures { MatchOption result ((k b : ℕ) → IsRequest key.now bound.now k b → ⊥)
-        (λ found. IsRequest key.now bound.now found.0 found.1
-        × ((k b : ℕ) → IsRequest key.now bound.now k b → (k ≡ found.0) × (b ≡ found.1))) }
-{
-    let Some(key) = number_of(key) else {
-        return None;
-    };
-    let Some(bound) = short_number_of(bound) else {
-        return None;
-    };
-    Some((key, bound))
-}
-
 /// The command that one word asks for.
 fn alone(word: &str) -> Option<Command>
-    ensures words { word.now ≡ codes "words" → result ≡ Some Command.Words }
-    ensures replay { word.now ≡ codes "replay" → result ≡ Some Command.Replay }
-    ensures check { word.now ≡ codes "check" → result ≡ Some Command.Check }
-    ensures workers { (n : ℕ) → result ≡ Some (Command.Count n) → ⊥ }
-    ensures other { word.now ≢ codes "words" → word.now ≢ codes "replay" → word.now ≢ codes "check" → result ≡ None }
+    ensures { AsksFor (word.now ∷ []) result }
 {
     match word {
         "words" => Some(Command::Words),
@@ -109,44 +76,39 @@ fn alone(word: &str) -> Option<Command>
 
 /// The command that a word with a number asks for.
 fn counting(word: &str, number: &str) -> Option<Command>
-    ensures count { word.now ≡ codes "count" → (n : ℕ) → IsWorkers number.now n → result ≡ Some (Command.Count n) }
-    ensures workers { (n : ℕ) → result ≡ Some (Command.Count n) → (1 ≤ n) × (n ≤ 64) }
-    ensures other { (word.now ≡ codes "count" → (n : ℕ) → ¬ (IsWorkers number.now n)) → result ≡ None }
+    ensures { AsksFor (word.now ∷ number.now ∷ []) result }
 {
     if word != "count" {
         return None;
     }
-    let Some(n) = workers_of(number) else {
+    let Some(n) = number_of(number) else {
         return None;
     };
-    Some(Command::Count(n))
+    if n == 0 || n > MOST_WORKERS {
+        return None;
+    }
+    Some(Command::Count(n as u32))
 }
 
 /// The command that a word with two numbers asks for.
 fn making(word: &str, key: &str, bound: &str) -> Option<Command>
-    ensures generate { word.now ≡ codes "generate" → (k b : ℕ) → IsRequest key.now bound.now k b → result ≡ Some (Command.Generate k b) }
-    ensures workers { (n : ℕ) → result ≡ Some (Command.Count n) → ⊥ }
-    ensures other { (word.now ≡ codes "generate" → (k b : ℕ) → ¬ (IsRequest key.now bound.now k b)) → result ≡ None }
+    ensures { AsksFor (word.now ∷ key.now ∷ bound.now ∷ []) result }
 {
     if word != "generate" {
         return None;
     }
-    let Some((key, bound)) = request_of(key, bound) else {
+    let Some(key) = number_of(key) else {
+        return None;
+    };
+    let Some(bound) = short_number_of(bound) else {
         return None;
     };
     Some(Command::Generate(key, bound))
 }
 
-/// `None` if the arguments aren't those of a command.
+/// The command that the arguments ask for. `None` if they ask for none.
 fn command_of(args: &[String]) -> Option<Command>
-    ensures words { AreWords args.now → result ≡ Some Command.Words }
-    ensures count { (n : ℕ) → AreCount args.now n → result ≡ Some (Command.Count n) }
-    ensures workers { (n : ℕ) → result ≡ Some (Command.Count n) → (1 ≤ n) × (n ≤ 64) }
-    ensures replay { AreReplay args.now → result ≡ Some Command.Replay }
-    ensures generate { (key bound : ℕ) → AreGenerate args.now key bound → result ≡ Some (Command.Generate key bound) }
-    ensures check { AreCheck args.now → result ≡ Some Command.Check }
-    ensures other { ¬ (AreWords args.now) → ((n : ℕ) → ¬ (AreCount args.now n)) → ¬ (AreReplay args.now)
-        → ((key bound : ℕ) → ¬ (AreGenerate args.now key bound)) → ¬ (AreCheck args.now) → result ≡ None }
+    ensures { AsksFor (map string_bytes args.now) result }
 {
     match args {
         [word] => alone(word.as_str()),
@@ -203,8 +165,8 @@ fn carry_out<R: Threads + Wait + Sync, S: Source, K: Sink>(
 ) -> Result<(), AppFault>
     requires input { S.has_failed input.old ≡ false }
     requires output { K.has_failed output.old ≡ false }
-    requires workers { (n : ℕ) → command ≡ Command.Count n → (1 ≤ n) × (n ≤ 64) }
-    ensures yields { Yields S.remaining K.contents (IsOutputOf command) input.old output.old output.new result }
+    requires range { InRange command }
+    ensures yields { Yields S.Source K.Sink (IsOutputOf command) input.old output.old output.new result }
     ensures keyless { keys ≡ None → NeedsKeys command → (result ≡ Err AppFault.Keys) × (input.new ≡ input.old) × (output.new ≡ output.old) }
 {
     match command {
@@ -248,7 +210,7 @@ pub fn program<R: Threads + Wait + Sync, S: Source, K: Sink, F: Sink>(
     requires input { S.has_failed input.old ≡ false }
     requires output { K.has_failed output.old ≡ false }
     requires faults { F.has_failed faults.old ≡ false }
-    ensures runs { Runs S.remaining K.contents args.now input.old input.new output.old output.new result }
+    ensures runs { Runs S.Source K.Sink args.now input.old input.new output.old output.new result }
     ensures keyless { keys ≡ None → NeedKeys args.now → (result ≡ 1) × (input.new ≡ input.old) × (output.new ≡ output.old) }
 {
     let Some(command) = command_of(args) else {
@@ -273,7 +235,7 @@ pub fn run<R: Threads + Wait + Sync, S: Source, K: Sink, F: Sink>(
     requires output { K.has_failed output.old ≡ false }
     requires faults { F.has_failed faults.old ≡ false }
     ensures ran { IfOk args (λ given. IfSome given (λ list.
-        Runs S.remaining K.contents list.items input.old input.new output.old output.new result)) }
+        Runs S.Source K.Sink list.items input.old input.new output.old output.new result)) }
     ensures keyless { keys ≡ None → IfOk args (λ given. IfSome given (λ list. NeedKeys list.items
         → (result ≡ 1) × (input.new ≡ input.old) × (output.new ≡ output.old))) }
     ensures refused { IsErr args → (result ≡ 1) × (input.new ≡ input.old) × (output.new ≡ output.old) }

@@ -23,8 +23,7 @@ pub fn replay<S: Source, K: Sink>(
 ) -> Result<(), AppFault>
     requires reader { S.has_failed reader.old ≡ false }
     requires writer { K.has_failed writer.old ≡ false }
-    ensures told { Tells S.remaining S.has_ended S.has_failed K.contents K.has_failed
-        (IsReplay empty_tables) IsNotWrite IsReplayFault reader.old reader.new writer.old writer.new result }
+    ensures told { Tells S.Source K.Sink (IsReplay empty_tables) IsNotWrite IsReplayFault reader.old reader.new writer.old writer.new result }
     ensures script { (n : ℕ) → result ≡ Err (AppFault.Script n) → S.has_ended reader.new ≡ true
         × IfSome (S.remaining reader.old) (λ bytes. IsFirstBadLine (script_lines bytes) n) }
     ensures ran { result ≡ Err AppFault.Write

@@ -144,8 +144,7 @@ fn list_words<I: Interner, S: Source, K: Sink>(
 ) -> Result<(), AppFault>
     requires reader { S.has_failed reader.old ≡ false }
     requires writer { K.has_failed writer.old ≡ false }
-    ensures { Tells S.remaining S.has_ended S.has_failed K.contents K.has_failed
-        AreWordLines IsUnwrittenFault IsWordsFault reader.old reader.new writer.old writer.new result }
+    ensures { Tells S.Source K.Sink AreWordLines IsUnwrittenFault IsWordsFault reader.old reader.new writer.old writer.new result }
 {
     let text = read_text(alloc, reader)?;
     write_words(alloc, keys, interner, &text, writer)
@@ -167,8 +166,7 @@ pub fn words<R: Wait, Static: StaticTables, S: Source, K: Sink>(
 ) -> Result<(), AppFault>
     requires reader { S.has_failed reader.old ≡ false }
     requires writer { K.has_failed writer.old ≡ false }
-    ensures { Tells S.remaining S.has_ended S.has_failed K.contents K.has_failed
-        AreWordLines IsUnwrittenFault IsWordsFault reader.old reader.new writer.old writer.new result }
+    ensures { Tells S.Source K.Sink AreWordLines IsUnwrittenFault IsWordsFault reader.old reader.new writer.old writer.new result }
 {
     let alloc = set.allocator();
     list_words(alloc, keys, &mut Holder::new(rt, set), reader, writer)
@@ -184,8 +182,7 @@ pub fn words_command<R: Wait, S: Source, K: Sink>(
 ) -> Result<(), AppFault>
     requires reader { S.has_failed reader.old ≡ false }
     requires writer { K.has_failed writer.old ≡ false }
-    ensures { Tells S.remaining S.has_ended S.has_failed K.contents K.has_failed
-        AreWordLines IsUnwrittenFault IsWordsFault reader.old reader.new writer.old writer.new result }
+    ensures { Tells S.Source K.Sink AreWordLines IsUnwrittenFault IsWordsFault reader.old reader.new writer.old writer.new result }
 {
     let text = read_text(alloc, reader)?;
     let buckets = buckets_for(text.len());
@@ -202,8 +199,7 @@ pub fn words_alone<S: Source, K: Sink>(
 ) -> Result<(), AppFault>
     requires reader { S.has_failed reader.old ≡ false }
     requires writer { K.has_failed writer.old ≡ false }
-    ensures { Tells S.remaining S.has_ended S.has_failed K.contents K.has_failed
-        AreWordLines IsUnwrittenFault IsWordsFault reader.old reader.new writer.old writer.new result }
+    ensures { Tells S.Source K.Sink AreWordLines IsUnwrittenFault IsWordsFault reader.old reader.new writer.old writer.new result }
 {
     let mut table = Table::new(alloc, keys)?;
     list_words(alloc, keys, &mut table, reader, writer)

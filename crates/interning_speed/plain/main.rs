@@ -20,7 +20,7 @@ fn main() {
     let number = |at: usize| args.get(at).and_then(|word| word.parse().ok());
     // The third argument is for the library alone.
     let (Some(count), Some(workers)) = (number(1), number(3)) else {
-        panic!("usage: plain table|hot|live|crowd|named N BITS WORKERS");
+        panic!("usage: plain table|hot|live|crowd|named|named_crowd N BITS WORKERS");
     };
     match args[0].as_str() {
         "table" => map::table(&Texts::new(count)),
@@ -28,6 +28,7 @@ fn main() {
         "live" => set::live(&Texts::new(count)),
         "crowd" => set::crowd(&Texts::new(count), workers),
         "named" => set::named(&Texts::new(count)),
-        _ => panic!("usage: plain table|hot|live|crowd|named N BITS WORKERS"),
+        "named_crowd" => set::named_crowd(&Texts::new(count), workers),
+        _ => panic!("usage: plain table|hot|live|crowd|named|named_crowd N BITS WORKERS"),
     }
 }

@@ -209,10 +209,16 @@ pub fn hot(rounds: usize) {
     });
 }
 
-pub fn crowd(texts: &Texts, workers: usize) {
-    let set = &Set::new();
+/// What all threads hold at once. Every other thread goes through the texts in the other order.
+fn hold_timed<T: Send>(
+    name: &str,
+    texts: &Texts,
+    workers: usize,
+    hold: impl Fn(&[String]) -> Vec<T> + Sync,
+) {
+    let hold = &hold;
     let start = Instant::now();
-    let held: Vec<Vec<Atom>> = thread::scope(|scope| {
+    let held: Vec<Vec<T>> = thread::scope(|scope| {
         let own = |n: usize| {
             if n % 2 == 0 {
                 &texts.first
@@ -221,7 +227,7 @@ pub fn crowd(texts: &Texts, workers: usize) {
             }
         };
         let started: Vec<_> = (0..workers)
-            .map(|n| scope.spawn(move || intern_all(set, own(n))))
+            .map(|n| scope.spawn(move || hold(own(n))))
             .collect();
         started
             .into_iter()
@@ -230,10 +236,32 @@ pub fn crowd(texts: &Texts, workers: usize) {
     });
     let time = start.elapsed();
     let done = held.iter().map(Vec::len).sum();
-    say(
-        "intern and hold, by all threads",
-        texts.first.len() * workers,
-        done,
-        time,
-    );
+    say(name, texts.first.len() * workers, done, time);
+}
+
+pub fn crowd(texts: &Texts, workers: usize) {
+    let set = &Set::new();
+    hold_timed("intern and hold, by all threads", texts, workers, |own| {
+        intern_all(set, own)
+    });
+}
+
+/// The same, and in one hash set behind one lock.
+pub fn named_crowd(texts: &Texts, workers: usize) {
+    crowd(texts, workers);
+    let whole: Mutex<HashSet<Arc<str>>> = Mutex::default();
+    hold_timed("the same, behind one lock", texts, workers, |own| {
+        own.iter().map(|text| intern_in(&whole, text)).collect()
+    });
+}
+
+/// The text as it lies in the set, where it is put if it is new.
+fn intern_in(whole: &Mutex<HashSet<Arc<str>>>, text: &str) -> Arc<str> {
+    let mut whole = whole.lock().expect("no thread has panicked");
+    if let Some(text) = whole.get(text) {
+        return text.clone();
+    }
+    let text: Arc<str> = text.into();
+    whole.insert(text.clone());
+    text
 }

@@ -1,9 +1,13 @@
 //! Interning by several threads at once.
 
+ghost use Rattle.std.specs.Prelude.{◌≡◌};
+
 use crate::phases::{Phase, Phases};
 use crate::sets::Shared;
 use crate::texts::Texts;
+use named_set::{FreshName, NamedSet, SetName};
 use std::alloc::{AllocError, Global};
+use std::marker::Brand;
 use std::rt::Clock;
 use std::sync::Wait;
 use std::thread;
@@ -103,8 +107,8 @@ where
     )
 }
 
-/// Times this many threads, each of which interns all texts and holds their atoms until all have ended. Every other one goes through them in the
-/// other order.
+/// Times this many threads over a set, each of which interns all texts and holds their atoms until all have ended. Every other one goes through
+/// them in the other order.
 pub fn measure<R: Threads + Wait + Clock + Sync>(
     rt: &R,
     alloc: Global,
@@ -114,5 +118,33 @@ pub fn measure<R: Threads + Wait + Clock + Sync>(
     phases: &mut Phases,
 ) -> Result<(), anyhow::Error> {
     let set = Set::<EmptyStaticAtomSet>::with_buckets(alloc, Limits::greatest(), buckets)?;
+    measure_in(rt, alloc, &set, texts, workers, phases)
+}
+
+/// The same, over a set with a name.
+pub fn measure_named<R: Threads + Wait + Clock + Sync>(
+    rt: &R,
+    alloc: Global,
+    buckets: Buckets,
+    texts: &Texts,
+    workers: usize,
+    phases: &mut Phases,
+) -> Result<(), anyhow::Error> {
+    let name = FreshName::new(alloc, buckets)?;
+    measure_under::<Brand, R>(rt, alloc, name, texts, workers, phases)
+}
+
+/// The same, over the set with this name.
+fn measure_under<N: SetName + Send, R: Threads + Wait + Clock + Sync>(
+    rt: &R,
+    alloc: Global,
+    name: FreshName,
+    texts: &Texts,
+    workers: usize,
+    phases: &mut Phases,
+) -> Result<(), anyhow::Error>
+    requires { N.logs ≡ name.logs }
+{
+    let set = NamedSet::<EmptyStaticAtomSet, N>::new(alloc, name, Limits::greatest())?;
     measure_in(rt, alloc, &set, texts, workers, phases)
 }

@@ -51,6 +51,8 @@ enum Subject {
     Crowd,
     /// The set with a name, with this many live texts.
     Named,
+    /// The set with a name, with this many texts, interned by threads at once.
+    NamedCrowd,
 }
 
 /// What the arguments ask for.
@@ -87,6 +89,7 @@ impl fmt::Display for Subject {
             Subject::Live => "set, live texts",
             Subject::Crowd => "set, threads",
             Subject::Named => "set with a name, live texts",
+            Subject::NamedCrowd => "set with a name, threads",
         })
     }
 }
@@ -109,7 +112,7 @@ impl Subject {
     }
 }
 
-const ALL: [Subject; 7] = [
+const ALL: [Subject; 8] = [
     Subject::Table,
     Subject::Keyed,
     Subject::Chosen,
@@ -117,6 +120,7 @@ const ALL: [Subject; 7] = [
     Subject::Live,
     Subject::Crowd,
     Subject::Named,
+    Subject::NamedCrowd,
 ];
 
 /// The subject that the word names, or `None` if it names all. `Err` if it names neither.
@@ -129,6 +133,7 @@ fn subject_of(word: &str) -> Result<Option<Subject>, ()> {
         "live" => Ok(Some(Subject::Live)),
         "crowd" => Ok(Some(Subject::Crowd)),
         "named" => Ok(Some(Subject::Named)),
+        "named_crowd" => Ok(Some(Subject::NamedCrowd)),
         "all" => Ok(None),
         _ => Err(()),
     }
@@ -190,6 +195,9 @@ fn measure_over<R: Threads + Wait + Clock + RandomSource + Sync>(
         Subject::Live => live::measure(rt, alloc, buckets, texts, phases),
         Subject::Crowd => crowd::measure(rt, alloc, buckets, texts, command.workers, phases),
         Subject::Named => named::measure(rt, alloc, buckets, texts, phases),
+        Subject::NamedCrowd => {
+            crowd::measure_named(rt, alloc, buckets, texts, command.workers, phases)
+        }
     }
 }
 
@@ -241,7 +249,7 @@ fn run<R: Threads + Wait + Clock + RandomSource + Print + Sync>(
 fn main(rt: HostRuntime) -> Result<(), anyhow::Error> {
     let Some(command) = asked_for(&rt)? else {
         println!(rt;
-            "usage: interning_speed counts|times table|keyed|chosen|hot|live|crowd|named|all N BITS WORKERS"
+            "usage: interning_speed counts|times table|keyed|chosen|hot|live|crowd|named|named_crowd|all N BITS WORKERS"
         )?;
         return Ok(());
     };

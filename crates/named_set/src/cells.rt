@@ -172,15 +172,20 @@ impl Cells {
         }
     }
 
-    /// Gives back memory of the index, if it has four times as many places as cells, or more.
+    /// Gives back memory of the index, if it has four times as many places as cells, or more. A group is given back once it has no cell.
     pub(crate) fn shrink(&mut self)
         ensures { self.new ≡ self.old }
     {
         let enough = self.by_hash.len().saturating_mul(2);
-        if enough.saturating_mul(2) <= self.places() {
+        if enough.saturating_mul(2) <= self.places() && !self.is_one_group() {
             self.by_hash.shrink_to(enough);
             self.room = self.by_hash.capacity();
         }
+    }
+
+    // Whether the index has one group, and cells in it.
+    fn is_one_group(&self) -> bool {
+        !self.by_hash.is_empty() && self.places() <= GROUP_PLACES
     }
 
     // The places of the index. It keeps them all, but doesn't tell each that a cell left.

@@ -165,6 +165,26 @@ impl<'s, Static: StaticTables, N: SetName> HeldCell<'s, Static, N> {
         }
     }
 
+    /// One more that holds the same cell, for the permit, by a single try that waits for nothing. The permit is handed back if another step
+    /// on the count came between, or if there are as many as there may be: then nothing has changed.
+    #[inline]
+    pub fn try_clone_held(&self, permit: Permit) -> Result<HeldCell<'s, Static, N>, Permit>
+        requires { permit.name ≡ self.now.name }
+        ensures same { IfOk result (λ held. held ≡ self.now) }
+        ensures left { IfErr result (λ left. (left.name ≡ self.now.name) × (left.number ≡ permit.number)) }
+    {
+        match self.own.share.try_add(permit) {
+            Ok(share) => Ok(HeldCell {
+                own: SetShare {
+                    share,
+                    set: self.own.set,
+                },
+                seen: self.seen.again(),
+            }),
+            Err(permit) => Err(permit),
+        }
+    }
+
     /// One more that holds the same cell, for the permit. It is refused only if there are as many as there may be, as the error shows:
     /// then the permit is there again, and nothing has changed.
     pub fn clone_held<R: Wait>(

@@ -230,7 +230,8 @@ impl<Static: StaticTables, N: SetName> NamedSet<Static, N> {
     /// The bytes that the set has asked for and still holds: its buckets with their locks, their places for cells, and the cells that are
     /// linked, with their texts. Each bucket is read under its lock.
     ///
-    /// The set itself isn't counted, since it lies where its owner put it. Beside other threads, nothing is said of the sum.
+    /// The set itself isn't counted, since it lies where its owner put it. An index that `sweep` made smaller is counted so, also if its allocator
+    /// refused to shrink the block. Beside other threads, nothing is said of the sum.
     pub fn memory<R: Wait>(&self, rt: &R) -> u128 {
         let bucket_size = size_of::<LockedBucket<Static, N, FreeGrant>>() as u128;
         let mut sum = bucket_size.saturating_mul(self.buckets.capacity() as u128);

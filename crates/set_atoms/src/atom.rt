@@ -205,10 +205,14 @@ impl<H: AtomKind> SetAtom<H> {
             Repr::Inline(text) => Repr::Inline(*text),
             Repr::Static(index) => Repr::Static(*index),
             Repr::Dynamic(beside, held) => {
-                let held = held.clone_held(rt)?;
+                // Another step seldom comes between, so nothing has to wait.
+                let more = match held.try_clone() {
+                    Some(more) => more,
+                    None => held.clone_held(rt)?,
+                };
                 return Ok(AtomOf {
                     ahead: self.ahead,
-                    form: Repr::Dynamic(*beside, held),
+                    form: Repr::Dynamic(*beside, more),
                 });
             }
         };

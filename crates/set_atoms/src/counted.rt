@@ -43,14 +43,15 @@ impl<'s, Static: StaticTables> HeldText for Held<'s, Static> {
     }
 
     #[inline]
+    fn try_clone(&self) -> Option<Self> {
+        self.try_clone_share(self.permit()).ok()
+    }
+
+    #[inline]
     fn clone_held<R: Wait>(&self, rt: &R) -> Result<Self, Fault> {
-        // Another step seldom comes between, so nothing has to wait.
-        match self.try_clone_share(self.permit()) {
+        match self.clone_share(rt, self.permit()) {
             Ok(more) => Ok(more),
-            Err(permit) => match self.clone_share(rt, permit) {
-                Ok(more) => Ok(more),
-                Err(_) => Err(Fault::FullCount),
-            },
+            Err(_) => Err(Fault::FullCount),
         }
     }
 }

@@ -105,6 +105,12 @@ pub trait HeldText: Drop {
         requires { is_kept self.now }
         ensures { result ≡ entry_hash Self.Static.tables (atom_of self.now).text };
 
+    /// One more share of the same text by a single try, which waits for nothing. `None` if another step on the count came between, or if there are
+    /// as many as the set's limits allow: then nothing has changed.
+    fn try_clone(&self) -> Option<Self>
+        requires { is_kept self.now }
+        ensures same { IfSome result (λ held. held ≡ self.now) };
+
     /// One more share of the same text. The only error is `FullCount`, if there are as many as the set's limits allow.
     fn clone_held<R: Wait>(&self, rt: &R) -> Result<Self, Fault>
         requires { is_kept self.now }

@@ -41,6 +41,11 @@ impl<'s, Static: StaticTables, N: SetName> HeldText for HeldCell<'s, Static, N> 
     }
 
     #[inline]
+    fn try_clone(&self) -> Option<Self> {
+        self.try_clone_held(self.permit()).ok()
+    }
+
+    #[inline]
     fn clone_held<R: Wait>(&self, rt: &R) -> Result<Self, Fault> {
         match HeldCell::clone_held(self, rt, self.permit()) {
             Ok(more) => Ok(more),

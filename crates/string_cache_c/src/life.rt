@@ -118,7 +118,10 @@ pub extern "C" fn sc_table_reserve(t: &mut ScTable, more: usize) -> u32
     let Some(mut numbered) = t.take() else {
         return CLOSED;
     };
-    let number = numbered.reserve(more);
+    let reserved = numbered.table.reserve(more);
     t.put(numbered);
-    number
+    match reserved {
+        Ok(()) => 0,
+        Err(_) => NO_MEMORY,
+    }
 }

@@ -11,8 +11,12 @@ ghost use Rattle.interner_table.specs.Tables.{empty_tables};
 ghost use Rattle.string_cache_c.specs.Calls.{CopiesText, HoldsWord, IfOpen, TellsMemory, entries_of, text_bytes_of};
 ghost use Rattle.string_cache_c.specs.Numbers.{closed, not_held, not_utf8};
 
+use crate::copies::copy_text;
 use crate::loan::ScLent;
-use crate::numbers::CLOSED;
+use crate::numbered_table::NumberedTable;
+use crate::numbers::{CLOSED, NOT_HELD, NOT_UTF8};
+use crate::texts::text_of;
+use std::mem::size_of;
 
 /// Writes the word of a text that has one, and adds no holder. Returns 6 exactly if the text has no word, 5 if the bytes aren't UTF-8, and 7 if the
 /// table is closed.
@@ -29,7 +33,16 @@ pub extern "C" fn sc_table_get(t: ScLent, text: &[u8], word: &mut u64) -> u32
     let Some(numbered) = t.table() else {
         return CLOSED;
     };
-    numbered.get(text, word)
+    let Some(text) = text_of(text) else {
+        return NOT_UTF8;
+    };
+    match numbered.table.get(text) {
+        Some(own) => {
+            *word = own;
+            0
+        }
+        None => NOT_HELD,
+    }
 }
 
 /// Whether a word is held: an inline word always is, and a ticket is if someone holds it. A closed table holds none.
@@ -55,7 +68,13 @@ pub extern "C" fn sc_table_holders(t: ScLent, word: u64, holders: &mut u64) -> u
     let Some(numbered) = t.table() else {
         return CLOSED;
     };
-    numbered.holders(word, holders)
+    match numbered.table.holders(word) {
+        Some(number) => {
+            *holders = number;
+            0
+        }
+        None => NOT_HELD,
+    }
 }
 
 /// Copies the text of a word that is held to the front of the room if it fits. Its length is written in either case. Returns 9 if it doesn't fit, 6
@@ -70,7 +89,10 @@ pub extern "C" fn sc_table_text(t: ScLent, word: u64, room: &mut [u8], len: &mut
     let Some(numbered) = t.table() else {
         return CLOSED;
     };
-    numbered.text(word, room, len)
+    match numbered.table.text_of(word) {
+        Some(text) => copy_text(text.as_str(), room, len),
+        None => NOT_HELD,
+    }
 }
 
 /// Writes the ticket and the number of holders of the text at a place in the table's order, counted from 0. Returns 6 past the last, and 7 if the
@@ -85,7 +107,14 @@ pub extern "C" fn sc_table_entry(t: ScLent, index: usize, word: &mut u64, holder
     let Some(numbered) = t.table() else {
         return CLOSED;
     };
-    numbered.entry(index, word, holders)
+    match numbered.table.nth(index) {
+        Some(held) => {
+            *word = held.word;
+            *holders = held.holders;
+            0
+        }
+        None => NOT_HELD,
+    }
 }
 
 /// The number of texts of more than 7 bytes that are held. A closed table has none.
@@ -125,5 +154,8 @@ pub extern "C" fn sc_table_memory(t: ScLent) -> u64
     let Some(numbered) = t.table() else {
         return 0;
     };
-    numbered.memory()
+    let Ok(bytes) = u64::try_from(numbered.table.memory()) else {
+        return u64::MAX;
+    };
+    bytes.saturating_add(size_of::<NumberedTable>() as u64)
 }

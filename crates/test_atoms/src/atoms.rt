@@ -1,14 +1,14 @@
 //! What no contract says: words and texts that come from outside, and sets that threads share.
 
 use crate::assert_that;
-use crate::samples::{DefaultSet, intern, new_set};
+use crate::samples::{intern, new_set};
 use crate::scenes::Step;
 use crate::sets::{USUAL, play};
 use std::process::Abort;
 use std::sync::Wait;
 use std::thread::{self, Threads};
 use string_cache::{Atom, DefaultAtom};
-use test_calls::{are_one, has_text};
+use test_calls::{DefaultSet, are_one, has_text};
 use test_samples::One;
 
 /// Compiles only for what threads may share and send.

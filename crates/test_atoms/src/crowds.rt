@@ -1,6 +1,6 @@
 //! Texts of one bucket, and many workers at them.
 
-use crate::samples::{BITS, buckets_of, check_linked, clone_of, intern};
+use crate::samples::{buckets_of, check_linked, clone_of, intern};
 use crate::sets::{self, Size, USUAL, ask};
 use crate::together::Together;
 use crate::{assert_for, assert_that};
@@ -13,7 +13,7 @@ use string_cache::static_sets::EmptyStaticAtomSet;
 use string_cache::table::Table;
 use string_cache::word::{Buckets, Limits};
 use string_cache::{AtomKind, SetAtom, SharedSet};
-use test_calls::{has_text, hash_of, links};
+use test_calls::{BITS, has_text, hash_of, links, numbered};
 use test_samples::keys;
 
 /// What is asked of a new set.
@@ -52,16 +52,12 @@ fn check_both<R: Threads + Clock + Wait + Abort + Sync>(
     ask(rt, alloc, size, sets::Question::Crowds(question));
 }
 
-/// The text of a number: `w0000000`, `w0000001` and so on.
-pub fn numbered(rt: &impl Abort, alloc: Global, n: usize) -> String {
-    format!(in alloc; "w{n:07}").expect(rt, "a text")
-}
-
 /// The texts of this many numbers.
 fn numbers(rt: &impl Abort, alloc: Global, count: usize) -> Vec<String> {
     let mut texts = Vec::new(alloc);
     for n in 0..count {
-        texts.push(numbered(rt, alloc, n)).expect(rt, "room");
+        let text = numbered(alloc, n).expect(rt, "a text");
+        texts.push(text).expect(rt, "room");
     }
     texts
 }
@@ -359,7 +355,7 @@ fn come_and_go<S: SharedSet, R: Wait + Abort>(rt: &R, set: S) {
     for n in 0..10_000 {
         assert_that(
             rt,
-            comes_and_goes(rt, set, &numbered(rt, set.allocator(), n)),
+            comes_and_goes(rt, set, &numbered(set.allocator(), n).expect(rt, "a text")),
         );
         if n % 1000 == 999 {
             assert_for(rt, links(rt, set, 0), &n);

@@ -1,7 +1,7 @@
 //! One text in each bucket of a set: held, then dying, then gone.
 
 use crate::assert_that;
-use crate::samples::{buckets_of, intern, shown};
+use crate::samples::{buckets_of, intern};
 use crate::sets::{self, Kind, Size, ask};
 use std::alloc::Global;
 use std::process::Abort;
@@ -11,7 +11,7 @@ use std::time::Clock;
 use string_cache::static_sets::EmptyStaticAtomSet;
 use string_cache::word::Buckets;
 use string_cache::{SetAtom, SharedSet};
-use test_calls::{has_text, hash_of, look_up};
+use test_calls::{has_text, hash_of, look_up, shown};
 
 /// The place of a text's bucket.
 fn place_of(buckets: Buckets, text: &str) -> usize {

@@ -1,6 +1,6 @@
-//! Rows with worked values of sets, their buckets and their atoms: the atoms' words, texts, orders, cases and JSON texts, how many may hold one, and
-//! packed static types. And what no contract says about them: which locks are taken, what is counted, and what threads see of each other. They are
-//! apart from those crates, since a crate with tests is proved twice, and in one crate, since a check of tests reads the libraries first.
+//! Rows with worked values of sets and their atoms, asked of a set with a name and of one without: the atoms' words, texts, orders, cases and JSON
+//! texts, how many may hold one, lists, and what no contract says of them: which locks are taken, what is counted, and what threads see of each
+//! other. They are apart from those crates, since a crate with tests is proved twice; what concerns one kind of set is in `test_sets`.
 #![tactic(auto)]
 
 ghost use Rattle.std.specs.Prelude.{IsTrue};
@@ -9,8 +9,6 @@ ghost use Rattle.std.specs.Prelude.{IsTrue};
 mod atoms;
 #[cfg(test)]
 mod bits;
-#[cfg(test)]
-mod buckets;
 #[cfg(test)]
 mod crowds;
 #[cfg(test)]
@@ -24,27 +22,15 @@ mod found;
 #[cfg(test)]
 mod holders;
 #[cfg(test)]
-mod lent;
-#[cfg(test)]
 mod lists;
 #[cfg(test)]
-mod locks;
-#[cfg(test)]
 mod many;
-#[cfg(test)]
-mod named;
-#[cfg(test)]
-mod packed;
-#[cfg(test)]
-mod printed;
 #[cfg(test)]
 mod samples;
 #[cfg(test)]
 mod scenes;
 #[cfg(test)]
 mod sets;
-#[cfg(test)]
-mod single_tries;
 #[cfg(test)]
 mod texts;
 #[cfg(test)]

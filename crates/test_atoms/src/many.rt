@@ -1,10 +1,7 @@
 //! More holders, entries and serials of one bucket than 16 bits count, and many texts of one bucket that die.
 
 use crate::assert_that;
-use crate::crowds::numbered;
-use crate::samples::{
-    DefaultSet, check_linked, clone_of, intern, lock_of, one_bucket, shown, word_of,
-};
+use crate::samples::{check_linked, clone_of, intern, word_of};
 use crate::sets::{self, Kind, ONE_BUCKET, ask};
 use std::alloc::Global;
 use std::ops::Range;
@@ -12,11 +9,8 @@ use std::process::Abort;
 use std::sync::Wait;
 use std::thread::Threads;
 use std::time::Clock;
-use string_cache::dynamic_set::{Bucket, FreeGrant, Share};
-use string_cache::static_sets::EmptyStaticAtomSet;
-use string_cache::word::Limits;
-use string_cache::{AtomKind, Fault, SetAtom, SharedSet};
-use test_calls::{hash_of, is_of, links, look_up};
+use string_cache::{AtomKind, SetAtom, SharedSet};
+use test_calls::{is_found, links, look_up, numbered, shown};
 
 const MANY: u32 = 70_000;
 
@@ -114,23 +108,15 @@ fn numbered_atoms<S: SharedSet, R: Wait + Abort>(
 ) -> Vec<SetAtom<S::Held>> {
     let mut atoms = Vec::new(set.allocator());
     for n in numbers {
-        let atom = intern(rt, set, &numbered(rt, set.allocator(), n));
+        let atom = intern(rt, set, &numbered(set.allocator(), n).expect(rt, "a text"));
         atoms.push(atom).expect(rt, "room");
     }
     atoms
 }
 
-/// Whether the text is found with this word.
-fn is_found<S: SharedSet, R: Wait>(rt: &R, set: S, text: &str, word: u64) -> bool {
-    match look_up(rt, set, text) {
-        Ok(Some(atom)) => is_of(&atom, word, text),
-        _ => false,
-    }
-}
-
 /// Whether the text of a number is found with the serial behind it.
 fn is_found_at<S: SharedSet, R: Wait + Abort>(rt: &R, set: S, n: usize) -> bool {
-    let text = numbered(rt, set.allocator(), n);
+    let text = numbered(set.allocator(), n).expect(rt, "a text");
     is_found(
         rt,
         set,
@@ -210,51 +196,4 @@ fn let_many_die<S: SharedSet, R: Wait + Abort>(rt: &R, set: S, kind: Kind) {
 #[test]
 fn many_dying_texts_of_a_bucket_go(rt: HostRuntime) {
     check_both(&rt, rt.alloc(), Question::Dying);
-}
-
-/// Links the text of a number in a bucket.
-fn link(alloc: Global, bucket: &mut Bucket<EmptyStaticAtomSet>, n: u32) -> Result<Share, Fault> {
-    let text = format!(in alloc; "the text {n:06}")?;
-    let hash = hash_of::<EmptyStaticAtomSet>(&text);
-    match bucket.link(&text, hash, &Limits::greatest(), FreeGrant) {
-        Ok(share) => Ok(share),
-        Err((fault, _)) => Err(fault),
-    }
-}
-
-/// Links this many texts in a bucket, which no pass goes over meanwhile.
-fn linked_in(
-    rt: &impl Abort,
-    alloc: Global,
-    bucket: &mut Bucket<EmptyStaticAtomSet>,
-) -> Vec<Share> {
-    let mut shares = Vec::new(alloc);
-    for n in 0..MANY {
-        let share = link(alloc, bucket, n).expect(rt, "a share");
-        shares.push(share).expect(rt, "room");
-    }
-    shares
-}
-
-/// Whether the set shows them, with the oldest and the newest found.
-fn shows_many<R: Wait>(rt: &R, set: &DefaultSet) -> bool {
-    links(rt, set, 70_000)
-        && visited(rt, set) == (70_000, 70_000)
-        && is_found(rt, set, "the text 000000", 0x1_0000)
-        && is_found(rt, set, "the text 069999", 70_000 * 0x1_0000)
-}
-
-fn link_many<R: Wait + Abort>(rt: &R, set: &DefaultSet) {
-    let shares = linked_in(rt, set.allocator(), &mut lock_of(rt, set, 0));
-    assert_that(rt, shows_many(rt, set));
-    drop(shares);
-    assert_that(rt, links(rt, set, 70_000));
-    set.sweep(rt);
-    assert_that(rt, links(rt, set, 0));
-}
-
-/// For a set without a name, whose bucket can be asked to link without a walk.
-#[test]
-fn one_bucket_has_many_entries(rt: HostRuntime) {
-    link_many(&rt, &one_bucket(&rt, rt.alloc()));
 }

@@ -3,18 +3,12 @@
 use crate::assert_that;
 use std::alloc::Global;
 use std::process::Abort;
-use std::sync::{MutexGuard, Wait};
-use string_cache::dynamic_set::{Bucket, Set};
-use string_cache::static_sets::{EmptyStaticAtomSet, StaticTables};
+use std::sync::Wait;
+use string_cache::dynamic_set::Set;
+use string_cache::static_sets::StaticTables;
 use string_cache::word::Buckets;
 use string_cache::{AtomKind, SetAtom, SharedSet, TextSet};
-use test_calls::{cloned, interned, limited, links, locked, made, made_with};
-
-/// A set without static texts.
-pub type DefaultSet = Set<EmptyStaticAtomSet>;
-
-/// The bits of buckets that tests take: one bucket, the usual number, and the most.
-pub const BITS: [u8; 3] = [0, 12, 14];
+use test_calls::{cloned, interned, links, made};
 
 /// The buckets with this many bits.
 pub fn buckets_of(rt: &impl Abort, bits: u8) -> Buckets {
@@ -24,19 +18,6 @@ pub fn buckets_of(rt: &impl Abort, bits: u8) -> Buckets {
 /// A set of the usual limits.
 pub fn new_set<Static: StaticTables>(rt: &impl Abort, alloc: Global) -> Set<Static> {
     made(alloc).expect(rt, "a set")
-}
-
-pub fn default_set(rt: &impl Abort, alloc: Global) -> DefaultSet {
-    new_set(rt, alloc)
-}
-
-/// A set of one bucket.
-pub fn one_bucket<Static: StaticTables>(rt: &impl Abort, alloc: Global) -> Set<Static> {
-    made_with(alloc, buckets_of(rt, 0)).expect(rt, "a set")
-}
-
-pub fn limited_set(rt: &impl Abort, alloc: Global, holders: u64, serials: u64) -> DefaultSet {
-    limited(alloc, holders, serials).expect(rt, "a set")
 }
 
 /// The word of a text's atom, which goes at once.
@@ -53,66 +34,7 @@ pub fn clone_of<H: AtomKind, R: Wait + Abort>(rt: &R, atom: &SetAtom<H>) -> SetA
     cloned(rt, atom).expect(rt, "an atom")
 }
 
-/// The lock of a bucket, held.
-pub fn lock_of<'s, R: Wait + Abort>(
-    rt: &R,
-    set: &'s DefaultSet,
-    at: usize,
-) -> MutexGuard<'s, Bucket<EmptyStaticAtomSet>> {
-    locked(rt, set, at).expect(rt, "a bucket")
-}
-
-/// What a visit of a set's entries shows: how many there are, how many holders they have together, and the fewest and the most that an entry has.
-#[derive(Clone, Copy)]
-pub struct Visit {
-    pub entries: u64,
-    pub holders: u64,
-    pub fewest: u64,
-    pub most: u64,
-}
-
-impl Visit {
-    fn add(&mut self, holders: u64) {
-        self.entries = self.entries.saturating_add(1);
-        self.holders = self.holders.saturating_add(holders);
-        self.fewest = self.fewest.min(holders);
-        self.most = self.most.max(holders);
-    }
-}
-
-pub fn shown<S: SharedSet, R: Wait>(rt: &R, set: S) -> Visit {
-    let mut shown = Visit {
-        entries: 0,
-        holders: 0,
-        fewest: u64::MAX,
-        most: 0,
-    };
-    set.for_each(rt, |_, holders| shown.add(holders));
-    shown
-}
-
 /// Checks that this many texts are linked.
 pub fn check_linked<S: SharedSet, R: Wait + Abort>(rt: &R, set: S, count: u128) {
     assert_that(rt, links(rt, set, count));
-}
-
-/// The locks of all buckets but the one at this place, or of all if there is no such bucket.
-pub fn locks_but<'s, R: Wait + Abort, Static: StaticTables>(
-    rt: &R,
-    set: &'s Set<Static>,
-    free: usize,
-) -> Vec<MutexGuard<'s, Bucket<Static>>> {
-    let mut held = Vec::new(set.allocator());
-    for (at, bucket) in set.buckets().iter().enumerate() {
-        if at != free {
-            held.push(bucket.lock(rt)).expect(rt, "room");
-        }
-    }
-    held
-}
-
-/// Drops the atoms while all locks of their set are held, so that their entries die and stay linked.
-pub fn drop_under_locks<R: Wait + Abort, A: Drop>(rt: &R, set: &DefaultSet, atoms: A) {
-    let _held = locks_but(rt, set, usize::MAX);
-    drop(atoms);
 }

@@ -2,7 +2,7 @@
 //! bucket of "afterwards" is 0, of "geometric" 0xfff, and of "interned" 0x210.
 
 use crate::assert_for;
-use crate::samples::{check_linked, clone_of, intern, shown};
+use crate::samples::{check_linked, clone_of, intern};
 use crate::scenes::{self, Step};
 use crate::sets::{self, Kind, ONE_BUCKET, USUAL, ask};
 use crate::together::Together;
@@ -13,7 +13,7 @@ use std::sync::atomic::{AtomicBool, Ordering};
 use std::thread::{self, Threads};
 use std::time::{Clock, Duration};
 use string_cache::{Fault, SetAtom, SharedSet};
-use test_calls::{has_text, has_word, look_up, lowered, read_json};
+use test_calls::{has_text, has_word, look_up, lowered, read_json, shown};
 
 /// What is done during the visit.
 #[derive(Clone, Copy, Debug)]

@@ -12,7 +12,7 @@ use std::sync::{MutexGuard, Wait};
 use string_cache::atom::AtomOf;
 use string_cache::dynamic_set::{Bucket, Set};
 use string_cache::phf::hash;
-use string_cache::static_sets::{StaticAtomSet, StaticTables};
+use string_cache::static_sets::{EmptyStaticAtomSet, StaticAtomSet, StaticTables};
 use string_cache::word::{Buckets, Limits};
 use string_cache::{AtomKind, Fault, SetAtom, SetList, SharedSet, TextSet};
 
@@ -177,4 +177,52 @@ pub fn is_of<H: AtomKind>(atom: &SetAtom<H>, word: u64, text: &str) -> bool {
 /// Whether both have the same word.
 pub fn are_one<H: AtomKind>(one: &SetAtom<H>, other: &SetAtom<H>) -> bool {
     one.unsafe_data() == other.unsafe_data()
+}
+
+/// A set without static texts.
+pub type DefaultSet = Set<EmptyStaticAtomSet>;
+
+/// The bits of buckets that tests take: one bucket, the usual number, and the most.
+pub const BITS: [u8; 3] = [0, 12, 14];
+
+/// What a visit of a set's entries shows: how many there are, how many holders they have together, and the fewest and the most that an entry has.
+#[derive(Clone, Copy)]
+pub struct Visit {
+    pub entries: u64,
+    pub holders: u64,
+    pub fewest: u64,
+    pub most: u64,
+}
+
+impl Visit {
+    fn add(&mut self, holders: u64) {
+        self.entries = self.entries.saturating_add(1);
+        self.holders = self.holders.saturating_add(holders);
+        self.fewest = self.fewest.min(holders);
+        self.most = self.most.max(holders);
+    }
+}
+
+pub fn shown<S: SharedSet, R: Wait>(rt: &R, set: S) -> Visit {
+    let mut shown = Visit {
+        entries: 0,
+        holders: 0,
+        fewest: u64::MAX,
+        most: 0,
+    };
+    set.for_each(rt, |_, holders| shown.add(holders));
+    shown
+}
+
+/// The text of a number: `w0000000`, `w0000001` and so on. `None` if there is no memory for it.
+pub fn numbered(alloc: Global, n: usize) -> Option<String> {
+    format!(in alloc; "w{n:07}").ok()
+}
+
+/// Whether the text is found with this word.
+pub fn is_found<S: SharedSet, R: Wait>(rt: &R, set: S, text: &str, word: u64) -> bool {
+    match look_up(rt, set, text) {
+        Ok(Some(atom)) => is_of(&atom, word, text),
+        _ => false,
+    }
 }

@@ -1,5 +1,0 @@
-use Rattle.test_atoms.proofs.named.ask.Given as goal
-
--- the name is the one that was just made
-abbrev pub ghosts-ask_as : goal.ghosts-ask_as
-ghosts-ask_as g a = record { logs = a.name.logs }
