@@ -155,7 +155,7 @@ def judge_test(name, wrong, own):
         return False, f"NOT CAUGHT: {name} passes"
     if not own.passes(test, runs):
         return False, without
-    return True, f"{name} fails, as it must"
+    return True, f"seen by {name}"
 
 
 def judge_refused(name, wrong, own):
@@ -173,7 +173,7 @@ def judge_refused(name, wrong, own):
         return False, f"NOT CAUGHT: {name} is wrong without the body as well"
     if well:
         return False, f"NOT CAUGHT: {name}: {text}"
-    return True, f"{name} is wrong, as it must be: {text}"
+    return True, f"seen by {name} as requests are refused"
 
 
 def judge(edit, wrong, own):

@@ -120,11 +120,11 @@ class Verdicts(WithPrograms):
 
     def said(self, wrong, own, name="one"):
         passed, text = caught.judge_test(name, wrong, caught.Own(own))
-        self.assertEqual(passed, text == f"{name} fails, as it must")
+        self.assertEqual(passed, text == f"seen by {name}")
         return text
 
     def test_a_body_that_its_test_sees_is_caught(self):
-        self.assertEqual(self.said(self.program("1"), self.program()), "one fails, as it must")
+        self.assertEqual(self.said(self.program("1"), self.program()), "seen by one")
 
     def test_a_body_that_changes_no_meaning_is_not(self):
         self.assertEqual(self.said(self.program(), self.program()), "NOT CAUGHT: one passes")
@@ -136,7 +136,7 @@ class Verdicts(WithPrograms):
         self.assertEqual(self.said(self.program("1"), self.program("1")), "NOT CAUGHT: one fails without the body as well")
 
     def test_a_body_that_shows_in_the_third_run_is_caught(self):
-        self.assertEqual(self.said(self.program("001"), self.program()), "one fails, as it must")
+        self.assertEqual(self.said(self.program("001"), self.program()), "seen by one")
 
     def test_it_is_not_where_two_of_three_runs_pass_without_it(self):
         self.assertEqual(self.said(self.program("001"), self.program("001")), "NOT CAUGHT: one fails without the body as well")
@@ -155,7 +155,7 @@ class Verdicts(WithPrograms):
             self.assertEqual(own.seconds("tests::one"), seconds)
 
     def test_a_body_whose_test_hangs_is_caught(self):
-        self.assertEqual(self.said(self.slowed(self.program(), "exec sleep 30"), self.program()), "one fails, as it must")
+        self.assertEqual(self.said(self.slowed(self.program(), "exec sleep 30"), self.program()), "seen by one")
 
     def slowed(self, program, *lines):
         """The program, which does this before each test."""
@@ -190,18 +190,18 @@ class Refused(WithPrograms):
         made = {name: Stand(list(it)) for name, it in (("wrong", rows), ("own", own_rows))}
         with mock.patch.object(caught, "refuser", lambda program, _room: made[program.name]):
             passed, text = caught.judge_refused("one", self.room / "wrong", caught.Own(self.room / "own"))
-        self.assertEqual(passed, text.startswith("one is wrong, as it must be"))
+        self.assertEqual(passed, text == "seen by one as requests are refused")
         return text, made["wrong"].seconds
 
     def test_a_run_that_does_not_end_counts_by_what_it_takes_without_the_body(self):
         caught.SECONDS = 60
         wrong, late, well = (False, False, 1), (False, True, 60), (True, False, 1)
         for rows, own_rows, text, seconds in (
-            ([wrong], [well], "one is wrong, as it must be: told", 60),
+            ([wrong], [well], "seen by one as requests are refused", 60),
             ([well], [], "NOT CAUGHT: one: told", 60),
-            ([late], [well], "one is wrong, as it must be: told", 60),
+            ([late], [well], "seen by one as requests are refused", 60),
             ([late, well], [(True, False, 20)], "NOT CAUGHT: one: told", 100),
-            ([late, late], [(True, False, 20), (True, False, 15)], "one is wrong, as it must be: told", 100),
+            ([late, late], [(True, False, 20), (True, False, 15)], "seen by one as requests are refused", 100),
             ([late, late, well], [(True, False, 20), (True, False, 30)], "NOT CAUGHT: one: told", 150),
             ([late], [(False, False, 1)], "NOT CAUGHT: one is wrong without the body as well", 60),
         ):
@@ -351,7 +351,7 @@ class Apart(WithPrograms):
             trials.add(caught.try_together, "few", edits)
             while not trials.tasks.empty():
                 trials.tasks.get()(trials, self.room)
-            self.assertEqual(sorted(said), [(name, "tried alone" if name == "bad" else "one fails, as it must") for name in names])
+            self.assertEqual(sorted(said), [(name, "tried alone" if name == "bad" else "seen by one") for name in names])
             self.assertEqual(self.builds, builds)
 
 
@@ -363,9 +363,9 @@ class Build(InRoom):
         first, second = ("given > MOST", "given > 1_000"), ("    2", "    4")
         meaningless = ("        return MOST;", "        return MOST + 0;")
         rows = {  # what each edit names and changes, and what has to be said of it
-            "seen": ("firsts", first, "firsts fails, as it must"),
+            "seen": ("firsts", first, "seen by firsts"),
             "unseen": ("firsts", meaningless, "NOT CAUGHT: firsts passes"),
-            "seen_too": ("seconds", second, "seconds fails, as it must"),
+            "seen_too": ("seconds", second, "seen by seconds"),
             "seen_by_another": ("seconds", first, "NOT CAUGHT: seconds passes"),
             "seen_by_the_first": ("firsts", second, "NOT CAUGHT: firsts passes"),
         }
