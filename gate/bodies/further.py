@@ -8,7 +8,8 @@ goals of that are proved, what is said of the other copies shows nothing.
 
 A method of a trait can't be copied, nor can a function in whose proofs others stand: a second body of these waits for another check. What a
 check doesn't refuse so is checked once more alone, in its own function. A body that the compiler doesn't read would hide the others: where it
-names one, they are checked without that.
+names one, they are checked without that. Two bodies by which functions call each other make a cycle, of which the compiler names no place: then
+each of the crate's bodies is checked alone, so that one of the two had better be written otherwise.
 """
 
 import contextlib
