@@ -1,7 +1,8 @@
 #!/usr/bin/env python3
 """Times and memory of programs that were written for string_cache 0.8, over Debian's string_cache and over clients/rust_facade_0_8: html5ever, in
 clients/page_tree, over pages that are made and those of /usr/share/doc, and lalrpop over its own grammar. Both are built with all optimisations, as
-gate/clients/real_client.py builds them without, and run in turn. Of each: the middle one of its turns, seconds of processors and megabytes at their peak.
+gate/clients/real_client.py builds them without, and run in turn, by GNU time. Of each: the middle one of its turns, seconds of processors and
+megabytes at their peak.
 
 usage: clients/speed/compare_clients.py LIBRARY [TURNS [NAME..]]     LIBRARY is a folder that tools/c_library.sh filled; 7 turns of all
 The words of RUN stand before each program: with RUN='chrt -f 1' other work on the machine waits meanwhile.
@@ -22,7 +23,7 @@ import real_client  # noqa: E402
 
 TURNS = 7
 ROUNDS = 10  # times that a turn of html5ever has all pages
-MEGABYTE = 1024  # in the kilobytes of getrusage
+MEGABYTE = 1024  # in kilobytes
 # Of the profile that real_client builds.
 FAST = {"CARGO_PROFILE_DEV_OPT_LEVEL": "3"}
 
@@ -45,13 +46,16 @@ PROGRAMS = {"html5ever": (html5ever, real_client.HTML), "lalrpop": (lalrpop, rea
 
 
 def turn(words, place):
-    """Seconds of processors that a command takes, and the most megabytes that it has."""
-    run = subprocess.Popen([*shlex.split(os.environ.get("RUN", "")), *map(str, words)], cwd=place, stdout=subprocess.DEVNULL)
-    _, status, used = os.wait4(run.pid, 0)
-    run.returncode = os.waitstatus_to_exitcode(status)
-    if run.returncode:
-        sys.exit(f"{Path(words[0]).name} ended with status {run.returncode}")
-    return used.ru_utime + used.ru_stime, used.ru_maxrss / MEGABYTE
+    """Seconds of processors that a command takes, and the most megabytes that it has. Those GNU time tells: a child of this process begins with
+    what Python has."""
+    with tempfile.NamedTemporaryFile("r") as told:
+        timed = ["time", "--quiet", "--format=%M", f"--output={told.name}", *map(str, words)]
+        run = subprocess.Popen([*shlex.split(os.environ.get("RUN", "")), *timed], cwd=place, stdout=subprocess.DEVNULL)
+        _, status, used = os.wait4(run.pid, 0)
+        run.returncode = os.waitstatus_to_exitcode(status)
+        if run.returncode:
+            sys.exit(f"{Path(words[0]).name} ended with status {run.returncode}")
+        return used.ru_utime + used.ru_stime, int(told.read()) / MEGABYTE
 
 
 def compared(name, room, library, turns):
