@@ -94,15 +94,43 @@ pub struct Symbol(NonZeroU64);
 
 impl Symbol {
     /// The symbol with this word, as [`Symbol::word`] told it. Any number is safe: an interner has a text for what it holds, and for nothing else.
-    pub fn from_word(word: u64) -> Option<Symbol> {
-        NonZeroU64::new(word).map(Symbol)
+    pub const fn from_word(word: u64) -> Option<Symbol> {
+        match NonZeroU64::new(word) {
+            Some(word) => Some(Symbol(word)),
+            None => None,
+        }
     }
 
     /// Its word, the number that stands for the name in its interner.
-    pub fn word(self) -> u64 {
+    pub const fn word(self) -> u64 {
         self.0.get()
     }
+
+    /// The bytes of a name of at most 7, lent from the symbol in which they lie. `None` of any other symbol.
+    ///
+    /// ```
+    /// use interned_names::Interner;
+    ///
+    /// let mut names = Interner::new()?;
+    /// assert_eq!(names.intern("short")?.inline_bytes(), Some("short".as_bytes()));
+    /// assert_eq!(names.intern("a longer name")?.inline_bytes(), None);
+    /// # Ok::<(), interned_names::Fault>(())
+    /// ```
+    #[inline]
+    pub fn inline_bytes(&self) -> Option<&[u8]> {
+        // SAFETY: the symbol is eight bytes, each of which is one of an array.
+        let [head, bytes @ ..] = unsafe { &*(&self.0 as *const NonZeroU64).cast::<[u8; 8]>() };
+        match head & HEAD_TAG == INLINE_TAG {
+            true => bytes.get(..usize::from(head >> LENGTH_SHIFT)),
+            false => None,
+        }
+    }
 }
+
+// The low byte of an inline text's word has the text's length, and is the first byte of the word, since the library is for x86-64.
+const HEAD_TAG: u8 = 15;
+const INLINE_TAG: u8 = 1;
+const LENGTH_SHIFT: u32 = 4;
 
 impl fmt::Debug for Symbol {
     fn fmt(&self, out: &mut fmt::Formatter<'_>) -> fmt::Result {

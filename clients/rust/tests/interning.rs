@@ -49,6 +49,20 @@ fn a_symbol_has_its_text() {
 }
 
 #[test]
+fn a_symbol_lends_a_short_name() {
+    let mut names = new_interner();
+    for name in samples() {
+        let symbol = intern(&mut names, &name);
+        let copy = symbol;
+        assert_eq!(copy.inline_bytes(), (name.len() <= 7).then_some(name.as_bytes()), "{name}");
+    }
+    // Words that no interner gives: of no tag of ours, and of a name of 8 bytes.
+    for word in [2, 3, 1 << 32 | 2, 1 << 34, 0x85, 0x81, 0xF1] {
+        assert_eq!(Symbol::from_word(word).and_then(|symbol| symbol.inline_bytes().map(<[u8]>::to_vec)), None, "{word:#x}");
+    }
+}
+
+#[test]
 fn a_name_is_found_once_it_is_interned() {
     let mut names = new_interner();
     for name in samples() {

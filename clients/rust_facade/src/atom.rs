@@ -3,7 +3,7 @@
 use crate::dynamic_set::{self, Entry};
 use crate::shape::{self, TextHash};
 use crate::static_sets::StaticAtomSet;
-use interned_names::hashes_of;
+use interned_names::{hashes_of, Symbol};
 use std::borrow::Cow;
 use std::cmp::Ordering;
 use std::fmt;
@@ -21,8 +21,8 @@ const MOST_INLINE: usize = 7;
 /// Equality is derived, so that a constant that macros packed can stand in a `match`.
 #[derive(PartialEq, Eq)]
 pub struct Atom<Static> {
-    /// The word, from its low byte on, so that an inline text can be lent: its length stands in the first byte.
-    word: [u8; 8],
+    /// What stands for the text: of an inline one its bytes.
+    symbol: Symbol,
     /// What atoms of a dynamic text share; none in others.
     entry: Option<Arc<Entry>>,
     phantom: PhantomData<Static>,
@@ -32,22 +32,30 @@ impl<Static> Atom<Static> {
     /// The atom of the static text with this index, for macros that know that there is one.
     #[doc(hidden)]
     pub const fn pack_static(n: u32) -> Self {
-        Atom { word: ((n as u64) << 32 | STATIC_TAG).to_le_bytes(), entry: None, phantom: PhantomData }
+        Self::of_word((n as u64) << 32 | STATIC_TAG)
     }
 
     /// The atom of an inline text, whose bytes stand in the number from its second byte on, for macros.
     #[doc(hidden)]
     pub const fn pack_inline(n: u64, len: u8) -> Self {
-        Atom { word: (n | (len as u64) << 4 | INLINE_TAG).to_le_bytes(), entry: None, phantom: PhantomData }
+        Self::of_word(n | (len as u64) << 4 | INLINE_TAG)
+    }
+
+    /// The atom of a text that isn't shared.
+    const fn of_word(word: u64) -> Self {
+        match Symbol::from_word(word) {
+            Some(symbol) => Atom { symbol, entry: None, phantom: PhantomData },
+            None => panic!("a word has a tag"),
+        }
     }
 
     fn dynamic(entry: Arc<Entry>) -> Self {
-        Atom { word: entry.symbol.word().to_le_bytes(), entry: Some(entry), phantom: PhantomData }
+        Atom { symbol: entry.symbol, entry: Some(entry), phantom: PhantomData }
     }
 
     #[inline]
     fn word(&self) -> u64 {
-        u64::from_le_bytes(self.word)
+        self.symbol.word()
     }
 
     #[inline]
@@ -113,18 +121,15 @@ impl<Static: StaticAtomSet> Atom<Static> {
         match &self.entry {
             Some(entry) => entry.text.as_bytes(),
             None if self.is_static() => Static::get().atoms[self.static_index()].as_bytes(),
-            None => {
-                let [head, bytes @ ..] = &self.word;
-                // Only pack_inline, which trusts its caller, can have made a longer one.
-                bytes.get(..usize::from(head >> 4)).expect("an inline text")
-            }
+            // Only pack_inline, which trusts its caller, can have made a longer one.
+            None => self.symbol.inline_bytes().expect("an inline text"),
         }
     }
 
     /// The place of an inline text among all such, in order: its bytes, with zeros for those that it doesn't have, and then its length.
     #[inline]
     fn inline_place(&self) -> u64 {
-        u64::from_be_bytes(self.word).rotate_left(8)
+        self.word().swap_bytes().rotate_left(8)
     }
 
     /// The atom of its text with the letters a to z in capitals.
@@ -190,7 +195,7 @@ impl<Static: StaticAtomSet> Deref for Atom<Static> {
 impl<Static: StaticAtomSet> Clone for Atom<Static> {
     #[inline]
     fn clone(&self) -> Self {
-        Atom { word: self.word, entry: self.entry.clone(), phantom: PhantomData }
+        Atom { symbol: self.symbol, entry: self.entry.clone(), phantom: PhantomData }
     }
 }
 
@@ -204,13 +209,11 @@ impl<Static: StaticAtomSet> PartialOrd for Atom<Static> {
 impl<Static: StaticAtomSet> Ord for Atom<Static> {
     #[inline]
     fn cmp(&self, other: &Self) -> Ordering {
-        if self.is_inline() && other.is_inline() {
-            return self.inline_place().cmp(&other.inline_place());
+        match (&self.entry, &other.entry) {
+            (Some(one), Some(two)) if Arc::ptr_eq(one, two) => Ordering::Equal,
+            (None, None) if self.is_inline() && other.is_inline() => self.inline_place().cmp(&other.inline_place()),
+            _ => self.as_bytes().cmp(other.as_bytes()),
         }
-        if self == other {
-            return Ordering::Equal;
-        }
-        self.as_bytes().cmp(other.as_bytes())
     }
 }
 

@@ -93,13 +93,13 @@ fn names() -> &'static SharedInterner<Slots> {
 pub(crate) fn intern(text: &str, hashes: Hashes) -> Arc<Entry> {
     let hash = hash_of_text(hashes);
     // Ends after the lock does: it may be the last of its entry, whose drop takes the lock.
-    let found;
+    let _other;
     let mut name = names().lock_hashed(text, hashes);
-    found = name.get().and_then(|symbol| name.beside().entry_of(symbol));
-    match &found {
-        Some(entry) if entry.hash == hash => entry.clone(),
+    match name.get().and_then(|symbol| name.beside().entry_of(symbol)) {
+        Some(entry) if entry.hash == hash => entry,
         // A static type with another key may have the same text here, with another hash.
-        _ => {
+        found => {
+            _other = found;
             let symbol = name.intern().expect("a symbol");
             let entry = Arc::new(Entry { symbol, text: text.into(), hash });
             name.beside().put(&entry);
