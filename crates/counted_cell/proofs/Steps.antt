@@ -7,7 +7,7 @@ use seplogic.Ra.Ura.{Ura}
 use mir.Syntax.{ty_int}
 use mir.Val.{vint, has_ty, WT}
 use base.Fraction.{full_share}
-use base.Logic.{SProp, ent, sep, wand, ex, all, guard, upd, upd_i, ex_i, all_i, via, never, never_e, id⊢}
+use base.Logic.{SProp, ent, sep, wand, ex, all, guard, upd, upd_i, ex_i, all_i, all_e, via, never, never_e, id⊢}
 use base.Fml.{Lft, Share, Fml, ftrue, fsep, fex, finv, fnamed, flft, fdead}
 use prog.Atomic.{either}
 use types.Logic.{Logic, sem}
@@ -54,6 +54,12 @@ module _ {M : Type 1} {𝓤 : Ura M} (𝓛 : Logic 𝓤) (b o : ℕ) (t : CellNa
 
   pub not_dead : (κ : Lft) (s : Share) (X : Pr) → A.lft κ s ∗ A.dead κ ⊢ X
   not_dead κ s X = via 𝓤 (never 𝓤) (𝓛.lfts.lft-dead κ s) (never_e 𝓤 X)
+
+  -- while there is a share, the count is not 0
+  pub counts : (n : ℕ) (s : Share) → ⟦ reading_owns t n ⟧ ∗ A.lft c s ⊢ guard 𝓤 (n ≢ 0) (A.lft c s)
+  counts n s = dite (ℕ_discrete n 0)
+      (λ z. qed 𝓛 (‵ (reading_owns t n) ∷ ‵ (flft c s) ∷ []) ∵ use1 𝓛 (‵ (fdead c)) (all_e 𝓤 (λ (_ : n ≡ 0). A.dead c) z) $ move ! (1 ∷ 0 ∷ []) $ by ! (not_dead c s _))
+      (λ some. qed 𝓛 (‵ (reading_owns t n) ∷ ‵ (flft c s) ∷ []) ∵ check ! some $ drop ! $ done !)
 
   pub part_dead : (k : ℕ) (X : Pr) → ⟦ part 64 k ⟧ ∗ A.dead (k ∷ []) ⊢ X
   part_dead k X = qed 𝓛 (‵ (part 64 k) ∷ ‵ (fdead (k ∷ [])) ∷ []) ∵ fpick ! (λ e. fpick ! (λ _. by ! (not_dead (k ∷ []) e X)))

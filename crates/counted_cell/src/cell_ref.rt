@@ -200,11 +200,11 @@ impl<T> CellRef<T> {
     }
 }
 
-/// A law: a reading of 0 never exists together with a share of the same cell.
-pub fn exclude<T>(reading: Reading, share: &CellRef<T>)
-    requires zero { (reading.count ≡ 0) × (reading.name ≡ share.now.name) }
+/// A law: what is read of a cell that has a share is not 0.
+pub fn is_counted<T>(reading: Reading, share: &CellRef<T>)
+    requires name { reading.name ≡ share.now.name }
     requires share { share.now.right ≡ share_right }
-    ensures { ⊥ }
+    ensures { reading.count ≢ 0 }
 {
     let _ = share;
 }

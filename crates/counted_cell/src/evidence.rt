@@ -1,6 +1,6 @@
 //! What was read from a cell's count, as values that only a step on the count makes.
 use crate::cell_log::CellLog;
-use crate::cell_ref::{Reading, exclude};
+use crate::cell_ref::{Reading, is_counted};
 use crate::share::CellShare;
 use std::marker::Model;
 
@@ -46,7 +46,7 @@ impl NoShares {
         ensures { ⊥ }
     {
         let Self { reading } = self;
-        exclude(reading, share.as_ref())
+        is_counted(reading, share.as_ref())
     }
 }
 

@@ -157,7 +157,11 @@ impl<A: Allocator> Owner<A> {
         ensures added { IfOk result (λ share. share.cell ≡ self.now) }
         ensures left { IfErr result (λ left. (left.name ≡ self.now.name) × (left.number ≡ permit.number)) }
     {
-        CellShare::tried(&self.cell, permit)
+        let (seen, _) = self.cell.load();
+        if seen == 0 {
+            return Err(permit);
+        }
+        CellShare::tried(&self.cell, seen, permit)
     }
 
     /// If the count reads 0, what shows that no share is left. If it reads 1 or more, what shows that one was.

@@ -3,7 +3,7 @@ ghost use Rattle.std.specs.Prelude.{◌≡◌, ◌≢◌, true, ◌^◌, ◌<◌
 ghost use Rattle.std.specs.List.{AllByRecursion};
 
 use crate::cell_log::{CellLog, LogSeen, lives};
-use crate::cell_ref::{CellRef, Permit, Reading, Receipt};
+use crate::cell_ref::{CellRef, Permit, Reading, Receipt, is_counted};
 use crate::content::Content;
 use crate::evidence::{AtLimit, NoShares};
 use crate::label::Label;
@@ -98,22 +98,27 @@ impl CellShare {
         ensures added { IfOk result (λ share. share.cell ≡ self.now.cell) }
         ensures left { IfErr result (λ left. (left.name ≡ self.now.cell.name) × (left.number ≡ permit.number)) }
     {
-        CellShare::tried(&self.cell, permit)
+        let (seen, reading) = self.cell.load();
+        is_counted(reading, &self.cell);
+        CellShare::tried(&self.cell, seen, permit)
     }
 
-    /// Adds a share of the cell, by a load and an exchange, if the count is between 0 and the limit and no step comes between.
+    /// Adds a share of the cell, by an exchange, if the count is still `seen`, which is above 0, and that is below the limit.
     #[inline]
-    pub(crate) fn tried(cell: &CellRef<Content>, permit: Permit) -> Result<CellShare, Permit>
+    pub(crate) fn tried(
+        cell: &CellRef<Content>,
+        seen: u64,
+        permit: Permit,
+    ) -> Result<CellShare, Permit>
         requires reads { CanRead cell.now.right }
         requires permit { permit.name ≡ cell.now.name }
+        requires shares { 0 < seen }
         requires limit { (cell.now.value.label.limit ≡ cell.now.name.limit) × (cell.now.name.limit < 2 ^ 63) }
         requires place { IsBehind cell.now }
         ensures added { IfOk result (λ share. share.cell ≡ cell_of cell.now) }
         ensures left { IfErr result (λ left. (left.name ≡ cell.now.name) × (left.number ≡ permit.number)) }
     {
-        let content = cell.get();
-        let (seen, _) = cell.load();
-        if seen == 0 || seen >= content.label.limit {
+        if seen >= cell.get().label.limit {
             return Err(permit);
         }
         let (found, _, more) = cell.increment(seen, permit);
