@@ -121,9 +121,9 @@ def together(bodies, folder, proved=()):
 
 
 def tried(bodies, folder, proved=()):
-    """Checks the bodies of a crate together, and those that are refused at no goal so once more, each alone. Gives each body with its goals and
-    with what else is said."""
+    """Checks the bodies of a crate together, and those that are refused at no goal so once more, each alone. Gives each body with its goals, with
+    what else is said, and with whether it was alone in its check."""
     found, alone = together(bodies, folder, proved)
-    yield from (it for it in found if it[1] or it[0] in alone)
+    yield from ((*it, it[0] in alone) for it in found if it[1] or it[0] in alone)
     for body in [body for body, goals, _ in found if not goals and body not in alone]:
-        yield from batches.judged([body], folder)
+        yield from ((*it, True) for it in batches.judged([body], folder))

@@ -46,6 +46,8 @@ from spared import functions_told
 KEPT = Path(os.environ.get("XDG_CACHE_HOME") or Path.home() / ".cache") / "jatzurbin" / "refused"
 TOOLS = ("refused_bodies.py", "batches.py", "further.py", "spared.py", "functions.py", "edits.py")
 SAID = 400  # how much is told of what was said
+ALONE = ", in a check of its own"
+FEW = 8  # a crate may have so many bodies that take one
 PROVED = re.compile(r"^rt: (\w+) (?:proved$|is kept: )", re.MULTILINE)  # what `rt ci` says of a crate that it is done with
 
 
@@ -117,8 +119,9 @@ def judged(bodies, folder, proved=None):
         if "logic=proved" not in said:
             return [(body, False, f"NOT TRIED: the crate as it stands isn't proved: {said.strip()[-SAID:]}") for body in bodies]
     results = []
-    for body, goals, text in further.tried(bodies, folder, proved or ()):
-        results.append((body, bool(goals), f"refused at {', '.join(goals)}" if goals else f"NOT REFUSED: {text[:SAID]}"))
+    for body, goals, text, is_alone in further.tried(bodies, folder, proved or ()):
+        well = f"refused at {', '.join(goals)}{ALONE if is_alone else ''}"
+        results.append((body, bool(goals), well if goals else f"NOT REFUSED: {text[:SAID]}"))
     return results
 
 
@@ -139,6 +142,9 @@ def try_crate(folder, copy, proved, is_anew):
             results.append(well)
             if well and is_same:
                 keep(kept(crate_sum, body))
+        alone = sum(text.endswith(ALONE) for _, _, text in found)
+        if alone > FEW:
+            lines.append(f"refused {folder.name}: {alone} of {len(found)} took a check of their own, as if two of them called each other")
     print("\n".join(lines), flush=True)
     return results
 

@@ -341,6 +341,13 @@ class Crate(InSmallRepository):
                     self.assertEqual(found[name][0], well, (name, found[name]))
                     self.assertIn(text, found[name][1], name)
 
+    def test_a_check_of_its_own_is_told(self):
+        bodies = [self.placed(str(step), "zeros", ("found += 1;", f"found += {step};")) for step in (2, 3)]
+        answer = [(body, ["returns"], "") for body in bodies], bodies[1:]
+        with mock.patch.object(further, "together", return_value=answer):
+            found = refused_bodies.judged(bodies, self.folder, ())
+        self.assertEqual([text for *_, text in found], ["refused at returns", "refused at returns, in a check of its own"])
+
     def test_what_is_not_read_hides_no_other(self):
         rows = {
             "unread": ("next", "wide + 1", "wider + 1"),
