@@ -212,6 +212,7 @@ impl<Static: StaticAtomSet> Ord for Atom<Static> {
         match (&self.entry, &other.entry) {
             (Some(one), Some(two)) if Arc::ptr_eq(one, two) => Ordering::Equal,
             (None, None) if self.is_inline() && other.is_inline() => self.inline_place().cmp(&other.inline_place()),
+            (None, None) if self.symbol == other.symbol => Ordering::Equal,
             _ => self.as_bytes().cmp(other.as_bytes()),
         }
     }

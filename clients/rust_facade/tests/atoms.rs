@@ -55,6 +55,7 @@ fn a_text_is_kept() {
 
 #[test]
 fn an_atom_has_one_form() {
+    assert_eq!((std::mem::size_of::<DefaultAtom>(), std::mem::size_of::<Option<DefaultAtom>>()), (16, 16));
     let (inline, dynamic, fixed) = (StaticAtom::from("short"), StaticAtom::from("a longer name"), StaticAtom::from("sentence"));
     assert_eq!((inline.is_inline(), inline.is_static(), inline.is_dynamic()), (true, false, false));
     assert_eq!((fixed.is_inline(), fixed.is_static(), fixed.is_dynamic()), (false, true, false));
