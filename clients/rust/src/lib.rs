@@ -118,17 +118,17 @@ impl Symbol {
     /// ```
     #[inline]
     pub fn inline_bytes(&self) -> Option<&[u8]> {
-        // SAFETY: the symbol is eight bytes, each of which is one of an array.
+        // SAFETY: a symbol is eight bytes, and any eight bytes are an array of them.
         let [head, bytes @ ..] = unsafe { &*(&self.0 as *const NonZeroU64).cast::<[u8; 8]>() };
-        match head & HEAD_TAG == INLINE_TAG {
+        match head & TAG_MASK == INLINE_TAG {
             true => bytes.get(..usize::from(head >> LENGTH_SHIFT)),
             false => None,
         }
     }
 }
 
-// The low byte of an inline text's word has the text's length, and is the first byte of the word, since the library is for x86-64.
-const HEAD_TAG: u8 = 15;
+// The low byte of an inline text's word, which has its tag and its length, is the first in memory, since the library is for x86-64.
+const TAG_MASK: u8 = 15;
 const INLINE_TAG: u8 = 1;
 const LENGTH_SHIFT: u32 = 4;
 

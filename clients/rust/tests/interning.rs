@@ -13,7 +13,7 @@ fn intern(names: &mut Interner, name: &str) -> Symbol {
 
 /// Different names of every length that matters: none, inline, the first that is not, long.
 fn samples() -> Vec<String> {
-    let mut samples = vec![String::new(), "x".repeat(1 << 20), "é".repeat(4), "日本語".into(), "日本語の長い名前".into()];
+    let mut samples = vec![String::new(), "x".repeat(1 << 20), "é".repeat(4), "日本".into(), "日本語".into(), "日本語の長い名前".into()];
     samples.extend((1..100).map(|length| "a".repeat(length)));
     samples.extend((1..100).map(|length| "b".repeat(length)));
     samples.push("\0".into());

@@ -77,6 +77,9 @@ fn static_texts_are_found() {
         assert_eq!((atom.unsafe_data(), atom.as_str(), atom.get_hash()), ((index as u64) << 32 | 2, *text, tables.hashes[index]));
     }
     assert!(Atom::<SixTexts>::from("another text").is_dynamic());
+    for (one, other) in tables.atoms.iter().flat_map(|one| tables.atoms.iter().map(move |other| (*one, *other))) {
+        assert_eq!(Atom::<SixTexts>::from(one).cmp(&Atom::from(other)), one.cmp(other));
+    }
 }
 
 #[test]
