@@ -254,16 +254,25 @@ fn has_no_try<A: Allocator>(owner: &Owner<A>) -> bool
     owner_tried(owner).is_none()
 }
 
-/// Those of an owner, at a limit of 2: one is given, at the limit none is, and none is once the shares were given back.
+/// Single tries of the owner of a cell of the text, at a limit of 2: one share is given, at the limit none is, and none is once both were given back.
+fn owner_tries(rt: &impl Abort, alloc: Global, text: &str) -> Result<(), AllocError> {
+    let (owner, first) = make(alloc, 2, text)?;
+    let second = owner_tried(&owner).expect(rt, "a share");
+    assert_that(rt, second.has_text(text) && has_no_try(&owner));
+    assert_that(rt, !first.gives_last());
+    assert_that(rt, second.gives_last());
+    assert_that(rt, has_no_try(&owner));
+    assert_that(rt, frees(owner));
+    Ok(())
+}
+
 #[test]
 fn single_tries_of_an_owner(rt: HostRuntime) {
-    let (owner, first) = made(&rt, rt.alloc());
-    let second = owner_tried(&owner).expect(&rt, "a share");
-    assert_that(&rt, second.has_text("interned") && has_no_try(&owner));
-    assert_that(&rt, !first.gives_last());
-    assert_that(&rt, second.gives_last());
-    assert_that(&rt, has_no_try(&owner));
-    assert_that(&rt, frees(owner));
+    let alloc = rt.alloc();
+    let text = "interned ".repeat(alloc, 30_000).expect(&rt, "a text");
+    owner_tries(&rt, alloc, "interned").expect(&rt, "an answer");
+    owner_tries(&rt, alloc, "tokenised ü").expect(&rt, "an answer");
+    owner_tries(&rt, alloc, &text).expect(&rt, "an answer");
 }
 
 /// No share is left once both were given back.
