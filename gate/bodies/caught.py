@@ -3,14 +3,16 @@
 
 They are applied to copies of the repository, and the tests are built there without proofs: all bodies for the tests of one crate side by
 side in one build, from which each body gets a program of its own (gate/bodies/shared_builds.py). One that changes more than bodies of functions,
-or doesn't compile beside its own, has a build to itself.
+or doesn't compile beside its own, has a build to itself, and is compared with the program without a body that the others have.
 
 - 'test: FUNCTION' has to fail, or not to end in thirty times as long as it takes without the body (in ten seconds at least; in a minute at
   most, or in five times as long where that is more). What threads do wrong may not show at once, so a test that passes is run again until
   a minute has gone. It has to pass as often in the same build without the body.
 - 'refused: FUNCTION', a test of a module `refusals`, has to be found WRONG as gate/refusals/refused.py judges it, has to pass where nothing is
   refused, and has to be found right in the same build without the body.
-- 'error: TEXT': the compiler has to say this, where a type alone forbids the body.
+- 'error: TEXT': the compiler has to say this, where a type alone forbids the body. Such bodies stand side by side too: each passes by an error
+  at its own lines. The compiler may end before it has seen all, so those of which it says nothing are built again without those of which it
+  does, as long as there are any of these. What passes by no error at its own lines is built by itself, and may say this anywhere.
 
 What hasn't ended in its time may only have met with other work. So the test is run without the body right behind it, and if the body may take
 longer by what that took, the body is tried once more.
@@ -184,13 +186,18 @@ def judge(edit, wrong, own):
         return False, f"BAD EDIT: it can't be run: {why}"
 
 
+def as_it_must_not(edit):
+    """That the edit's error comes, and what to say."""
+    return True, f"doesn't compile, as it must not: {edit.name}"
+
+
 def judge_error(edit, root):
     """Whether the edit's error comes, and what to say."""
     with applied(edit, root):
         found, said = outcomes(root / "crates" / edit.of, SECONDS)
     if found or edit.name not in said:
         return False, f"COMPILED, or failed otherwise; it said: {said.strip()[:SAID]}"
-    return True, f"doesn't compile, as it must not: {edit.name}"
+    return as_it_must_not(edit)
 
 
 def judge_tests(names, program):
@@ -247,37 +254,43 @@ def try_tests(crate, edits, trials, root):
 def try_edits(crate, edits, trials, root):
     """Has the edits for the tests of the crate tried, those that can share a build in one."""
     together = [edit for edit in edits if can_share(edit, root)]
-    if together:
-        trials.add(try_together, crate, together)
-    for edit in edits:
-        if edit not in together:
-            trials.add(try_alone, edit)
+    trials.add(try_together, crate, together, [edit for edit in edits if edit not in together])
 
 
-def try_together(crate, edits, trials, root):
-    """Tries edits in one build. Where that doesn't compile, those at fault are to have one each, and the others one without them."""
+def try_together(crate, edits, alone, trials, root):
+    """Tries edits in one build, and behind them those that are to be alone, beside its program without a body. There may be none of the first."""
     with tempfile.TemporaryDirectory(prefix="shared-") as room:
         try:
             shared = SharedBuild(crate, edits, root, Path(room))
         except NotShared as why:
-            alone, lists = apart(edits, why.blamed)
-            for others in lists:
-                trials.add(try_together, crate, others)
-            for edit in alone:
-                trials.add(try_alone, edit)
+            try_apart(crate, edits, alone, why, trials)
             return
         own = Own(shared.program(0))
         for number, edit in enumerate(edits, 1):
             wrong = shared.program(number)
             trials.tell(edit, *judge(edit, wrong, own))
             wrong.unlink()
+        for edit in alone:
+            try_alone(edit, own, trials, root)
 
 
-def try_alone(edit, trials, root):
-    """Tries an edit by a build of its own, beside one without it."""
-    with tempfile.TemporaryDirectory(prefix="own-") as own_room, tempfile.TemporaryDirectory(prefix="wrong-") as room:
+def try_apart(crate, edits, alone, why, trials):
+    """Has edits tried that couldn't be built together: those at fault are to be alone too, and the others to have a build without them."""
+    if not edits:
+        for edit in alone:
+            trials.tell(edit, False, f"BAD EDIT: the tests of {crate} can't be built without it: {why}")
+        return
+    bad, lists = apart(edits, why.blamed)
+    first, *more = lists or [[]]
+    trials.add(try_together, crate, first, alone + bad)
+    for others in more:
+        trials.add(try_together, crate, others, [])
+
+
+def try_alone(edit, own, trials, root):
+    """Tries an edit by a build of its own, beside this program without it."""
+    with tempfile.TemporaryDirectory(prefix="wrong-") as room:
         try:
-            own = Own(build(root / "crates" / edit.of, Path(own_room)))
             with applied(edit, root):
                 wrong = build(root / "crates" / edit.of, Path(room))
             trials.tell(edit, *judge(edit, wrong, own))
@@ -285,8 +298,34 @@ def try_alone(edit, trials, root):
             trials.tell(edit, False, f"BAD EDIT: it can't be built: {why}")
 
 
+def errors_together(crate, edits, root):
+    """What the compiler says of each of these edits, side by side, that it refuses: them, with the texts of the errors at the lines of each."""
+    with tempfile.TemporaryDirectory(prefix="shared-") as room:
+        try:
+            SharedBuild(crate, edits, root, Path(room))
+        except NotShared as why:
+            return why.errors
+    return []
+
+
+def try_errors(crate, edits, trials, root):
+    """Tries edits that can't be built: those that can stand side by side together, again without those that are refused as long as some are, and
+    each that isn't refused as it has to be by itself."""
+    left = [edit for edit in edits if can_share(edit, root)]
+    alone = [edit for edit in edits if edit not in left]
+    while left[1:] and (found := errors_together(crate, left, root)):
+        for edit, errors in found:
+            left.remove(edit)
+            if any(edit.name in text for text in errors):
+                trials.tell(edit, *as_it_must_not(edit))
+            else:
+                alone.append(edit)
+    for edit in alone + left:
+        trials.add(try_error, edit)
+
+
 def try_error(edit, trials, root):
-    """Tries an edit that can't be built."""
+    """Tries an edit that can't be built, by itself."""
     trials.tell(edit, *judge_error(edit, root))
 
 
@@ -322,16 +361,14 @@ def read_edits(top, words):
 
 def add_tasks(edits, trials, is_tested):
     """Adds what is to be done at first, the crates with the most edits before the others. How many results there will be."""
-    crates, kinds = {}, set()
+    built, refused, kinds = {}, {}, set()
     for edit in edits:
+        (refused if edit.want == "error" else built).setdefault(edit.of, []).append(edit)
         if edit.want != "error":
-            crates.setdefault(edit.of, []).append(edit)
             kinds.add((edit.of, edit.want))
-    for crate, own in sorted(crates.items(), key=lambda item: -len(item[1])):
-        trials.add(try_edits if is_tested else try_tests, crate, own)
-    for edit in edits:
-        if edit.want == "error":
-            trials.add(try_error, edit)
+    for task, crates in ((try_edits if is_tested else try_tests, built), (try_errors, refused)):
+        for crate, own in sorted(crates.items(), key=lambda item: -len(item[1])):
+            trials.add(task, crate, own)
     return len(edits) + (0 if is_tested else len(kinds))
 
 

@@ -316,10 +316,42 @@ class Sharing(InRoom):
             ("pub fn second() -> u32 {", "pub(crate) fn second() -> u32 {"),
             ("    3", "    4"),
             ("pub fn none() {}", "pub fn none() { first(3); }"),
-            ("#[cfg(test)]", "fn more() {} #[cfg(test)]"),
             ("    2", "    2 } pub fn more() -> u32 { 3"),
         ):
             self.assertFalse(shared_builds.can_share(self.edit((old, new)), self.room), old)
+
+    def test_what_is_added_stands_once(self):
+        one, other = "const MORE: u32 = 4; fn more() -> u32 { MORE }", "struct Sum(u32); impl Add for Sum { fn add(self) {} }"
+        constant, answer = "const MOST: u32 = 3;", "        return MOST;"
+        edits = [
+            self.edit((constant, f"{constant} {one}"), (answer, "        return more();")),
+            self.edit((constant, f"{constant} {one}"), (answer, "        return MORE;")),
+            self.edit((constant, f"{other} {constant} fn least() {{}}"), ("    2", "    Sum(2).0")),
+        ]
+        (text,) = shared_builds.shared_texts(edits, self.room).values()
+        (wanted,) = shared_builds.shared_texts([self.edit(edit.changes[1][1:]) for edit in edits], self.room).values()
+        self.assertEqual(text, wanted.replace(constant, f"{other} {constant} {one} fn least() {{}}"))
+
+    def test_what_is_added_changes_nothing_that_others_run(self):
+        constant = "const MOST: u32 = 3;"
+        can = ("fn more() {}", "pub(crate) const fn more() {}", "struct Sum; impl<T> Add<T> for Sum { fn add(self) {} }", "enum Few { One }")
+        cant = ("struct Sum; impl Add for Few {}", "impl<T> Add<T> for T {}", "fn first() {}", "pub fn more() {}", "use core::more;", "#[test]")
+        for text in can + cant:
+            self.assertEqual(shared_builds.can_share(self.edit((constant, f"{constant} {text}")), self.room), text in can, text)
+        for old, new in (
+            (constant, f"fn more() {{ // }} {constant}"),
+            ("#[cfg(test)]", "#[cfg(test)] fn more() {}"),  # below an attribute, and so is the next one
+            ("mod tests {", "fn more() {} mod tests {"),
+            ("mod tests {", "mod tests { fn more() {}"),
+        ):
+            self.assertFalse(shared_builds.can_share(self.edit((old, new)), self.room), new)
+
+    def test_what_is_added_to_an_impl_is_of_a_type_s_own(self):
+        source = self.room / "crates" / "few" / "src" / "lib.rt"
+        for head, can_share in (("impl Few {", True), ("impl Add for Few {", False), ("pub trait Add {", False), ("pub struct Sum {", False)):
+            source.write_text(f"{head}\n    #[inline]\n}}\n", encoding="utf-8")
+            for line, has_place in ((head, can_share), ("    #[inline]", False)):
+                self.assertEqual(shared_builds.can_share(self.edit((line, f"{line} fn more(&self) {{}}")), self.room), has_place, head)
 
 
 class Apart(WithPrograms):
@@ -330,29 +362,97 @@ class Apart(WithPrograms):
         self.addCleanup(setattr, caught, "SharedBuild", caught.SharedBuild)
         self.addCleanup(setattr, caught, "try_alone", caught.try_alone)
         caught.SharedBuild = self.built
-        caught.try_alone = lambda edit, trials, root: trials.tell(edit, False, "tried alone")
+        caught.try_alone = lambda edit, own, trials, root: trials.tell(edit, False, "tried alone")
+        crate_in(self.room)
 
     def built(self, crate, edits, root, room):
         """Stands for a build. One with the edit `bad` isn't built, and in the others each body is seen by its test."""
         self.builds += 1
         bad = [edit for edit in edits if edit.path.stem == "bad"]
-        if bad:
-            raise shared_builds.NotShared("an error", bad if self.is_named else [])
+        if bad or self.is_broken:
+            raise shared_builds.NotShared("an error", [(edit, ["an error"]) for edit in bad if self.is_named])
         programs = [self.program("0"), *(self.program("1") for _ in edits)]
         return SimpleNamespace(program=programs.__getitem__)
 
+    def said(self, edits, alone):
+        """What is said of these edits of which the second ones can't share, by their names."""
+        trials, said, self.builds = caught.Trials(), [], 0
+        trials.tell = lambda edit, passed, text: said.append((edit.path.stem, text))
+        trials.add(caught.try_together, "few", edits, alone)
+        while not trials.tasks.empty():
+            trials.tasks.get()(trials, self.room)
+        return sorted(said)
+
     def test_each_edit_is_tried_once_and_the_bad_one_alone(self):
-        crate_in(self.room)
-        names = ("a", "b", "bad", "c", "d")
+        names = ("a", "b", "bad", "c", "d", "type")
         edits = [edit_in(self.room, name, "test: one", "file: src/lib.rt", "old: MOST;", "new: 5;") for name in names]
-        for self.is_named, builds in ((True, 2), (False, 5)):
-            trials, said, self.builds = caught.Trials(), [], 0
-            trials.tell = lambda edit, passed, text: said.append((edit.path.stem, text))
-            trials.add(caught.try_together, "few", edits)
+        self.is_broken = False
+        for self.is_named, builds in ((True, 2), (False, 6)):
+            said = self.said(edits[:-1], edits[-1:])
+            self.assertEqual(said, [(name, "tried alone" if name in ("bad", "type") else "seen by one") for name in names])
+            self.assertEqual(self.builds, builds)
+
+    def test_where_nothing_is_built_each_edit_is_told(self):
+        edits = [edit_in(self.room, name, "test: one", "file: src/lib.rt", "old: MOST;", "new: 5;") for name in "abcd"]
+        self.is_broken, self.is_named, text = True, False, "BAD EDIT: the tests of few can't be built without it: an error"
+        self.assertEqual(self.said(edits[:3], edits[3:]), [(name, text) for name in "abcd"])
+
+
+class Errors(InRoom):
+    """What is said of edits that the compiler has to refuse, side by side."""
+
+    def edit(self, name):
+        return edit_in(self.room, name, "error: no such name", "file: src/lib.rt", "old:         return MOST;", f"new:         return {name};")
+
+    def test_errors_are_told_apart_by_their_lines(self):
+        crate_in(self.room)
+        texts = shared_builds.shared_texts([self.edit("LEAST"), self.edit("FEW"), self.edit("SOME")], self.room)
+        ((file, text),) = texts.items()
+        least, few, own = (text.split("\n").index(f"        return {name};") + 1 for name in ("LEAST", "FEW", "MOST"))
+        rows = (
+            ("src/lib.rt", least, "error[unknown-name]: no LEAST,\n  which spans lines"),
+            ("src/lib.rt", own, "error: in its own body"),
+            ("src/other.rt", few, "error: in another file"),
+            (file, few, "error: no FEW"),
+            ("src/lib.rt", few, "warning: no error"),
+            ("src/lib.rt", 3, "error: above all bodies"),
+            ("src/lib.rt", least, "error: no more"),
+        )
+        said = "".join(f"{name}:{line}:9: {what}\n" for name, line, what in rows) + "run=none proved=no\n"
+        found = shared_builds.errors_by_body(said, texts, self.room / "crates" / "few")
+        self.assertEqual(found, {1: ["[unknown-name]: no LEAST,\n  which spans lines", ": no more"], 2: [": no FEW"]})
+
+    def said(self, *rounds):
+        """What is said of the edits, and which of them were built together, where each of these rounds finds these errors in them, by their names."""
+        edits, built, said, left = [self.edit(name) for name in ("A", "B", "C", "D")], [], [], list(rounds)
+
+        def build(crate, together, root, room):
+            built.append("".join(edit.path.stem for edit in together))
+            found = left.pop(0)
+            if found is not None:
+                raise shared_builds.NotShared("all", [(edit, found[edit.path.stem]) for edit in together if edit.path.stem in found])
+
+        trials = caught.Trials()
+        trials.tell = lambda edit, passed, text: said.append((edit.path.stem, passed))
+        with mock.patch.object(caught, "SharedBuild", build), mock.patch.object(caught, "judge_error", lambda edit, root: ("alone", "")):
+            caught.try_errors("few", edits, trials, self.room)
             while not trials.tasks.empty():
                 trials.tasks.get()(trials, self.room)
-            self.assertEqual(sorted(said), [(name, "tried alone" if name == "bad" else "seen by one") for name in names])
-            self.assertEqual(self.builds, builds)
+        return "".join(f"{name}{'-' if passed is True else '?'}" for name, passed in sorted(said)), built
+
+    def test_each_passes_by_an_error_of_its_own_or_alone(self):
+        crate_in(self.room)
+        its, other = ["another", "no such name `X`"], ["another"]
+        for rounds, said, built in (
+            ([{"A": its, "B": its, "C": its, "D": its}], "A-B-C-D-", ["ABCD"]),
+            ([{"A": its, "B": other, "C": its, "D": its}], "A-B?C-D-", ["ABCD"]),  # another's error isn't its own
+            ([{"A": its, "C": its, "D": its}], "A-B?C-D-", ["ABCD"]),
+            ([{"A": its}, {"C": its, "D": other}], "A-B?C-D?", ["ABCD", "BCD"]),
+            ([{"A": its}, {"B": its}, {"C": its, "D": its}], "A-B-C-D-", ["ABCD", "BCD", "CD"]),
+            ([{"A": its}, {}], "A-B?C?D?", ["ABCD", "BCD"]),
+            ([{"A": its}, None], "A-B?C?D?", ["ABCD", "BCD"]),  # they are built
+        ):
+            self.assertEqual(self.said(*rounds), (said, built))
 
 
 class Build(InRoom):
@@ -389,7 +489,10 @@ class Build(InRoom):
         edits = [edit_in(self.room, name, "test: firsts", "file: src/lib.rt", f"old: {old}", f"new: {new}") for name, (old, new) in rows.items()]
         with self.assertRaises(shared_builds.NotShared) as raised:
             shared_builds.SharedBuild("few", edits, self.room, self.room)
-        self.assertEqual([edit.path.stem for edit in raised.exception.blamed], ["unknown", "mismatched"])
+        found = [(edit.path.stem, errors) for edit, errors in raised.exception.errors]
+        self.assertEqual([name for name, _ in found], ["unknown", "mismatched"])
+        for (_, (error,)), text in zip(found, ("cannot find value `LEAST`", "expected `u32`, found `&str`")):
+            self.assertIn(text, error)
 
 
 if __name__ == "__main__":

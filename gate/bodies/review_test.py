@@ -274,7 +274,7 @@ class Builds(unittest.TestCase):
         self.builds.append("".join(body.name[0] for body in bodies))
         bad = [body for body in bodies if body.name == "bad"]
         if bad:
-            raise shared_builds.NotShared("an error", bad)
+            raise shared_builds.NotShared("an error", [(body, ["an error"]) for body in bad])
         return mock.Mock(program=lambda number: number)
 
     def test_only_the_body_at_fault_is_built_alone(self):

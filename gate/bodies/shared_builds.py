@@ -13,8 +13,12 @@ The object that the compiler makes of the tests is linked with a `wrong_body` th
 is another in each copy of the program. So the program of number N has the Nth body alone, and that of number 0 is the crate as it is. No body
 can hide another, or pass for it.
 
-An edit can share where it changes no more than what stands between the braces of functions: no signature, type or constant. Where the build
-fails, the compiler names the lines at fault, and so the bodies.
+An edit can share where it changes no more than what stands between the braces of functions: no signature, type or constant. It may add items
+before or behind a line outside them (gate/bodies/additions.py): functions, types and constants, each with a name that stands nowhere else in
+its crate, and impls of types that it adds. Nothing else can name these, so the other programs are as without them. An impl of any other type
+would change what they run: such an edit can't share. What two edits add alike to a line stands there once.
+
+Where the build fails, the compiler names the lines at fault, and so the bodies, and says of each what is wrong.
 """
 
 import contextlib
@@ -23,6 +27,7 @@ import re
 import struct
 import subprocess
 
+from additions import CantShare, added, names_in, with_added
 from edits import edited, replaced
 from functions import spans
 from programs import TESTS, NotBuilt, compiler, kit, link, object_of
@@ -30,7 +35,8 @@ from programs import TESTS, NotBuilt, compiler, kit, link, object_of
 SWITCH = 'unsafe extern "C" {\n    safe fn wrong_body() -> u32;\n}\n'
 ALLOWED = {"RT_ALLOW_C": "1"}  # what has rt take that function
 ARM = re.compile(r"(\d+|_) => \{")  # the line at which a body begins beside others
-ERROR = re.compile(r"^(\S+\.rt):(\d+):\d+: error\b", re.MULTILINE)
+TOLD = re.compile(r"^(\S+\.rt):(\d+):\d+: (\w+)")  # how what the compiler says of a line begins: its file, number, and what it is
+ENDED = "run="  # how the line begins by which rt tells what came of all
 MARK = b"wrong body here:"  # behind which the number is in a program
 ANSWER = """\
 static const volatile struct {{ char mark[{size}]; unsigned number; }} own = {{"{mark}", {number}}};
@@ -38,16 +44,12 @@ unsigned wrong_body(void) {{ return own.number; }}
 """
 
 
-class CantShare(Exception):
-    """The edit changes more than bodies of functions."""
-
-
 class NotShared(NotBuilt):
-    """Bodies couldn't be built beside one another. It has those in which the compiler found errors."""
+    """Bodies couldn't be built beside one another. It has those in which the compiler found errors, and the texts of these, each body's own."""
 
-    def __init__(self, said, blamed):
+    def __init__(self, said, errors):
         super().__init__(said)
-        self.blamed = blamed
+        self.blamed, self.errors = [edit for edit, _ in errors], errors
 
 
 def closes_more(body):
@@ -56,51 +58,81 @@ def closes_more(body):
 
 
 def other_bodies(before, after):
-    """The lines between the braces of each function that is changed, by the lines before the change that open and close its body.
-    An edit changes what stands in lines, and never how many there are."""
-    own, found = [span for _, *span in spans(before)], {}
+    """The lines between the braces of each function that is changed, by the lines before the change that open and close its body, and what is
+    added before and behind lines outside functions, by their numbers. An edit changes what stands in lines, and never how many there are."""
+    own, found, additions = [span for _, *span in spans(before)], {}, {}
     for at, (old, new) in enumerate(zip(before, after)):
         if old != new:
             span = next(((opens, closes) for opens, closes in own if opens <= at < closes), None)
-            if not span or at == span[0] and not new.startswith(old):
+            if not span:
+                additions[at] = added(before, at, new)
+                continue
+            if at == span[0] and not new.startswith(old):
                 raise CantShare(f"it changes more than bodies of functions: {old.strip()}")
             opens, closes = span
             found[span] = [after[opens][len(before[opens]) :], *after[opens + 1 : closes]]
             if closes_more("\n".join(found[span])):
                 raise CantShare(f"it closes the function, and opens another: {new.strip()}")
-    return found
+    return found, additions
 
 
-def side_by_side(lines, arms):
-    """The text of these lines, with the numbered bodies that functions get beside their own."""
-    lines = list(lines)
+def see_new(additions, folder):
+    """CantShare where a name in one of these added texts stands in a source of the crate in this folder already."""
+    names = {name for text in additions for name in names_in(text)}
+    sources = (file.read_text(encoding="utf-8") for file in (folder / "src").rglob("*.rt")) if names else ()
+    old = sorted(names.intersection(word for text in sources for word in re.findall(r"\w+", text)))
+    if old:
+        raise CantShare(f"it adds what has the name of something else: {', '.join(old)}")
+
+
+def side_by_side(lines, arms, additions):
+    """The text of these lines, with what is added to some, and the numbered bodies that functions get beside their own."""
+    lines = with_added(lines, additions)
     for (opens, closes), wrong in sorted(arms.items(), reverse=True):
         switch = ["match wrong_body() {"]
         for number, body in wrong:
             switch += [f"{number} => {{", *body, "}"]
         lines[opens + 1 : closes] = [*switch, "_ => {", *lines[opens + 1 : closes], "}", "}"]
-    return "\n".join(lines) + SWITCH
+    return "\n".join(lines) + (SWITCH if arms else "")
 
 
 def shared_texts(edits, root):
     """The texts that have the bodies of all these edits, numbered from 1 on, by their files in the copy at root."""
-    before, arms = {}, {}
+    before, arms, additions = {}, {}, {}
     for number, edit in enumerate(edits, 1):
         for file, text in edited(edit, root).items():
             before[file] = file.read_text(encoding="utf-8").split("\n")
-            for span, body in other_bodies(before[file], text.split("\n")).items():
+            bodies, own = other_bodies(before[file], text.split("\n"))
+            see_new([it for pair in own.values() for it in pair], root / "crates" / edit.crate)
+            for span, body in bodies.items():
                 arms.setdefault(file, {}).setdefault(span, []).append((number, body))
-    return {file: side_by_side(lines, arms[file]) for file, lines in before.items()}
+            for at, pair in own.items():
+                additions.setdefault(file, {}).setdefault(at, []).append(pair)
+    return {file: side_by_side(lines, arms.get(file, {}), additions.get(file, {})) for file, lines in before.items()}
 
 
-def blamed(said, texts, folder):
-    """The numbers of the bodies in which the compiler found errors as it built the crate in this folder with these texts, by their files."""
-    lines, numbers = {file.resolve(): text.split("\n") for file, text in texts.items()}, set()
-    for file, line in ERROR.findall(said):
-        above = lines.get((folder / file).resolve(), [])[: int(line)]
+def errors_in(said):
+    """The errors in what the compiler says, each with its file, the number of its line, and its text, which may have several lines."""
+    found = []
+    for line in said.splitlines():
+        told = TOLD.match(line)
+        if told or line.startswith(ENDED):
+            found.append((told[1], int(told[2]), told[3], [line[told.end() :]]) if told else ("", 0, "", []))
+        elif found:
+            found[-1][-1].append(line)
+    return [(file, number, "\n".join(lines)) for file, number, kind, lines in found if kind == "error"]
+
+
+def errors_by_body(said, texts, folder):
+    """The texts of the errors that the compiler found in bodies as it built the crate in this folder with these texts, by their files: by the numbers
+    of the bodies at whose lines they are."""
+    lines, errors = {file.resolve(): text.split("\n") for file, text in texts.items()}, {}
+    for file, line, text in errors_in(said):
+        above = lines.get((folder / file).resolve(), [])[:line]
         arm = next((found[1] for found in map(ARM.fullmatch, reversed(above)) if found), "_")
-        numbers |= set() if arm == "_" else {int(arm)}
-    return numbers
+        if arm != "_":
+            errors.setdefault(int(arm), []).append(text)
+    return errors
 
 
 def apart(edits, blamed):
@@ -162,8 +194,8 @@ class SharedBuild:
             with beside_their_own(edits, root):
                 self.tests = object_of(folder, room, TESTS, **ALLOWED)
         except NotBuilt as why:
-            numbers = blamed(why.said, shared_texts(edits, root), folder)
-            raise NotShared(why.said, [edit for number, edit in enumerate(edits, 1) if number in numbers]) from why
+            errors = errors_by_body(why.said, shared_texts(edits, root), folder)
+            raise NotShared(why.said, [(edit, errors[number]) for number, edit in enumerate(edits, 1) if number in errors]) from why
 
     def program(self, number):
         """The program with the body of this number, or as the crate is with 0."""
