@@ -13,8 +13,8 @@ use Rattle.counted_cell.specs.Cell.{Cell}
 use Rattle.counted_cell.specs.CellLog.{Entry}
 use Rattle.counted_cell.specs.CellEntry.{entry_of}
 use Rattle.counted_cell.specs.declared.cell_log.LogSeen.{LogSeen}
-use Rattle.named_set.specs.Linked.{HaveHash}
-use Rattle.named_set.specs.Logged.{IsGone, IsLogged, IsLinked, IsKept, IsSeen, IsNew, IsOf, LinksNoMore}
+use Rattle.named_set.specs.Logged.{IsGone, IsLogged, IsLinked, IsKept, IsSeen, IsOf, LinksNoMore}
+use Rattle.named_set.specs.Places.{HaveHash, IsNew}
 use Rattle.named_set.proofs.Rows.{prefix_get, prefix_back, get_snoc, snoc_get, each_more, each_at}
 
 -- a cell that stands in a row stands in a longer one

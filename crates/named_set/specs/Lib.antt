@@ -1,5 +1,6 @@
 pub mod Names
 pub mod Logged
-pub mod Linked
+pub mod Places
+pub mod Slots
 pub mod Words
 pub mod Answers

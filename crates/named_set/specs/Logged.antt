@@ -1,7 +1,7 @@
 -- The cells of a bucket that are linked, and the log of all that ever were.
 -- The log only grows: a link adds its cell, and nothing takes one out. Beside it stands which of its cells have no share left, and never
 -- will. So a text's next cell is linked only after the last share of the one before has gone.
-use Rattle.std.specs.Prelude.{◌≡◌, ◌≢◌, ◌⊎◌, ℕ, ◌+◌, ◌<◌, List, [], ◌∷◌, length, slice_index_or, Option, Some, None, slice_get}
+use Rattle.std.specs.Prelude.{◌≡◌, ◌≢◌, ◌⊎◌, ℕ, ◌+◌, ◌<◌, List, [], ◌∷◌, length, slice_index_or, Option, Some, slice_get}
 use Rattle.std.specs.List.{AllByRecursion}
 use Rattle.text_forms.specs.Tables.{Tables, bucket_of, entry_hash}
 use Rattle.text_forms.specs.Word.{IsTicket, ticket_of}
@@ -10,11 +10,12 @@ use Rattle.counted_cell.specs.Cell.{Cell}
 use Rattle.counted_cell.specs.CellLog.{Entry}
 use Rattle.counted_cell.specs.CellEntry.{entry_of}
 use Rattle.counted_cell.specs.declared.cell_log.LogSeen.{LogSeen}
+use Rattle.named_set.specs.Places.{IsNew}
 
--- what a lock keeps: the number of the bucket, the cells that are linked, the log, and which of its cells have no share left
+-- what a lock keeps: the number of the bucket, where its cells are linked, the log, and which of its cells have no share left
 pub record Kept : Type 0 where
   pub number : ℕ
-  pub linked : List Cell
+  pub places : List (Option Cell)
   pub entries : List Entry
   pub gone : List CellName
 
@@ -53,15 +54,6 @@ pub record IsSeen (t : Tables) (logs : List ℕ) (s : LogSeen) (c : Cell) : Type
   pub named : s.name ≡ slice_index_or logs (bucket_of t (length logs) c.text) 0
   pub logged : IsLogged (bucket_of t (length logs) c.text) s.entries s.gone c
 
--- no cell of the text is linked
-abbrev pub IsNew : List ℕ → List Cell → Type 0
-IsNew text linked = (i : ℕ) (c : Cell) → slice_get linked i ≡ Some c → c.text ≢ text
-
 -- no text is linked that wasn't
 abbrev pub LinksNoMore : List Cell → List Cell → Type 0
 LinksNoMore before after = (text : List ℕ) → IsNew text before → IsNew text after
-
--- where a cell of the text is linked
-abbrev pub FoundAt : List Cell → List ℕ → Option ℕ → Type 0
-FoundAt linked text (Some at) = (c : Cell) × (slice_get linked at ≡ Some c) × (c.text ≡ text)
-FoundAt linked text None = IsNew text linked

@@ -1,6 +1,6 @@
 //! A bucket: what one lock holds.
 
-ghost use Rattle.std.specs.Prelude.{◌≡◌, ◌+◌, ◌<◌, ◌≤◌, ℕ, true, length, slice_index_or, IfErr, IfOk, Some, slice_get};
+ghost use Rattle.std.specs.Prelude.{◌≡◌, ◌+◌, ◌<◌, ◌≤◌, ℕ, true, length, slice_index_or, IfErr, IfOk};
 ghost use Rattle.text_forms.specs.Faults.{IsInternFault};
 ghost use Rattle.text_forms.specs.Layout.{most_buckets};
 ghost use Rattle.text_forms.specs.Tables.{bucket_of, entry_hash};
@@ -8,7 +8,8 @@ ghost use Rattle.text_forms.specs.Word.{IsTicket, ticket_of};
 ghost use Rattle.counted_cell.specs.Cell.{Cell};
 ghost use Rattle.counted_cell.specs.Reply.{IsReply};
 ghost use Rattle.named_set.specs.Answers.{IfAbsent, IfFull, IfHeld};
-ghost use Rattle.named_set.specs.Logged.{FoundAt, IsNew, IsSeen, LinksNoMore};
+ghost use Rattle.named_set.specs.Logged.{IsSeen, LinksNoMore};
+ghost use Rattle.named_set.specs.Places.{cells_in, FoundAt, HasCell, IsNew};
 ghost use Rattle.named_set.specs.Names.{IsEmpty};
 
 use crate::cells::Cells;
@@ -24,7 +25,7 @@ use text_forms::Fault;
 use text_forms::static_sets::StaticTables;
 use text_forms::word::{Limits, ticket_word};
 
-/// So many cells are looked at by a call, if several were left.
+/// So many places are looked at by a call, if several were left.
 const SOME: usize = 16;
 
 /// What one lock of a set holds: the cells that are linked, and the log of all that ever were, which takes no memory. A share may be added
@@ -34,7 +35,7 @@ pub struct Bucket<Static: StaticTables, N: SetName, G: Grant> {
     owners: Cells,
     log: CellLog,
     last: u64,
-    unseen: usize, // so many of the cells that the index has are still to be looked at
+    unseen: usize, // so many places are still to be looked at
     number: u16,
     alloc: Global,
     of: PhantomData<(Static, N, G)>,
@@ -46,13 +47,14 @@ impl<Static: StaticTables, N: SetName, G: Grant> Model for Bucket<Static, N, G> 
     ghost use Rattle.text_forms.specs.Layout.{most_buckets};
     ghost use Rattle.named_set.specs.Answers.{IfAbsent, IfFull, IfHeld};
     ghost use Rattle.named_set.specs.Logged.{Kept, IsKept, IsOf};
+    ghost use Rattle.named_set.specs.Places.{cells_in};
 
     ghost Value = { Kept };
 
-    ghost view = { λ b. record { number = b.number; linked = b.owners; entries = b.log.entries; gone = b.log.gone } };
+    ghost view = { λ b. record { number = b.number; places = b.owners; entries = b.log.entries; gone = b.log.gone } };
 
     ghost invariant = { λ b. (b.log.name ≡ slice_index_or N.logs b.number 0) × (b.last ≡ length b.log.entries) × (b.number < most_buckets)
-        × IsKept b.number b.owners b.log.entries b.log.gone × AllByRecursion (IsOf Static.tables G.may (length N.logs) b.number) b.owners };
+        × IsKept b.number (cells_in b.owners) b.log.entries b.log.gone × AllByRecursion (IsOf Static.tables G.may (length N.logs) b.number) (cells_in b.owners) };
 }
 
 /// What a bucket answers that was asked for a share. Where it added none, the grant is there.
@@ -92,7 +94,7 @@ impl<Static: StaticTables, N: SetName, G: Grant> Bucket<Static, N, G> {
 
     /// How many cells are linked.
     pub(crate) fn len(&self) -> usize
-        ensures { result ≡ length self.now.linked }
+        ensures { result ≡ length (cells_in self.now.places) }
     {
         self.owners.len()
     }
@@ -128,7 +130,7 @@ impl<Static: StaticTables, N: SetName, G: Grant> Bucket<Static, N, G> {
         ensures text { IfHeld result (λ share _. share.cell.text ≡ text.now) }
         ensures seen { IfHeld result (λ share seen. IsSeen Static.tables N.logs seen share.cell) }
         ensures may { IfHeld result (λ share _. G.may share.cell.name) }
-        ensures absent { IfAbsent result (IsNew text.now self.new.linked) }
+        ensures absent { IfAbsent result (IsNew text.now (cells_in self.new.places)) }
         ensures same { self.new.number ≡ self.old.number }
     {
         let mut unspent = grant;
@@ -166,7 +168,7 @@ impl<Static: StaticTables, N: SetName, G: Grant> Bucket<Static, N, G> {
         requires seen { IsSeen Static.tables N.logs seen.now held.now.cell }
         requires here { bucket_of Static.tables (length N.logs) held.now.cell.text ≡ self.old.number }
         ensures same { self.new ≡ self.old }
-        ensures linked { IsNew held.now.cell.text self.old.linked → ⊥ }
+        ensures linked { IsNew held.now.cell.text (cells_in self.old.places) → ⊥ }
     {
         let now = self.log.seen();
         self.log.begins(seen);
@@ -177,9 +179,16 @@ impl<Static: StaticTables, N: SetName, G: Grant> Bucket<Static, N, G> {
     pub(crate) fn sweep(&mut self)
         ensures { self.new.number ≡ self.old.number }
     {
-        let end = self.len();
+        let end = self.owners.places();
         self.prune(0, end);
         self.unseen = 0;
+        self.shrink();
+    }
+
+    // Gives back memory if few cells are linked.
+    fn shrink(&mut self)
+        ensures { self.new.number ≡ self.old.number }
+    {
         self.owners.shrink();
     }
 
@@ -187,23 +196,29 @@ impl<Static: StaticTables, N: SetName, G: Grant> Bucket<Static, N, G> {
     pub(crate) fn take_left(&mut self, hash: u64)
         ensures { self.new.number ≡ self.old.number }
     {
-        if let Some(at) = self.owners.indexed(hash) {
-            if let Ok(none) = self.owner_at(at).dying() {
-                self.take_out(at, none);
-            }
+        if let Some((at, none)) = self.owners.dying(hash) {
+            self.take_out(at, none);
         }
         self.prune_beside();
     }
 
-    /// Begins a look at all cells, since several were left: those beside the index are looked at now, and the others by `look_on`.
-    pub(crate) fn look_at_all(&mut self)
+    // Takes out all cells beside the index that have no share left.
+    fn prune_beside(&mut self)
         ensures { self.new.number ≡ self.old.number }
     {
-        self.prune_beside();
-        self.unseen = self.owners.first_beside();
+        let first = self.owners.first_beside();
+        let end = self.owners.places();
+        self.prune(first, end);
     }
 
-    /// Looks at some of the cells that are still to be looked at, and takes out those that have no share left.
+    /// Begins a look at all cells, since several were left. `look_on` goes on with it.
+    pub(crate) fn look_at_all(&mut self)
+        ensures { self.new ≡ self.old }
+    {
+        self.unseen = self.owners.places();
+    }
+
+    /// Looks at some of the places that are still to be looked at, and takes out the cells there that have no share left.
     #[inline]
     pub(crate) fn look_on(&mut self)
         ensures { self.new.number ≡ self.old.number }
@@ -219,33 +234,46 @@ impl<Static: StaticTables, N: SetName, G: Grant> Bucket<Static, N, G> {
     fn look_at_some(&mut self)
         ensures { self.new.number ≡ self.old.number }
     {
-        let end = self.unseen.min(self.owners.first_beside());
+        let end = self.unseen.min(self.owners.places());
         let first = end.saturating_sub(SOME);
         self.prune(first, end);
         self.unseen = first;
     }
 
-    // Takes out all cells beside the index that have no share left.
-    fn prune_beside(&mut self)
-        ensures { self.new.number ≡ self.old.number }
+    // Begins a look that isn't at its end anew, if the index had so many places and has others now: cells stand elsewhere then.
+    fn look_anew(&mut self, places: usize)
+        ensures { self.new ≡ self.old }
     {
-        let first = self.owners.first_beside();
-        let end = self.len();
-        self.prune(first, end);
+        if self.unseen > 0 && self.owners.first_beside() != places {
+            self.look_at_all();
+        }
     }
 
     // Takes out all cells that have no share left and stand from one place on, before another.
     fn prune(&mut self, first: usize, end: usize)
-        requires { end ≤ length self.old.linked }
+        requires { end ≤ length self.old.places }
         ensures same { self.new.number ≡ self.old.number }
-        ensures less { LinksNoMore self.old.linked self.new.linked }
+        ensures less { LinksNoMore (cells_in self.old.places) (cells_in self.new.places) }
     {
         let mut at = end;
         while at > first {
             at -= 1;
-            if let Ok(none) = self.owner_at(at).dying() {
-                self.take_out(at, none);
-            }
+            self.prune_at(at);
+        }
+    }
+
+    // Takes out the cell that stands there, if it has no share left.
+    fn prune_at(&mut self, at: usize)
+        requires { at < length self.old.places }
+        ensures same { self.new.number ≡ self.old.number }
+        ensures less { LinksNoMore (cells_in self.old.places) (cells_in self.new.places) }
+        ensures before { at ≤ length self.new.places }
+    {
+        let Some(owner) = self.owners.at(at) else {
+            return;
+        };
+        if let Ok(none) = owner.dying() {
+            self.take_out(at, none);
         }
     }
 
@@ -254,26 +282,28 @@ impl<Static: StaticTables, N: SetName, G: Grant> Bucket<Static, N, G> {
         requires { F.IsAlwaysCallable visit.old }
         ensures { F.IsAlwaysCallable visit.new }
     {
-        for at in 0..self.len() {
-            let owner = self.owner_at(at);
-            visit(owner.text(), owner.count().shares());
+        for at in 0..self.owners.places() {
+            if let Some(owner) = self.owners.at(at) {
+                visit(owner.text(), owner.count().shares());
+            }
         }
     }
 
     /// How many bytes it has asked for and still holds: its places for cells, and the cells with their texts.
     pub(crate) fn memory(&self) -> u128 {
         let mut sum = self.owners.memory();
-        for at in 0..self.len() {
-            sum = sum.saturating_add(self.owner_at(at).block_size() as u128);
+        for at in 0..self.owners.places() {
+            if let Some(owner) = self.owners.at(at) {
+                sum = sum.saturating_add(owner.block_size() as u128);
+            }
         }
         sum
     }
 
     // What its log is now, which shows of each linked cell that it stands there.
-    #[tactic(auto, using(crate::proofs::Keeping::seen_at))]
     fn seen(&mut self) -> LogSeen
         ensures same { self.new ≡ self.old }
-        ensures seen { (at : ℕ) (c : Cell) → slice_get self.old.linked at ≡ Some c → IsSeen Static.tables N.logs result c }
+        ensures seen { (at : ℕ) (c : Cell) → HasCell self.old.places at c → IsSeen Static.tables N.logs result c }
     {
         self.log.seen()
     }
@@ -281,19 +311,19 @@ impl<Static: StaticTables, N: SetName, G: Grant> Bucket<Static, N, G> {
     // Where a cell of the text is linked.
     fn position(&self, text: &str, hash: u64) -> Option<usize>
         requires { hash ≡ entry_hash Static.tables text.now }
-        ensures { FoundAt self.now.linked text.now result }
+        ensures { FoundAt self.now.places text.now result }
     {
         self.owners.position(text, hash)
     }
 
     // A share of the cell that is linked there, and what was seen of the log. If the cell has none left, it is taken out.
     fn share_at<R: Wait>(&mut self, rt: &R, at: usize, grant: G) -> Answer<G>
-        requires { at < length self.old.linked }
-        ensures cell { IfHeld result (λ share _. slice_get self.old.linked at ≡ Some share.cell) }
+        requires { (c : Cell) × HasCell self.old.places at c }
+        ensures cell { IfHeld result (λ share _. HasCell self.old.places at share.cell) }
         ensures seen { IfHeld result (λ share seen. IsSeen Static.tables N.logs seen share.cell) }
         ensures may { IfHeld result (λ share _. G.may share.cell.name) }
-        ensures full { IfFull result (λ full. (c : Cell) × (slice_get self.old.linked at ≡ Some c) × (full ≡ c.name)) }
-        ensures one { IfAbsent result (length self.new.linked + 1 ≡ length self.old.linked) }
+        ensures full { IfFull result (λ full. (c : Cell) × HasCell self.old.places at c × (full ≡ c.name)) }
+        ensures one { IfAbsent result (length (cells_in self.new.places) + 1 ≡ length (cells_in self.old.places)) }
         ensures same { self.new.number ≡ self.old.number }
     {
         let owner = self.owner_at(at);
@@ -309,12 +339,12 @@ impl<Static: StaticTables, N: SetName, G: Grant> Bucket<Static, N, G> {
 
     // The same, by a reply of the cell that is linked there, which has a permit of the grant if nothing was added.
     fn share_by(&mut self, at: usize, reply: ShareReply) -> Answer<G>
-        requires { (c : Cell) × (permit : ℕ) × (slice_get self.old.linked at ≡ Some c) × G.may c.name × G.permits c.name permit × IsReply c permit reply }
-        ensures cell { IfHeld result (λ share _. slice_get self.old.linked at ≡ Some share.cell) }
+        requires { (c : Cell) × (permit : ℕ) × HasCell self.old.places at c × G.may c.name × G.permits c.name permit × IsReply c permit reply }
+        ensures cell { IfHeld result (λ share _. HasCell self.old.places at share.cell) }
         ensures seen { IfHeld result (λ share seen. IsSeen Static.tables N.logs seen share.cell) }
         ensures may { IfHeld result (λ share _. G.may share.cell.name) }
-        ensures full { IfFull result (λ full. (c : Cell) × (slice_get self.old.linked at ≡ Some c) × (full ≡ c.name)) }
-        ensures one { IfAbsent result (length self.new.linked + 1 ≡ length self.old.linked) }
+        ensures full { IfFull result (λ full. (c : Cell) × HasCell self.old.places at c × (full ≡ c.name)) }
+        ensures one { IfAbsent result (length (cells_in self.new.places) + 1 ≡ length (cells_in self.old.places)) }
         ensures same { self.new.number ≡ self.old.number }
     {
         match reply {
@@ -328,20 +358,25 @@ impl<Static: StaticTables, N: SetName, G: Grant> Bucket<Static, N, G> {
     }
 
     // The owner of the cell that is linked there.
+    #[inline]
     fn owner_at(&self, at: usize) -> &Owner<Global>
-        requires { at < length self.now.linked }
-        ensures cell { slice_get self.now.linked at ≡ Some result.now }
+        requires { (c : Cell) × HasCell self.now.places at c }
+        ensures cell { HasCell self.now.places at result.now }
         ensures may { G.may result.now.name }
     {
-        self.owners.at(at)
+        match self.owners.at(at) {
+            Some(owner) => owner,
+            None => unreachable!(),
+        }
     }
 
     // Takes out a cell that has no share left, and keeps that in the log.
     fn take_out(&mut self, at: usize, none: NoShares)
-        requires { (c : Cell) × (slice_get self.old.linked at ≡ Some c) × (none ≡ c.name) }
+        requires { (c : Cell) × HasCell self.old.places at c × (none ≡ c.name) }
         ensures same { self.new.number ≡ self.old.number }
-        ensures one { length self.new.linked + 1 ≡ length self.old.linked }
-        ensures less { LinksNoMore self.old.linked self.new.linked }
+        ensures one { length (cells_in self.new.places) + 1 ≡ length (cells_in self.old.places) }
+        ensures less { LinksNoMore (cells_in self.old.places) (cells_in self.new.places) }
+        ensures before { at ≤ length self.new.places }
     {
         none.bury(&mut self.log);
         drop(self.owners.take_out(at));
@@ -355,7 +390,7 @@ impl<Static: StaticTables, N: SetName, G: Grant> Bucket<Static, N, G> {
         limits: &Limits,
         grant: G,
     ) -> Result<(CellShare, LogSeen), (Fault, G)>
-        requires new { IsNew text.now self.old.linked }
+        requires new { IsNew text.now (cells_in self.old.places) }
         requires hash { hash ≡ entry_hash Static.tables text.now }
         requires here { bucket_of Static.tables (length N.logs) text.now ≡ self.old.number }
         ensures text { IfOk result (λ made. made.0.cell.text ≡ text.now) }
@@ -376,7 +411,7 @@ impl<Static: StaticTables, N: SetName, G: Grant> Bucket<Static, N, G> {
         hash: u64,
         limits: &Limits,
     ) -> Result<(CellShare, LogSeen), Fault>
-        requires new { IsNew text.now self.old.linked }
+        requires new { IsNew text.now (cells_in self.old.places) }
         requires hash { hash ≡ entry_hash Static.tables text.now }
         requires here { bucket_of Static.tables (length N.logs) text.now ≡ self.old.number }
         ensures text { IfOk result (λ made. made.0.cell.text ≡ text.now) }
@@ -389,6 +424,7 @@ impl<Static: StaticTables, N: SetName, G: Grant> Bucket<Static, N, G> {
         }
         let serial = self.last + 1;
         let (owner, share) = new_cell::<G>(self.alloc, serial, self.number, text, hash, limits)?;
+        let places = self.owners.first_beside();
         if let Err(owner) = self.owners.add(owner) {
             let _ = share.give();
             drop(owner);
@@ -397,6 +433,7 @@ impl<Static: StaticTables, N: SetName, G: Grant> Bucket<Static, N, G> {
         share.enter(&mut self.log);
         self.last = serial;
         let seen = self.seen();
+        self.look_anew(places);
         Ok((share, seen))
     }
 }

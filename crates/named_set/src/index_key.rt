@@ -1,38 +1,39 @@
-//! What the indexes of a set hash under.
+//! What the index of a set hashes under.
 
-use std::hash::{BuildHasher, FoldHasher, Hasher};
+ghost use Rattle.std.specs.Prelude.{◌≡◌};
+ghost use Rattle.named_set.specs.Places.{short_hash};
+
+use std::hash::BuildHasher;
 use text_forms::SipKey;
 
-/// How the indexes of a set hash, which is fast, and under a secret number if they are given one. In a clause it is the hasher that each hash
-/// begins with.
+/// The odd number nearest to 2^64 divided by the golden ratio.
+const OPEN: u64 = 0x9E37_79B9_7F4A_7C15;
+
+/// How the index of a set hashes, which is one multiplication. If the number is a secret, any two hashes of texts seldom fall together: for each
+/// two, few of the odd numbers let them (Dietzfelbinger and others, "A reliable randomized algorithm for the closest-pair problem", 1997).
 #[derive(Clone, Copy, Drop)]
 pub struct IndexKey {
-    begun: FoldHasher,
+    multiplier: u64,
 }
 
 impl IndexKey {
     /// Without a secret.
     pub(crate) fn open() -> IndexKey {
-        IndexKey {
-            begun: FoldHasher::default(),
-        }
+        IndexKey { multiplier: OPEN }
     }
 
     /// Under a secret that this key makes.
     pub(crate) fn of(key: SipKey) -> IndexKey {
-        let mut begun = FoldHasher::default();
-        begun.write_u64(key.hash_one(0u64));
-        IndexKey { begun }
+        IndexKey {
+            multiplier: key.hash_one(0u64) | 1,
+        }
     }
-}
 
-impl BuildHasher for IndexKey {
-    type Hasher = FoldHasher;
-
-    ghost build_hasher = { λ key. key.begun };
-
+    /// The upper half of the product of a text's hash with the number, which is what the index knows of the text.
     #[inline]
-    fn build_hasher(&self) -> FoldHasher {
-        self.begun
+    pub(crate) fn short_of(self, hash: u64) -> u32
+        ensures { result ≡ short_hash self.multiplier hash }
+    {
+        (hash.wrapping_mul(self.multiplier) >> 32) as u32
     }
 }

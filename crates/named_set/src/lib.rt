@@ -9,10 +9,10 @@ mod bucket;
 mod cells;
 mod held;
 mod index_key;
-mod linked;
 mod locked;
 mod name;
 mod set;
+mod slots;
 
 #[doc(hidden)]
 pub use held::HeldShare;

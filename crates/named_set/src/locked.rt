@@ -28,7 +28,7 @@ const SEVERAL: u64 = u64::MAX;
 /// A bucket with its lock.
 ///
 /// A last holder's end that finds the lock taken leaves its cell linked, and notes the hash of its text. The next interning or look-up that
-/// has the lock takes that cell out. If several were left meanwhile, it and those after it look at some cells each, until all were seen.
+/// has the lock takes that cell out. If several were left meanwhile, it and those after it look at some places each, until all were seen.
 #[derive(Drop)]
 pub struct LockedBucket<Static: StaticTables, N: SetName, G: Grant> {
     bucket: Mutex<Bucket<Static, N, G>>,
@@ -136,7 +136,7 @@ impl<Static: StaticTables, N: SetName, G: Grant> LockedBucket<Static, N, G> {
         }
     }
 
-    // The bucket behind its lock, without the cell that was left. If several were, it looks at some cells.
+    // The bucket behind its lock, without the cell that was left. If several were, it looks at some places.
     fn lock_tidied<'b, R: Wait>(&'b self, rt: &R) -> MutexGuard<'b, Bucket<Static, N, G>> {
         let mut bucket = self.bucket.lock(rt);
         if self.left.load(Ordering::SeqCst) != NOTHING {

@@ -105,7 +105,7 @@ fn visits<S: SharedSet, R: Wait>(rt: &R, set: S, number: usize, holders: u64) ->
 fn bytes_of(kind: Kind) -> [u128; 3] {
     match kind {
         Kind::Plain => [32, 32, 48 + 40 + 16],
-        Kind::Named => [184, 184 + 32, 40 + 16],
+        Kind::Named => [112, 112 + 32, 40 + 16],
     }
 }
 

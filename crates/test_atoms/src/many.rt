@@ -156,10 +156,11 @@ fn let_die<S: SharedSet, R: Wait + Abort>(rt: &R, set: S, held: u64) {
     assert_that(rt, visited(rt, set) == (held.saturating_add(300), held));
 }
 
-/// In a set with a name, looks up a text that isn't there as often as it takes to look at 450 cells of a bucket, of which each call looks at some.
+/// In a set with a name, looks up a text that isn't there as often as it takes to look at all places of 450 cells of a bucket, at sixteen a call: they
+/// are at most 751.
 fn look_on<S: SharedSet, R: Wait + Abort>(rt: &R, set: S, kind: Kind) {
     if let Kind::Named = kind {
-        for _ in 0..40u32 {
+        for _ in 0..47u32 {
             assert_that(rt, matches!(look_up(rt, set, "geometric"), Ok(None)));
         }
     }

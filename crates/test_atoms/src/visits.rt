@@ -97,7 +97,7 @@ const CELL: u128 = 40;
 
 /// The bytes of a bucket of a set with a name, with its lock, and of four places for cells. A bucket makes room for four, then for twice as
 /// many as it has, and keeps it.
-const NAMED: u128 = 184;
+const NAMED: u128 = 112;
 
 const FOUR: u128 = 32;
 

@@ -106,7 +106,7 @@ pub fn visits_long<S: SharedSet, R: Clock + Wait>(
 fn bytes_of(kind: Kind) -> u128 {
     match kind {
         Kind::Plain => 4096 * 32 + 2 * (48 + 40 + 16),
-        Kind::Named => 4096 * 184 + 2 * (32 + 40 + 16),
+        Kind::Named => 4096 * 112 + 2 * (32 + 40 + 16),
     }
 }
 

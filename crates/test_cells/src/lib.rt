@@ -18,6 +18,8 @@ mod named;
 #[cfg(test)]
 mod named_cells;
 #[cfg(test)]
+mod named_left;
+#[cfg(test)]
 mod named_threads;
 pub mod receipts;
 

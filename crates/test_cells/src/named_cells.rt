@@ -3,6 +3,10 @@
 ghost use Rattle.std.specs.Prelude.{◌≡◌};
 
 use crate::calls::{found, interned, is_found_as, links};
+use crate::named_left::{
+    all_are_left, are_left_as_it_grows, left_comes_again, many_are_left, many_are_left_alone,
+    many_are_swept, one_goes_beside, one_is_left, two_are_left,
+};
 use crate::{assert_for, assert_that};
 use named_set::{FreshName, Held, NamedSet, SetName};
 use std::alloc::Global;
@@ -19,15 +23,15 @@ pub type Words<'s, N> = Vec<Held<'s, EmptyStaticAtomSet, N>>;
 /// The bytes of a cell with a text of eight.
 const CELL: u128 = 40 + 8;
 
-/// The bytes of eight places beside the index. A bucket that has an index keeps them.
-const BESIDE: u128 = 8 * 8;
+/// The bytes of the eight places of a bucket without an index.
+const FEW: u128 = 8 * 8;
 
-/// The bytes of a group of the index: of 16 tags and of 12 numbers, and for each of its nine places of eight that find it and of an owner.
-const GROUP: u128 = 16 + 12 * 4 + 9 * (8 + 8);
+/// The bytes of a place of the index: of what stands there and of the half of a hash, and of an owner.
+const PLACE: u128 = 4 + 4 + 8;
 
 /// In which order words are let go.
 #[derive(Clone, Copy, Debug)]
-enum Order {
+pub enum Order {
     First,
     Last,
     Between,
@@ -38,7 +42,7 @@ const ORDERS: [Order; 3] = [Order::First, Order::Last, Order::Between];
 /// What is asked of a set of one bucket.
 #[derive(Clone, Copy)]
 enum Question {
-    /// So many texts, for which the index has so many groups, come and go.
+    /// So many texts, for which the index has so many places, come and go.
     Texts(usize, u128, Order),
     /// Every second of so many goes.
     EverySecond(usize),
@@ -54,10 +58,16 @@ enum Question {
     TwoLeft,
     /// Of 40 the first 20 were left, or others.
     ManyLeft(Order),
-    /// The same, while those that are held go.
+    /// All of so many were left, which so many calls see.
+    AllLeft(usize, usize),
+    /// Half of them were, while those that are held go.
     ManyLeftAlone(Order),
     /// Half of 150 were left, and are swept.
     ManySwept(Order),
+    /// Some were left as the index grows.
+    LeftAsItGrows,
+    /// Texts come and go, and the index stays as large as it has to be.
+    Marked,
 }
 
 /// A text of eight bytes, another for each number.
@@ -66,7 +76,11 @@ pub fn text_of(rt: &impl Abort, alloc: Global, number: usize) -> String {
 }
 
 /// Holds the texts of so many numbers, from 0.
-fn hold<'s, N: SetName, R: Wait + Abort>(rt: &R, set: &'s Named<N>, count: usize) -> Words<'s, N> {
+pub fn hold<'s, N: SetName, R: Wait + Abort>(
+    rt: &R,
+    set: &'s Named<N>,
+    count: usize,
+) -> Words<'s, N> {
     let mut words = Vec::new(set.allocator());
     for number in 0..count {
         let text = text_of(rt, set.allocator(), number);
@@ -77,7 +91,7 @@ fn hold<'s, N: SetName, R: Wait + Abort>(rt: &R, set: &'s Named<N>, count: usize
 }
 
 /// Whether each is found under its own word.
-fn are_found<N: SetName, R: Wait>(
+pub fn are_found<N: SetName, R: Wait>(
     rt: &R,
     set: &Named<N>,
     words: &[Held<'_, EmptyStaticAtomSet, N>],
@@ -97,7 +111,7 @@ fn is_absent<N: SetName, R: Wait + Abort>(rt: &R, set: &Named<N>, number: usize)
 }
 
 /// Looks so many times for a text that was never there.
-fn look<N: SetName, R: Wait>(rt: &R, set: &Named<N>, times: usize) -> bool {
+pub fn look<N: SetName, R: Wait>(rt: &R, set: &Named<N>, times: usize) -> bool {
     for _ in 0..times {
         if !matches!(found(rt, set, "was never there"), Ok(None)) {
             return false;
@@ -119,14 +133,14 @@ fn let_one_go<N: SetName>(words: &mut Words<'_, N>, order: Order) {
 }
 
 /// Lets all but so many go.
-fn keep<N: SetName>(words: &mut Words<'_, N>, order: Order, count: usize) {
+pub fn keep<N: SetName>(words: &mut Words<'_, N>, order: Order, count: usize) {
     for _ in count..words.len() {
         let_one_go(words, order);
     }
 }
 
 /// The same while a visit has the lock of the bucket.
-fn leave<N: SetName, R: Wait>(
+pub fn leave<N: SetName, R: Wait>(
     rt: &R,
     set: &Named<N>,
     words: &mut Words<'_, N>,
@@ -136,16 +150,18 @@ fn leave<N: SetName, R: Wait>(
     set.for_each(rt, |_, _| keep(words, order, count));
 }
 
-/// So many groups of the index, which has one group more than none by one byte: it has values that have none themselves.
-fn index(groups: u128) -> u128 {
-    groups.saturating_mul(GROUP).saturating_add(groups.min(1))
+/// The bytes of an index of so many places, or without one of places that few have.
+pub fn bytes_of_places(places: u128) -> u128 {
+    if places == 0 {
+        FEW
+    } else {
+        places.saturating_mul(PLACE)
+    }
 }
 
-/// The bytes of so many cells with an index of so many groups.
-pub fn bytes_of(groups: u128, cells: u128) -> u128 {
-    BESIDE
-        .saturating_add(index(groups))
-        .saturating_add(cells.saturating_mul(CELL))
+/// The same with so many cells.
+pub fn bytes_of(places: u128, cells: u128) -> u128 {
+    bytes_of_places(places).saturating_add(cells.saturating_mul(CELL))
 }
 
 /// Whether the set holds so many bytes beside what it held without texts.
@@ -153,7 +169,7 @@ pub fn takes<N: SetName, R: Wait>(rt: &R, set: &Named<N>, empty: u128, bytes: u1
     set.memory(rt) == empty.saturating_add(bytes)
 }
 
-fn sweep<N: SetName, R: Wait>(rt: &R, set: &Named<N>) {
+pub fn sweep<N: SetName, R: Wait>(rt: &R, set: &Named<N>) {
     set.sweep(rt);
 }
 
@@ -174,36 +190,42 @@ fn let_go_to<N: SetName, R: Wait>(
     true
 }
 
-/// Whether the words are all that is linked, and are found, and take these bytes with an index of so many groups.
+/// Whether the words are all that is linked, and are found, and take these bytes with an index of so many places.
 fn stand<N: SetName, R: Wait>(
     rt: &R,
     set: &Named<N>,
     words: &Words<'_, N>,
     empty: u128,
-    groups: u128,
+    places: u128,
 ) -> bool {
     let count = words.len() as u128;
     are_found(rt, set, words.as_slice())
         && links(rt, set, count)
-        && takes(rt, set, empty, bytes_of(groups, count))
+        && takes(rt, set, empty, bytes_of(places, count))
+}
+
+/// The bytes that are left of so many places behind a sweep of a bucket without cells.
+fn bytes_left_of(places: u128) -> u128 {
+    if places == 0 { FEW } else { 0 }
 }
 
 fn come_and_go<N: SetName, R: Wait + Abort>(
     rt: &R,
     set: &Named<N>,
     count: usize,
-    groups: u128,
+    places: u128,
     order: Order,
 ) -> bool {
     let empty = set.memory(rt);
     let mut words = hold(rt, set, count);
-    let are_there = stand(rt, set, &words, empty, groups);
+    let are_there = stand(rt, set, &words, empty, places);
     let is_half = let_go_to(rt, set, &mut words, order, count / 2);
-    let are_left = stand(rt, set, &words, empty, groups);
+    let are_left = stand(rt, set, &words, empty, places);
     let are_gone = let_go_to(rt, set, &mut words, order, 0);
-    let keeps = stand(rt, set, &words, empty, groups);
+    let keeps = stand(rt, set, &words, empty, places);
     sweep(rt, set);
-    are_there && is_half && are_left && are_gone && keeps && stand(rt, set, &words, empty, 0)
+    let gives_back = takes(rt, set, empty, bytes_left_of(places));
+    are_there && is_half && are_left && are_gone && keeps && gives_back
 }
 
 /// Lets the one that stands there go, if there is one.
@@ -237,102 +259,54 @@ fn every_second_goes<N: SetName, R: Wait + Abort>(rt: &R, set: &Named<N>, count:
     is_half && are_found(rt, set, words.as_slice()) && evens_are_absent(rt, set, count)
 }
 
-/// An index of 64 groups has 576 places. A sweep lets it be as long as more than a quarter of them has cells, and leaves twice as many places
-/// as cells.
+/// An index of 3,000 cells has 3,706 places. A sweep lets it be as long as its cells would be given a quarter of them, and gives them five places
+/// for three cells then. One cell needs no index, and a place.
 fn shrinks<N: SetName, R: Wait + Abort>(rt: &R, set: &Named<N>) -> bool {
     let empty = set.memory(rt);
-    let mut words = hold(rt, set, 300);
+    let mut words = hold(rt, set, 3_000);
     sweep(rt, set);
-    let are_all = stand(rt, set, &words, empty, 64);
-    keep(&mut words, Order::Last, 145);
+    let are_all = stand(rt, set, &words, empty, 3_706);
+    keep(&mut words, Order::Last, 556);
     sweep(rt, set);
-    let are_more = stand(rt, set, &words, empty, 64);
-    keep(&mut words, Order::Last, 144);
-    let before = stand(rt, set, &words, empty, 64);
+    let are_more = stand(rt, set, &words, empty, 3_706);
+    keep(&mut words, Order::Last, 555);
+    let before = stand(rt, set, &words, empty, 3_706);
     sweep(rt, set);
-    let are_quarter = stand(rt, set, &words, empty, 32);
+    let are_quarter = stand(rt, set, &words, empty, 925);
     keep(&mut words, Order::Last, 1);
     sweep(rt, set);
-    are_all && are_more && before && are_quarter && stand(rt, set, &words, empty, 1)
+    let is_one = takes(rt, set, empty, CELL + 8) && are_found(rt, set, words.as_slice());
+    are_all && are_more && before && are_quarter && is_one
 }
 
-/// A cell that was left is linked still, and the next look takes it out, and no other.
-fn one_is_left<N: SetName, R: Wait + Abort>(
+/// The first of the words goes, and the text of this number comes.
+fn one_comes<'s, N: SetName, R: Wait + Abort>(
     rt: &R,
-    set: &Named<N>,
-    count: usize,
-    order: Order,
-) -> bool {
-    let mut words = hold(rt, set, count);
-    let rest = count.saturating_sub(1);
-    leave(rt, set, &mut words, order, rest);
-    let is_linked = links(rt, set, count as u128);
-    let is_out = look(rt, set, 1) && links(rt, set, rest as u128);
-    is_linked && is_out && are_found(rt, set, words.as_slice())
+    set: &'s Named<N>,
+    words: &mut Words<'s, N>,
+    number: usize,
+) {
+    let text = text_of(rt, set.allocator(), number);
+    let_go_at(words, 0);
+    let word = interned(rt, set, text.as_str()).expect(rt, "a word");
+    words.push(word).expect(rt, "room");
 }
 
-/// The text of a cell that was left gets another cell.
-fn left_comes_again<N: SetName, R: Wait + Abort>(rt: &R, set: &Named<N>) -> bool {
-    let mut words = hold(rt, set, 40);
-    leave(rt, set, &mut words, Order::First, 39);
-    let again = hold(rt, set, 40);
-    links(rt, set, 40) && are_found(rt, set, again.as_slice())
-}
-
-/// The end of another word takes out its own cell, and the next interning the one that was left.
-fn one_goes_beside<N: SetName, R: Wait + Abort>(rt: &R, set: &Named<N>) -> bool {
-    let mut words = hold(rt, set, 40);
-    leave(rt, set, &mut words, Order::First, 39);
-    keep(&mut words, Order::Last, 38);
-    let is_linked = links(rt, set, 39);
-    let held = interned(rt, set, "was never there").is_ok();
-    is_linked && held && links(rt, set, 38)
-}
-
-/// Cells that two visits left are out once three calls have looked at sixteen each.
-fn two_are_left<N: SetName, R: Wait + Abort>(rt: &R, set: &Named<N>) -> bool {
-    let mut words = hold(rt, set, 40);
-    leave(rt, set, &mut words, Order::First, 39);
-    leave(rt, set, &mut words, Order::Last, 38);
-    let are_linked = links(rt, set, 40);
-    let are_out = look(rt, set, 3) && links(rt, set, 38);
-    are_linked && are_out && are_found(rt, set, words.as_slice())
-}
-
-fn has_at_least<N: SetName, R: Wait>(rt: &R, set: &Named<N>, count: u128) -> bool {
-    set.linked(rt) >= count
-}
-
-/// Each call looks at sixteen of them, so that three see all.
-fn many_are_left<N: SetName, R: Wait + Abort>(rt: &R, set: &Named<N>, order: Order) -> bool {
-    let mut words = hold(rt, set, 40);
-    leave(rt, set, &mut words, order, 20);
-    let are_linked = links(rt, set, 40);
-    let are_some_out = look(rt, set, 1) && has_at_least(rt, set, 24);
-    let are_out = look(rt, set, 2) && links(rt, set, 20);
-    are_linked && are_some_out && are_out && are_found(rt, set, words.as_slice())
-}
-
-/// Cells that go meanwhile are no more to be looked at.
-fn many_are_left_alone<N: SetName, R: Wait + Abort>(rt: &R, set: &Named<N>, order: Order) -> bool {
-    let mut words = hold(rt, set, 40);
-    leave(rt, set, &mut words, order, 20);
-    let is_begun = look(rt, set, 1) && has_at_least(rt, set, 24);
-    keep(&mut words, order, 0);
-    is_begun && look(rt, set, 2) && links(rt, set, 0)
-}
-
-/// A sweep takes out all that were left.
-fn many_are_swept<N: SetName, R: Wait + Abort>(rt: &R, set: &Named<N>, order: Order) -> bool {
-    let mut words = hold(rt, set, 150);
-    leave(rt, set, &mut words, order, 75);
-    sweep(rt, set);
-    links(rt, set, 75) && are_found(rt, set, words.as_slice())
+/// An index of 25 places has marks at some of them, once texts went and others came. With the 22nd that isn't empty it is laid out over 32, which is
+/// five for three of twenty, and so it is each time after.
+fn is_laid_out_anew<N: SetName, R: Wait + Abort>(rt: &R, set: &Named<N>) -> bool {
+    let empty = set.memory(rt);
+    let mut words = hold(rt, set, 20);
+    let has_25 = stand(rt, set, &words, empty, 25);
+    for turn in 0..1_000usize {
+        one_comes(rt, set, &mut words, 20 + turn);
+    }
+    has_25 && stand(rt, set, &words, empty, 32)
 }
 
 fn is_answered<N: SetName, R: Wait + Abort>(rt: &R, set: &Named<N>, question: Question) -> bool {
     match question {
-        Question::Texts(count, groups, order) => come_and_go(rt, set, count, groups, order),
+        Question::Texts(count, places, order) => come_and_go(rt, set, count, places, order),
         Question::EverySecond(count) => every_second_goes(rt, set, count),
         Question::Shrunk => shrinks(rt, set),
         Question::OneLeft(count, order) => one_is_left(rt, set, count, order),
@@ -340,8 +314,11 @@ fn is_answered<N: SetName, R: Wait + Abort>(rt: &R, set: &Named<N>, question: Qu
         Question::LeftBeside => one_goes_beside(rt, set),
         Question::TwoLeft => two_are_left(rt, set),
         Question::ManyLeft(order) => many_are_left(rt, set, order),
+        Question::AllLeft(count, calls) => all_are_left(rt, set, count, calls),
         Question::ManyLeftAlone(order) => many_are_left_alone(rt, set, order),
         Question::ManySwept(order) => many_are_swept(rt, set, order),
+        Question::LeftAsItGrows => are_left_as_it_grows(rt, set),
+        Question::Marked => is_laid_out_anew(rt, set),
     }
 }
 
@@ -364,19 +341,19 @@ fn is_so<R: Wait + Abort>(rt: &R, alloc: Global, question: Question) -> bool {
     is_so_as::<Brand, R>(rt, alloc, name, question)
 }
 
-/// How many texts come and go, and how many groups the index has for them: a power of two, with nine places each.
-const COUNTS: [(usize, u128); 3] = [(8, 0), (9, 1), (17, 2)];
+/// How many texts come and go, and how many places the index has for them: five for three texts, of which an eighth stays empty.
+const COUNTS: [(usize, u128); 5] = [(8, 0), (9, 15), (14, 15), (15, 25), (23, 37)];
 
 fn come_in_order<R: Wait + Abort>(rt: &R, alloc: Global, order: Order) -> bool {
-    for (count, groups) in &COUNTS {
-        if !is_so(rt, alloc, Question::Texts(*count, *groups, order)) {
+    for (count, places) in &COUNTS {
+        if !is_so(rt, alloc, Question::Texts(*count, *places, order)) {
             return false;
         }
     }
     true
 }
 
-/// Few are walked. With the ninth an index is made, which has room for nine.
+/// Few are walked. With the ninth an index is made.
 #[test]
 fn few_texts_come_and_go(rt: HostRuntime) {
     for order in &ORDERS {
@@ -384,11 +361,11 @@ fn few_texts_come_and_go(rt: HostRuntime) {
     }
 }
 
-/// 5,000 need 556 groups.
+/// With the 4,732nd of them the index is given 7,886 places, which is five for each three of 4,732.
 #[test]
 fn thousands_of_texts_come_and_go(rt: HostRuntime) {
     for order in &ORDERS {
-        let question = Question::Texts(5_000, 1_024, *order);
+        let question = Question::Texts(5_000, 7_886, *order);
         assert_for(&rt, is_so(&rt, rt.alloc(), question), order);
     }
 }
@@ -449,6 +426,12 @@ fn many_that_were_left_go_with_later_calls(rt: HostRuntime) {
 }
 
 #[test]
+fn all_that_were_left_go_with_later_calls(rt: HostRuntime) {
+    assert_that(&rt, is_so(&rt, rt.alloc(), Question::AllLeft(14, 1)));
+    assert_that(&rt, is_so(&rt, rt.alloc(), Question::AllLeft(40, 4)));
+}
+
+#[test]
 fn many_that_were_left_go_beside_others(rt: HostRuntime) {
     for order in &ORDERS {
         let question = Question::ManyLeftAlone(*order);
@@ -465,4 +448,14 @@ fn many_that_were_left_are_swept(rt: HostRuntime) {
             order,
         );
     }
+}
+
+#[test]
+fn cells_that_were_left_go_as_the_index_grows(rt: HostRuntime) {
+    assert_that(&rt, is_so(&rt, rt.alloc(), Question::LeftAsItGrows));
+}
+
+#[test]
+fn an_index_of_marks_is_laid_out_anew(rt: HostRuntime) {
+    assert_that(&rt, is_so(&rt, rt.alloc(), Question::Marked));
 }

@@ -3,7 +3,8 @@ use Rattle.std.specs.List.{AllByRecursion}
 use mathlib.Core.List.{IsPrefix}
 use Rattle.text_forms.specs.Tables.{bucket_of}
 use Rattle.counted_cell.specs.Counting.{CellName}
-use Rattle.named_set.specs.Logged.{IsNew, Kept}
+use Rattle.named_set.specs.Logged.{Kept}
+use Rattle.named_set.specs.Places.{IsNew, cells_in}
 use Rattle.named_set.proofs.Keeping.{has_cell}
 use Rattle.named_set.proofs.bucket.Bucket.has.Goals as goal
 
@@ -19,5 +20,5 @@ returns-clause-linked g c none =
     let one : seen.name ≡ inside.log.name = c.requires.seen.named ∙ (ap (λ k. slice_index_or logs k 0) here ∙ sym c.self.invariant.0) in
     let begins : IsPrefix seen.entries inside.log.entries = subst (IsPrefix seen.entries) told.1 (c.begins.ensures.1 (one ∙ sym told.0)) in
     let lives = subst (AllByRecursion (λ (t : CellName). t ≢ cell.name)) told.5 c.outlives.ensures in
-    let new = subst (λ (s : Kept). IsNew cell.text s.linked) (sym c.self.view_is) none in
-    has_cell T logs inside.number inside.owners inside.log.entries inside.log.gone seen cell c.self.invariant.3 c.requires.seen begins lives new
+    let new = subst (λ (s : Kept). IsNew cell.text (cells_in s.places)) (sym c.self.view_is) none in
+    has_cell T logs inside.number (cells_in inside.owners) inside.log.entries inside.log.gone seen cell c.self.invariant.3 c.requires.seen begins lives new

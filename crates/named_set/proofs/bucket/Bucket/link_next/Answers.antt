@@ -6,8 +6,10 @@ use Rattle.text_forms.specs.Tables.{bucket_of, entry_hash}
 use Rattle.text_forms.specs.Word.{IsTicket, ticket_of}
 use Rattle.counted_cell.specs.Cell.{Cell}
 use Rattle.counted_cell.specs.CellEntry.{entry_of}
-use Rattle.named_set.specs.Logged.{IsNew, IsOf, Kept}
+use Rattle.named_set.specs.Logged.{IsOf, Kept}
+use Rattle.named_set.specs.Places.{IsNew, cells_in}
 use Rattle.named_set.proofs.Keeping.{each_permuted, kept_permuted, kept_with, stands}
+use Rattle.named_set.proofs.Standing.{cell_place}
 use Rattle.named_set.proofs.bucket.Bucket.link_next.Goals as goal
 
 -- the cells as they were, in some order
@@ -15,13 +17,13 @@ pub invariant_of-self : goal.invariant_of-self
 invariant_of-self g c =
     let inv = c.self.invariant in
     let inside = c.self.inside in
-    let linked = inside.owners in
+    let linked = cells_in inside.owners in
     let same = c.in-Err.ensures.same in (
       inv.0,
       inv.1,
       inv.2,
-      kept_permuted inside.number linked c.add.new.self inside.log.entries inside.log.gone same inv.3,
-      each_permuted (IsOf g.Static.StaticTables.tables g.G.Grant.may (length g.N.SetName.logs) inside.number) linked c.add.new.self same inv.4,
+      kept_permuted inside.number linked (cells_in c.add.new.self) inside.log.entries inside.log.gone same inv.3,
+      each_permuted (IsOf g.Static.StaticTables.tables g.G.Grant.may (length g.N.SetName.logs) inside.number) linked (cells_in c.add.new.self) same inv.4,
     )
 
 pub invariant_of-self-2 : goal.invariant_of-self-2
@@ -30,12 +32,12 @@ invariant_of-self-2 g c =
     let logs = g.N.SetName.logs in
     let inv = c.self.invariant in
     let inside = c.self.inside in
-    let linked = inside.owners in
-    let more = c.add.new.self in
+    let linked = cells_in inside.owners in
+    let more = cells_in c.add.new.self in
     let entries = inside.log.entries in
     let gone = inside.log.gone in
     let cell = c.in_ok-owner.owner in
-    let none : IsNew c.args.text.now linked = subst (λ (s : Kept). IsNew c.args.text.now s.linked) (sym c.self.view_is) c.requires.new in
+    let none : IsNew c.args.text.now linked = subst (λ (s : Kept). IsNew c.args.text.now (cells_in s.places)) (sym c.self.view_is) c.requires.new in
     let here : bucket_of T (length logs) c.args.text.now ≡ inside.number = subst (λ (s : Kept). bucket_of T (length logs) c.args.text.now ≡ s.number) (sym c.self.view_is) c.requires.here in
     let n = c.enter.ensures in
     let o = c.in_ok-owner.ensures in
@@ -55,10 +57,12 @@ invariant_of-self-2 g c =
 
 pub returns-clause-seen : goal.returns-clause-seen
 returns-clause-seen g c =
-    let linked = c.self.inside.owners in
-    let more = c.add.new.self in
+    let linked = cells_in c.self.inside.owners in
+    let places = c.add.new.self in
+    let more = cells_in places in
     let cell = c.in_ok-owner.owner in
     let first : Contains (cell ∷ linked) cell = (zero, omega arith, refl) in
     let at = stands more cell (Contains-permutation (cell ∷ linked) more cell c.in_default.ensures.added first) in
     let there : slice_get more at.0 ≡ Some c.in_ok-owner.share.cell = at.1 ∙ ap (λ (d : Cell). Some d) (sym c.in_ok-owner.ensures.share) in
-    c.seen-seen.ensures.seen at.0 c.in_ok-owner.share.cell there
+    let place = cell_place places at.0 c.in_ok-owner.share.cell there in
+    c.seen-seen.ensures.seen place.0 c.in_ok-owner.share.cell place.1

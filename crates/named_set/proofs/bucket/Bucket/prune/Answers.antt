@@ -1,9 +1,14 @@
-use Rattle.std.proofs.Common.{◌∙◌, arith}
+use Rattle.std.proofs.Common.{◌∙◌, refl, arith}
 use Rattle.named_set.proofs.bucket.Bucket.prune.Goals as goal
 
-pub loop-at-preserved-in-Ok : goal.loop-at-preserved-in-Ok
-loop-at-preserved-in-Ok g c =
+pub loop-at-init : goal.loop-at-init
+loop-at-init g c = (c.requires, refl, λ text new. new)
+
+pub prune_at-requires : goal.prune_at-requires
+prune_at-requires g c = omega (arith, c.loop-at.invariant.0, c.loop-at-test.true)
+
+pub loop-at-preserved : goal.loop-at-preserved
+loop-at-preserved g c =
     let before = c.loop-at.invariant in
-    let told = c.take_out.ensures in
-    let above = c.loop-at-test.true in
-    (omega (arith, told.one, before.0, above), told.same ∙ before.1, λ text new. told.less text (before.2 text new))
+    let told = c.prune_at.ensures in
+    (told.before, told.same ∙ before.1, λ text new. told.less text (before.2 text new))

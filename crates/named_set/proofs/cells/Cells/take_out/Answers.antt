@@ -1,40 +1,58 @@
-use Rattle.std.proofs.Common.{◌≡◌, ◌∷◌, ◌++◌, ◌<◌, ◌≤◌, ◌-◌, List, length, length-append, Some, slice_get, refl, sym, subst, arith}
+use Rattle.std.proofs.Common.{◌≡◌, ◌∷◌, ◌++◌, ◌<◌, ◌≤◌, ◌-◌, List, length, length-append, map, Option, Some, slice_get, refl, sym, subst, arith}
 use Rattle.std.specs.List.Sorted.{IsPermutation}
-use Rattle.std.proofs.lemmas.Option.{slice_get_read}
+use Rattle.std.proofs.lemmas.List.{length-map}
+use Rattle.std.proofs.lemmas.List.Sorted.{IsPermutation-append_left}
+use Rattle.std.proofs.lemmas.Option.{slice_get_read, slice_get_within}
 use Rattle.counted_cell.specs.Cell.{Cell}
-use Rattle.named_set.proofs.Finding.{get_behind, take_first, take_second}
+use Rattle.named_set.specs.Places.{HasCell, cells_in}
+use Rattle.named_set.proofs.Finding.{get_behind, take_second}
+use Rattle.named_set.proofs.Standing.{some_stands, taken_both}
 use Rattle.named_set.proofs.cells.Cells.take_out.Goals as goal
 
-pub returns-in-Some-clause-others : goal.returns-in-Some-clause-others
-returns-in-Some-clause-others c =
-    let keys = c.self.inside.by_hash.keys in
+pub returns-then-at-first-clause-others : goal.returns-then-at-first-clause-others
+returns-then-at-first-clause-others c =
+    let first = c.self.inside.slots in
+    let rest = c.take.new.self in
     let items = c.self.inside.beside.items in
-    let x = c.in-Some.linked in
-    let moved : IsPermutation (keys ++ items) (x ∷ (c.swap_remove_index.new.self.keys ++ items)) = rw (c.in-Some.ensures.keys) (take_first keys items c.args.at x (sym c.in-Some.ensures.key)) in
-    subst (λ (s : List Cell). IsPermutation s (c.into_owner.result ∷ (c.swap_remove_index.new.self.keys ++ items))) c.self.view_is
-    (subst (λ (y : Cell). IsPermutation (keys ++ items) (y ∷ (c.swap_remove_index.new.self.keys ++ items))) (sym c.into_owner.ensures) moved)
+    let x = c.take.result in
+    let taken : IsPermutation (cells_in first ++ items) (x ∷ (cells_in rest ++ items)) = IsPermutation-append_left items (cells_in first) (x ∷ cells_in rest) c.take.ensures.others in
+    subst (λ (s : List (Option Cell)). IsPermutation (cells_in s) (x ∷ cells_in (rest ++ map (λ (d : Cell). Some d) items))) c.self.view_is (taken_both first rest items items x taken)
 
 pub returns-else-at-first-clause-cell : goal.returns-else-at-first-clause-cell
 returns-else-at-first-clause-cell c =
-    let keys = c.self.inside.by_hash.keys in
+    let first = c.self.inside.slots in
     let items = c.self.inside.beside.items in
+    let somes = map (λ (d : Cell). Some d) items in
     let x = c.swap_remove.result in
-    let first : c.len-first.result ≡ length keys = c.len-first.ensures.len in
-    let le : length keys ≤ c.args.at = omega (arith, c.if-at-first.false, first) in
-    let within : c.args.at < length (keys ++ items) = subst (λ (s : List Cell). c.args.at < length s) (sym c.self.view_is) c.requires in
-    let inner : c.args.at - c.len-first.result < length items = omega (arith, within, le, first, length-append keys items) in
-    let at : slice_get items (c.args.at - length keys) ≡ Some x = subst (λ n. slice_get items (c.args.at - n) ≡ Some x) first (slice_get_read items (length items) (c.args.at - c.len-first.result) x refl inner c.swap_remove.ensures.value) in
-    subst (λ (s : List Cell). slice_get s c.args.at ≡ Some x) c.self.view_is (get_behind keys items c.args.at x le at)
+    let same : c.places-first.result ≡ length first = c.places-first.ensures.value in
+    let le : length first ≤ c.args.at = omega (arith, c.if-at-first.false, same) in
+    let within : c.args.at < length (first ++ somes) = subst (λ (s : List (Option Cell)). c.args.at < length s) (sym c.self.view_is) (slice_get_within c.args.self.now c.args.at (Some c.requires.0) c.requires.1) in
+    let inner : c.args.at - c.places-first.result < length items = omega (arith, within, le, same, length-append first somes, length-map items (λ (d : Cell). Some d)) in
+    let at : slice_get items (c.args.at - length first) ≡ Some x = subst (λ n. slice_get items (c.args.at - n) ≡ Some x) same (slice_get_read items (length items) (c.args.at - c.places-first.result) x refl inner c.swap_remove.ensures.value) in
+    subst (λ (s : List (Option Cell)). HasCell s c.args.at x) c.self.view_is (get_behind first somes c.args.at (Some x) le (some_stands items (c.args.at - length first) x at))
 
 pub returns-else-at-first-clause-others : goal.returns-else-at-first-clause-others
 returns-else-at-first-clause-others c =
-    let keys = c.self.inside.by_hash.keys in
+    let first = c.self.inside.slots in
     let items = c.self.inside.beside.items in
+    let somes = map (λ (d : Cell). Some d) items in
+    let rest = c.swap_remove.new.self.items in
     let x = c.swap_remove.result in
-    let first : c.len-first.result ≡ length keys = c.len-first.ensures.len in
-    let le : length keys ≤ c.args.at = omega (arith, c.if-at-first.false, first) in
-    let within : c.args.at < length (keys ++ items) = subst (λ (s : List Cell). c.args.at < length s) (sym c.self.view_is) c.requires in
-    let inner : c.args.at - c.len-first.result < length items = omega (arith, within, le, first, length-append keys items) in
-    let at : slice_get items (c.args.at - c.len-first.result) ≡ Some x = slice_get_read items (length items) (c.args.at - c.len-first.result) x refl inner c.swap_remove.ensures.value in
-    let moved : IsPermutation (keys ++ items) (x ∷ (keys ++ c.swap_remove.new.self.items)) = rw (c.swap_remove.ensures.items) (take_second keys items (c.args.at - c.len-first.result) x at) in
-    subst (λ (s : List Cell). IsPermutation s (x ∷ (keys ++ c.swap_remove.new.self.items))) c.self.view_is moved
+    let k = c.args.at - c.places-first.result in
+    let same : c.places-first.result ≡ length first = c.places-first.ensures.value in
+    let le : length first ≤ c.args.at = omega (arith, c.if-at-first.false, same) in
+    let within : c.args.at < length (first ++ somes) = subst (λ (s : List (Option Cell)). c.args.at < length s) (sym c.self.view_is) (slice_get_within c.args.self.now c.args.at (Some c.requires.0) c.requires.1) in
+    let inner : k < length items = omega (arith, within, le, same, length-append first somes, length-map items (λ (d : Cell). Some d)) in
+    let at : slice_get items k ≡ Some x = slice_get_read items (length items) k x refl inner c.swap_remove.ensures.value in
+    let taken : IsPermutation (cells_in first ++ items) (x ∷ (cells_in first ++ rest)) = rw (c.swap_remove.ensures.items) (take_second (cells_in first) items k x at) in
+    subst (λ (s : List (Option Cell)). IsPermutation (cells_in s) (x ∷ cells_in (first ++ map (λ (d : Cell). Some d) rest))) c.self.view_is (taken_both first first items rest x taken)
+
+pub returns-else-at-first-clause-before : goal.returns-else-at-first-clause-before
+returns-else-at-first-clause-before c =
+    let first = c.self.inside.slots in
+    let items = c.self.inside.beside.items in
+    let somes = map (λ (d : Cell). Some d) items in
+    let rest = c.swap_remove.new.self in
+    let same : c.places-first.result ≡ length first = c.places-first.ensures.value in
+    let within : c.args.at < length (first ++ somes) = subst (λ (s : List (Option Cell)). c.args.at < length s) (sym c.self.view_is) (slice_get_within c.args.self.now c.args.at (Some c.requires.0) c.requires.1) in
+    omega (arith, within, same, length-append first somes, length-map items (λ (d : Cell). Some d), length-append first (map (λ (d : Cell). Some d) rest.items), length-map rest.items (λ (d : Cell). Some d), c.swap_remove.ensures.len, rest.ok.0, c.self.inside.beside.ok.0)

@@ -1,0 +1,119 @@
+//! Cells of a bucket that were left, since their last holders ended while another had its lock: each call that has it then takes out one of them,
+//! or looks at sixteen places if several were left.
+use crate::calls::{interned, links};
+use crate::named_cells::{Named, Order, Words, are_found, hold, keep, leave, look, sweep};
+use named_set::SetName;
+use std::process::Abort;
+use std::sync::Wait;
+
+/// A cell that was left is linked still, and the next look takes it out, and no other.
+pub fn one_is_left<N: SetName, R: Wait + Abort>(
+    rt: &R,
+    set: &Named<N>,
+    count: usize,
+    order: Order,
+) -> bool {
+    let mut words = hold(rt, set, count);
+    let rest = count.saturating_sub(1);
+    leave(rt, set, &mut words, order, rest);
+    let is_linked = links(rt, set, count as u128);
+    let is_out = look(rt, set, 1) && links(rt, set, rest as u128);
+    is_linked && is_out && are_found(rt, set, words.as_slice())
+}
+
+/// The text of a cell that was left gets another cell.
+pub fn left_comes_again<N: SetName, R: Wait + Abort>(rt: &R, set: &Named<N>) -> bool {
+    let mut words = hold(rt, set, 40);
+    leave(rt, set, &mut words, Order::First, 39);
+    let again = hold(rt, set, 40);
+    links(rt, set, 40) && are_found(rt, set, again.as_slice())
+}
+
+/// The end of another word takes out its own cell, and the next interning the one that was left.
+pub fn one_goes_beside<N: SetName, R: Wait + Abort>(rt: &R, set: &Named<N>) -> bool {
+    let mut words = hold(rt, set, 40);
+    leave(rt, set, &mut words, Order::First, 39);
+    keep(&mut words, Order::Last, 38);
+    let is_linked = links(rt, set, 39);
+    let held = interned(rt, set, "was never there").is_ok();
+    is_linked && held && links(rt, set, 38)
+}
+
+/// Cells that two visits left are out once four calls have looked at sixteen places each, since there are 56.
+pub fn two_are_left<N: SetName, R: Wait + Abort>(rt: &R, set: &Named<N>) -> bool {
+    let mut words = hold(rt, set, 40);
+    leave(rt, set, &mut words, Order::First, 39);
+    leave(rt, set, &mut words, Order::Last, 38);
+    let are_linked = links(rt, set, 40);
+    let are_out = look(rt, set, 4) && links(rt, set, 38);
+    are_linked && are_out && are_found(rt, set, words.as_slice())
+}
+
+fn has_at_least<N: SetName, R: Wait>(rt: &R, set: &Named<N>, count: u128) -> bool {
+    set.linked(rt) >= count
+}
+
+/// Each call looks at sixteen of their 56 places, so that four see all.
+pub fn many_are_left<N: SetName, R: Wait + Abort>(rt: &R, set: &Named<N>, order: Order) -> bool {
+    let mut words = hold(rt, set, 40);
+    leave(rt, set, &mut words, order, 20);
+    let are_linked = links(rt, set, 40);
+    let are_some_out = look(rt, set, 1) && has_at_least(rt, set, 24);
+    let are_out = look(rt, set, 3) && links(rt, set, 20);
+    are_linked && are_some_out && are_out && are_found(rt, set, words.as_slice())
+}
+
+/// Wherever one stands, so many calls take it out: one of 15 places, and four of 56.
+pub fn all_are_left<N: SetName, R: Wait + Abort>(
+    rt: &R,
+    set: &Named<N>,
+    count: usize,
+    calls: usize,
+) -> bool {
+    let mut words = hold(rt, set, count);
+    leave(rt, set, &mut words, Order::First, 0);
+    let are_linked = links(rt, set, count as u128);
+    are_linked && look(rt, set, calls) && links(rt, set, 0)
+}
+
+/// Cells that go meanwhile are no more to be looked at.
+pub fn many_are_left_alone<N: SetName, R: Wait + Abort>(
+    rt: &R,
+    set: &Named<N>,
+    order: Order,
+) -> bool {
+    let mut words = hold(rt, set, 40);
+    leave(rt, set, &mut words, order, 20);
+    let is_begun = look(rt, set, 1) && has_at_least(rt, set, 24);
+    keep(&mut words, order, 0);
+    is_begun && look(rt, set, 3) && links(rt, set, 0)
+}
+
+/// A sweep takes out all that were left.
+pub fn many_are_swept<N: SetName, R: Wait + Abort>(rt: &R, set: &Named<N>, order: Order) -> bool {
+    let mut words = hold(rt, set, 150);
+    leave(rt, set, &mut words, order, 75);
+    sweep(rt, set);
+    links(rt, set, 75) && are_found(rt, set, words.as_slice())
+}
+
+/// Five texts more.
+fn hold_five<'s, N: SetName, R: Wait + Abort>(rt: &R, set: &'s Named<N>) -> Words<'s, N> {
+    let mut words = Vec::new(set.allocator());
+    for text in &["first", "second", "third", "fourth", "fifth"] {
+        let word = interned(rt, set, text).expect(rt, "a word");
+        words.push(word).expect(rt, "room");
+    }
+    words
+}
+
+/// With one more than 4,731 texts an index of 5,406 places is laid out over 7,886, while a call has looked at sixteen. Those behind it look at all
+/// of these: 493 have sixteen each.
+pub fn are_left_as_it_grows<N: SetName, R: Wait + Abort>(rt: &R, set: &Named<N>) -> bool {
+    let mut words = hold(rt, set, 4_731);
+    leave(rt, set, &mut words, Order::First, 4_531);
+    let more = hold_five(rt, set);
+    let are_out = look(rt, set, 493) && links(rt, set, 4_536);
+    drop(more);
+    are_out && are_found(rt, set, words.as_slice())
+}
