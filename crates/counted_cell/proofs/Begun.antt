@@ -1,6 +1,7 @@
 -- A row of bytes that is filled from its beginning.
-use Rattle.std.proofs.Common.{◌≡◌, ℕ, zero, suc, ◌<◌, List, [], ◌∷◌, map, length, replicate, get_or, set, take, drop, sym, refl, ap, ◌∙◌, arith}
+use Rattle.std.proofs.Common.{◌≡◌, ℕ, zero, suc, ◌+◌, ◌<◌, List, [], ◌∷◌, map, length, replicate, get_or, set, take, drop, sym, refl, ap, ◌∙◌, arith}
 use Rattle.std.specs.Prelude.{Option, Some, None}
+use Rattle.std.proofs.lemmas.List.{get_or-take, get_or-drop}
 use Rattle.counted_cell.specs.Text.{somes, begun}
 
 module _ {X : Type 0} where
@@ -41,3 +42,8 @@ module _ {X : Type 0} where
   pub map-length : (xs : List X) → length (map Some xs) ≡ length xs
   map-length [] = refl
   map-length (x ∷ xs) = ap suc (map-length xs)
+
+-- what part of some bytes has is what they have
+pub part-of : (all bytes : List ℕ) (from i : ℕ) → take (length bytes) (drop from all) ≡ bytes → i < length bytes → get_or bytes i 0 ≡ get_or all (from + i) 0
+part-of all bytes from i is lt =
+    sym (ap (λ (l : List ℕ). get_or l i 0) is) ∙ get_or-take (length bytes) (drop from all) i 0 lt ∙ get_or-drop from all i 0

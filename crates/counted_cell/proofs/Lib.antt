@@ -16,5 +16,6 @@ pub mod PlacesLaws
 pub mod PlacesSent
 pub mod Blocks
 pub mod Begun
+pub mod Texts
 pub mod CellLogSteps
 pub mod CellLogFields

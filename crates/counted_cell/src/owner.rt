@@ -1,6 +1,6 @@
 //! The owner of a cell.
 ghost use Rattle.std.specs.Prelude.{◌≡◌, true, ◌^◌, ◌<◌, ◌≤◌, length, IfErr, IfOk};
-ghost use Rattle.counted_cell.specs.Cell.{block_size, most_bytes};
+ghost use Rattle.counted_cell.specs.Cell.{block_size, most_behind, padded_size};
 
 use crate::block::{FreeRight, allocate, deallocate};
 use crate::block_right::{BlockRight, begin, reclaim};
@@ -15,7 +15,7 @@ use crate::note::Note;
 use crate::placed::{fill, take};
 use crate::reply::ShareReply;
 use crate::share::CellShare;
-use crate::text::Text;
+use crate::text::{Text, limit_size};
 use std::alloc::{AllocError, Allocator};
 use std::marker::Model;
 use std::mem::{align_of, size_of};
@@ -31,16 +31,16 @@ pub struct Owner<A: Allocator> {
 
 impl<A: Allocator> Model for Owner<A> {
     ghost use Rattle.std.specs.Prelude.{◌≡◌, ◌^◌, ◌<◌, ◌≤◌, length};
-    ghost use Rattle.counted_cell.specs.Cell.{Cell, IsBehind, cell_of, most_bytes};
+    ghost use Rattle.counted_cell.specs.Cell.{Cell, IsBehind, IsLimited, cell_of, most_behind};
     ghost use Rattle.counted_cell.specs.Counting.{owner_right};
 
     ghost Value = { Cell };
 
     ghost view = { λ o. cell_of o.cell };
 
-    ghost invariant = { λ o. (o.cell.right ≡ owner_right) × (o.cell.value.label.limit ≡ o.cell.name.limit) × (o.cell.name.limit < 2 ^ 63)
+    ghost invariant = { λ o. (o.cell.right ≡ owner_right) × IsLimited o.cell
         × ((o.block.name ≡ o.cell.name) × (o.block.value ≡ o.cell.value) × (o.block.ptr ≡ o.free.at) × (o.cell.ptr ≡ o.block.ptr))
-        × ((o.free.alloc ≡ o.alloc) × IsBehind o.cell × (length o.block.value.text.places.slots ≡ o.free.len) × (o.free.len ≤ most_bytes)) };
+        × ((o.free.alloc ≡ o.alloc) × IsBehind o.cell × (length o.block.value.text.places.slots ≡ o.free.len) × (o.free.len ≤ most_behind)) };
 }
 
 impl<A: Allocator> Drop for Owner<A> {
@@ -54,10 +54,10 @@ const MOST_BYTES: usize = (1 << 62) - 1;
 
 const ALIGN: usize = align_of::<Header<Content>>();
 
-/// The bytes of a block whose text has `len` bytes: the header, the text, and padding up to the alignment.
+/// The bytes of a block that has so many behind its header: the header, these, and padding up to the alignment.
 fn size_for(len: usize) -> usize
-    requires { len ≤ most_bytes }
-    ensures exact { result ≡ block_size len }
+    requires { len ≤ most_behind }
+    ensures exact { result ≡ padded_size len }
     ensures few { result < 2 ^ 63 }
 {
     let end = size_of::<Header<Content>>() + len;
@@ -83,14 +83,22 @@ impl<A: Allocator> Owner<A> {
         ensures grows { IfOk result (λ made. made.0.name.grows ≡ G.grows) }
         ensures share { IfOk result (λ made. made.1.cell ≡ made.0) }
     {
-        let len = text.len();
-        if len > MOST_BYTES {
+        if text.len() > MOST_BYTES {
             return Err(AllocError);
         }
+        let Label {
+            hash,
+            ticket,
+            limit,
+        } = label;
+        let len = text.len() + limit_size(limit);
         let (room, ptr, places, free) = allocate(&alloc, len, size_for(len), ALIGN)?;
-        let text = Text::write(ptr, places, text);
-        let note = Note::new(note);
-        let value = Content { label, note, text };
+        let value = Content {
+            hash,
+            ticket,
+            note: Note::new(note),
+            text: Text::write(ptr, places, text, limit),
+        };
         let (block, owner, share) = begin(fill(room, Header { count: 1, value }));
         let owner = Owner {
             cell: owner,
@@ -101,11 +109,20 @@ impl<A: Allocator> Owner<A> {
         Ok((owner, CellShare::of_ref(share)))
     }
 
-    /// The numbers of the cell.
-    pub fn label(&self) -> Label
-        ensures { result ≡ self.now.label }
+    /// The hash of the text.
+    #[inline]
+    pub fn hash(&self) -> u64
+        ensures { result ≡ self.now.label.hash }
     {
-        self.cell.get().label
+        self.cell.get().hash
+    }
+
+    /// The number under which the text is known.
+    #[inline]
+    pub fn ticket(&self) -> u64
+        ensures { result ≡ self.now.label.ticket }
+    {
+        self.cell.get().ticket
     }
 
     /// The text of the cell.
@@ -115,12 +132,12 @@ impl<A: Allocator> Owner<A> {
         self.cell.get().text.as_str(self.cell.end())
     }
 
-    /// The bytes of its block: those before the text, the text, and padding up to the alignment.
+    /// The bytes of its block: those before the text, the text, a limit of its own, and padding up to the alignment.
     pub fn block_size(&self) -> usize
-        ensures exact { result ≡ block_size (length self.now.text) }
+        ensures exact { result ≡ block_size self.now.name.limit (length self.now.text) }
         ensures few { result < 2 ^ 63 }
     {
-        size_for(self.cell.get().text.len())
+        size_for(self.cell.get().text.size())
     }
 
     /// What the count reads.
@@ -192,7 +209,8 @@ impl<A: Allocator> Owner<A> {
             let (room, header) = take(reclaim(block, sole));
             let Header { count: _, value } = header;
             let Content {
-                label: _,
+                hash: _,
+                ticket: _,
                 note: _,
                 text,
             } = value;

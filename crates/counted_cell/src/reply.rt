@@ -1,10 +1,10 @@
 //! What adding a share returns.
-ghost use Rattle.std.specs.Prelude.{◌≡◌, ◌<◌, ◌^◌};
+ghost use Rattle.std.specs.Prelude.{◌≡◌, ◌<◌};
 ghost use Rattle.counted_cell.specs.Counting.{CanRead};
-ghost use Rattle.counted_cell.specs.Cell.{IsBehind, cell_of};
+ghost use Rattle.counted_cell.specs.Cell.{IsBehind, IsLimited, cell_of};
 
 use crate::cell_ref::{CellRef, Permit, Reading};
-use crate::content::Content;
+use crate::content::{Content, limit_of};
 use crate::evidence::{AtLimit, NoShares};
 use crate::share::CellShare;
 use std::sync::Wait;
@@ -27,11 +27,11 @@ impl ShareReply {
     pub(crate) fn one_more<R: Wait>(rt: &R, cell: &CellRef<Content>, permit: Permit) -> ShareReply
         requires reads { CanRead cell.now.right }
         requires permit { permit.name ≡ cell.now.name }
-        requires limit { (cell.now.value.label.limit ≡ cell.now.name.limit) × (cell.now.name.limit < 2 ^ 63) }
+        requires limit { IsLimited cell.now }
         requires place { IsBehind cell.now }
         ensures { IsReply (cell_of cell.now) permit.number result }
     {
-        let limit = cell.get().label.limit;
+        let limit = limit_of(cell);
         let (mut seen, mut reading) = cell.load();
         let mut left = permit;
         for _ in rt.forever() {

@@ -1,12 +1,11 @@
 //! The shares of a cell.
-ghost use Rattle.std.specs.Prelude.{◌≡◌, ◌≢◌, true, ◌^◌, ◌<◌, ◌++◌, ◌∷◌, [], IfErr, IfOk};
+ghost use Rattle.std.specs.Prelude.{◌≡◌, ◌≢◌, true, ◌<◌, ◌++◌, ◌∷◌, [], IfErr, IfOk};
 ghost use Rattle.std.specs.List.{AllByRecursion};
 
 use crate::cell_log::{CellLog, LogSeen, lives};
 use crate::cell_ref::{CellRef, Permit, Reading, Receipt, is_counted};
-use crate::content::Content;
+use crate::content::{Content, limit_of};
 use crate::evidence::{AtLimit, NoShares};
-use crate::label::Label;
 use crate::reply::ShareReply;
 use std::marker::Model;
 use std::sync::Wait;
@@ -19,25 +18,25 @@ pub struct CellShare {
 }
 
 impl Model for CellShare {
-    ghost use Rattle.std.specs.Prelude.{◌≡◌, ◌^◌, ◌<◌};
-    ghost use Rattle.counted_cell.specs.Cell.{OneShare, IsBehind, share_of};
+    ghost use Rattle.std.specs.Prelude.{◌≡◌};
+    ghost use Rattle.counted_cell.specs.Cell.{OneShare, IsBehind, IsLimited, share_of};
     ghost use Rattle.counted_cell.specs.Counting.{share_right};
 
     ghost Value = { OneShare };
 
     ghost view = { λ s. share_of s.cell };
 
-    ghost invariant = { λ s. (s.cell.right ≡ share_right) × (s.cell.value.label.limit ≡ s.cell.name.limit) × (s.cell.name.limit < 2 ^ 63) × IsBehind s.cell };
+    ghost invariant = { λ s. (s.cell.right ≡ share_right) × IsLimited s.cell × IsBehind s.cell };
 }
 
 impl CellShare {
     ghost use Rattle.counted_cell.specs.Counting.{CanRead, share_right};
-    ghost use Rattle.counted_cell.specs.Cell.{IsBehind, cell_of, share_of};
+    ghost use Rattle.counted_cell.specs.Cell.{IsBehind, IsLimited, cell_of, share_of};
     ghost use Rattle.counted_cell.specs.CellEntry.{entry_of};
 
     /// The share whose right this is.
     pub(crate) fn of_ref(cell: CellRef<Content>) -> CellShare
-        requires { (cell.right ≡ share_right) × (cell.value.label.limit ≡ cell.name.limit) × (cell.name.limit < 2 ^ 63) × IsBehind cell }
+        requires { (cell.right ≡ share_right) × IsLimited cell × IsBehind cell }
         ensures { result ≡ share_of cell }
     {
         CellShare { cell }
@@ -50,11 +49,28 @@ impl CellShare {
         &self.cell
     }
 
-    /// The numbers of its cell.
-    pub fn label(&self) -> Label
-        ensures { result ≡ self.now.cell.label }
+    /// The hash of its cell's text.
+    #[inline]
+    pub fn hash(&self) -> u64
+        ensures { result ≡ self.now.cell.label.hash }
     {
-        self.cell.get().label
+        self.cell.get().hash
+    }
+
+    /// The number under which its cell's text is known.
+    #[inline]
+    pub fn ticket(&self) -> u64
+        ensures { result ≡ self.now.cell.label.ticket }
+    {
+        self.cell.get().ticket
+    }
+
+    /// The most shares that its cell may have at a time.
+    #[inline]
+    pub fn limit(&self) -> u64
+        ensures { result ≡ self.now.cell.label.limit }
+    {
+        limit_of(&self.cell)
     }
 
     /// The text of its cell.
@@ -113,14 +129,47 @@ impl CellShare {
         requires reads { CanRead cell.now.right }
         requires permit { permit.name ≡ cell.now.name }
         requires shares { 0 < seen }
-        requires limit { (cell.now.value.label.limit ≡ cell.now.name.limit) × (cell.now.name.limit < 2 ^ 63) }
+        requires limit { IsLimited cell.now }
         requires place { IsBehind cell.now }
         ensures added { IfOk result (λ share. share.cell ≡ cell_of cell.now) }
         ensures left { IfErr result (λ left. (left.name ≡ cell.now.name) × (left.number ≡ permit.number)) }
     {
-        if seen >= cell.get().label.limit {
+        if cell.get().text.is_far_above(seen) {
+            CellShare::exchanged(cell, seen, permit)
+        } else {
+            CellShare::tried_apart(cell, seen, permit)
+        }
+    }
+
+    // The same, apart, so that the usual way stays short.
+    #[cold]
+    #[inline(never)]
+    fn tried_apart(cell: &CellRef<Content>, seen: u64, permit: Permit) -> Result<CellShare, Permit>
+        requires reads { CanRead cell.now.right }
+        requires permit { permit.name ≡ cell.now.name }
+        requires shares { 0 < seen }
+        requires limit { IsLimited cell.now }
+        requires place { IsBehind cell.now }
+        ensures added { IfOk result (λ share. share.cell ≡ cell_of cell.now) }
+        ensures left { IfErr result (λ left. (left.name ≡ cell.now.name) × (left.number ≡ permit.number)) }
+    {
+        if seen >= limit_of(cell) {
             return Err(permit);
         }
+        CellShare::exchanged(cell, seen, permit)
+    }
+
+    // The same if `seen` is below the limit.
+    #[inline]
+    fn exchanged(cell: &CellRef<Content>, seen: u64, permit: Permit) -> Result<CellShare, Permit>
+        requires reads { CanRead cell.now.right }
+        requires permit { permit.name ≡ cell.now.name }
+        requires shares { (0 < seen) × (seen < cell.now.name.limit) }
+        requires limit { IsLimited cell.now }
+        requires place { IsBehind cell.now }
+        ensures added { IfOk result (λ share. share.cell ≡ cell_of cell.now) }
+        ensures left { IfErr result (λ left. (left.name ≡ cell.now.name) × (left.number ≡ permit.number)) }
+    {
         let (found, _, more) = cell.increment(seen, permit);
         if found == seen {
             return Ok(CellShare::of_ref(more));

@@ -50,10 +50,10 @@ abbrev pub IsSummed : Walked Linked → ℕ → Walked Linked → Type 0
 IsSummed w n u = (n + cells_size u.left ≡ cells_size w.left) × (n + length u.left * 2 ^ 63 ≤ length w.left * 2 ^ 63)
 
 pub summed_on : (n m : ℕ) (w u v : Walked Linked) (e : Linked) (rest : List Linked) → u.left ≡ e ∷ rest → v ≡ passed_by u u.left
-    → m ≡ n + block_size (length e.text) → block_size (length e.text) < 2 ^ 63 → IsSummed w n u → IsSummed w m v
+    → m ≡ n + block_size e.limit (length e.text) → block_size e.limit (length e.text) < 2 ^ 63 → IsSummed w n u → IsSummed w m v
 summed_on n m w u v e rest at is more few before =
     let left : v.left ≡ rest = ap (λ (x : Walked Linked). x.left) (kept_next u v e rest at is) in
-    let a : cells_size u.left ≡ block_size (length e.text) + cells_size rest = ap cells_size at in
+    let a : cells_size u.left ≡ block_size e.limit (length e.text) + cells_size rest = ap cells_size at in
     let b : cells_size v.left ≡ cells_size rest = ap cells_size left in
     let c : length u.left ≡ length rest + 1 = ap length at ∙ (omega arith) in
     let d : length v.left ≡ length rest = ap length left in

@@ -10,7 +10,7 @@ node_size = 48
 -- the bytes of these entries' cells, their texts among them
 abbrev pub cells_size : List Linked → ℕ
 cells_size [] = 0
-cells_size (e ∷ es) = block_size (length e.text) + cells_size es
+cells_size (e ∷ es) = block_size e.limit (length e.text) + cells_size es
 
 -- the bytes of the cells, and of some nodes: each has an entry, and there is one if there are entries
 pub record IsMemory (es : List Linked) (bytes : ℕ) : Type 0 where

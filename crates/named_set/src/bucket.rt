@@ -158,7 +158,7 @@ impl<Static: StaticTables, N: SetName, G: Grant> Bucket<Static, N, G> {
         ensures may { IfHeld result (λ share _. G.may share.cell.name) }
         ensures there { IfAbsent result ⊥ }
     {
-        let answer = self.find(rt, held.text(), held.label().hash, grant);
+        let answer = self.find(rt, held.text(), held.hash(), grant);
         self.has(held, seen);
         answer
     }

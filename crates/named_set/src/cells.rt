@@ -200,12 +200,12 @@ impl Cells {
     }
 }
 
-// So many places an index of so many cells is given: five for three cells. Few cells have none.
+// So many places an index of so many cells is given: two for each. Few cells have none.
 fn index_places(cells: usize) -> usize {
     if cells <= FEW {
         return 0;
     }
-    cells.saturating_add(cells / 3 * 2)
+    cells.saturating_mul(2)
 }
 
 // Moves into the index what lies beside it, but for cells for which there is no place.
@@ -251,5 +251,5 @@ fn is_of(owner: &Owner<Global>, text: &str, hash: u64) -> bool
     requires { owner.now.text ≡ text.now → owner.now.label.hash ≡ hash }
     ensures { IsTrue result ↔ (owner.now.text ≡ text.now) }
 {
-    owner.label().hash == hash && owner.text() == text
+    owner.hash() == hash && owner.text() == text
 }

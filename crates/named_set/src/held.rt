@@ -108,7 +108,7 @@ impl<'s, Static: StaticTables, N: SetName> HeldCell<'s, Static, N> {
     pub fn text_hash(&self) -> u64
         ensures { result ≡ entry_hash Static.tables self.now.text }
     {
-        self.own.share.label().hash
+        self.own.share.hash()
     }
 
     /// A permit for one more, if the cell gets more, as each does that a set interned. It does nothing when it runs.
@@ -125,7 +125,7 @@ impl<'s, Static: StaticTables, N: SetName> HeldCell<'s, Static, N> {
     pub fn word(&self) -> u64
         ensures { result ≡ self.now.word }
     {
-        self.own.share.label().ticket
+        self.own.share.ticket()
     }
 
     /// The share alone. `of_share` makes the same of it again, with the same set.
@@ -326,7 +326,7 @@ impl<'s, Static: StaticTables, N: SetName> Held<'s, Static, N> {
         ensures ticket { IsTicketOf Static.tables (length N.logs) result.text result.word }
     {
         Held {
-            word: share.label().ticket,
+            word: share.ticket(),
             cell: HeldCell {
                 own: SetShare { share, set },
                 seen,

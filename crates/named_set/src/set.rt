@@ -255,7 +255,7 @@ impl<Static: StaticTables, N: SetName> NamedSet<Static, N> {
     pub(crate) fn give_back(&self, share: CellShare) -> Receipt
         ensures { (result.name ≡ share.cell.name) × (result.number ≡ share.number) }
     {
-        let hash = share.label().hash;
+        let hash = share.hash();
         let (receipt, last) = share.give().parts();
         if last.is_some() {
             self.try_take_out(hash);

@@ -136,7 +136,7 @@ impl Slots {
             let at = below - 1;
             match &self.slots[at] {
                 Slot::Empty => return None,
-                Slot::Full(other, owner) if *other == short && owner.label().hash == hash => {
+                Slot::Full(other, owner) if *other == short && owner.hash() == hash => {
                     if let Ok(none) = owner.dying() {
                         return Some((at, none));
                     }
@@ -155,7 +155,7 @@ impl Slots {
         ensures same { OnErr result (self.new ≡ self.old) }
         ensures places { length self.new ≡ length self.old }
     {
-        let short = self.key.short_of(owner.label().hash);
+        let short = self.key.short_of(owner.hash());
         let was_empty = put_full(self.slots.as_mut_slice(), short, owner)?;
         self.cells += 1;
         self.taken = self.taken.saturating_add(usize::from(was_empty));

@@ -104,8 +104,8 @@ fn visits<S: SharedSet, R: Wait>(rt: &R, set: S, number: usize, holders: u64) ->
 /// The bytes of a bucket, those that it keeps once it had a text, and those of a text of 15 bytes in addition.
 fn bytes_of(kind: Kind) -> [u128; 3] {
     match kind {
-        Kind::Plain => [32, 32, 48 + 40 + 16],
-        Kind::Named => [112, 112 + 32, 40 + 16],
+        Kind::Plain => [32, 32, 48 + 32 + 16],
+        Kind::Named => [112, 112 + 32, 32 + 16],
     }
 }
 

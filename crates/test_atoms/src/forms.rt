@@ -27,6 +27,12 @@ const NARROW: Size = Size {
     limits: Some((2, 1 << 40)),
 };
 
+/// The same with one bucket.
+const ONE_NARROW: Size = Size {
+    bits: 0,
+    limits: Some((2, 1 << 40)),
+};
+
 /// Whether the text is found as the atom.
 fn is_found_as<S: SharedSet, R: Wait>(rt: &R, set: S, atom: &SetAtom<S::Held>, text: &str) -> bool {
     match look_up(rt, set, text) {
@@ -161,9 +167,12 @@ fn comes_again<S: SharedSet, R: Wait + Abort>(rt: &R, set: S, text: &str) -> boo
     was_dying && has_text(&again, text) && is_seen_with(rt, set, text, 1)
 }
 
-/// The bytes of the text's cell: 40, and those of the text, rounded up to eights.
-fn bytes_of(text: &str) -> u128 {
-    40 + (text.len() as u128).div_ceil(8) * 8
+/// The bytes of the text's cell: those of its numbers, and those of the text, rounded up to eights.
+fn bytes_of(text: &str, numbers: u128) -> u128 {
+    (text.len() as u128)
+        .div_ceil(8)
+        .saturating_mul(8)
+        .saturating_add(numbers)
 }
 
 /// How many more bytes the set has while the text is held.
@@ -174,10 +183,10 @@ fn memory_of<S: SharedSet, R: Wait + Abort>(rt: &R, set: S, text: &str) -> u128 
 }
 
 /// Whether the text's bytes are counted next to another text, for which its bucket has made room.
-fn is_counted<S: SharedSet, R: Wait + Abort>(rt: &R, set: S, text: &str) -> bool {
+fn is_counted<S: SharedSet, R: Wait + Abort>(rt: &R, set: S, text: &str, numbers: u128) -> bool {
     let _other = intern(rt, set, "interned");
     let before = set.memory(rt);
-    memory_of(rt, set, text) == bytes_of(text) && set.memory(rt) == before
+    memory_of(rt, set, text) == bytes_of(text, numbers) && set.memory(rt) == before
 }
 
 /// All that is asked of a text: it is as if nothing had been asked.
@@ -199,14 +208,15 @@ fn long_text(rt: &impl Abort, alloc: Global) -> String {
 #[derive(Clone, Copy)]
 pub enum Question {
     Calls,
-    Bytes,
+    /// How many bytes the numbers of a cell take.
+    Bytes(u128),
 }
 
 /// Whether the set of a text is as it should be.
 fn is_so<S: SharedSet, R: Wait + Abort>(rt: &R, set: S, question: Question, text: &str) -> bool {
     match question {
         Question::Calls => is_all(rt, set, text),
-        Question::Bytes => is_counted(rt, set, text) && links(rt, set, 0),
+        Question::Bytes(numbers) => is_counted(rt, set, text, numbers) && links(rt, set, 0),
     }
 }
 
@@ -230,13 +240,15 @@ fn texts_of_each_sort(rt: HostRuntime) {
     );
 }
 
-/// A set counts each text's bytes.
+/// A set counts each text's bytes, and those of its numbers: 32, and eight more for a limit of holders that isn't the greatest.
 #[test]
 fn texts_are_counted(rt: HostRuntime) {
-    ask(
-        &rt,
-        rt.alloc(),
-        ONE_BUCKET,
-        sets::Question::Forms(Question::Bytes),
-    );
+    for (size, numbers) in &[(ONE_BUCKET, 32), (ONE_NARROW, 40)] {
+        ask(
+            &rt,
+            rt.alloc(),
+            *size,
+            sets::Question::Forms(Question::Bytes(*numbers)),
+        );
+    }
 }

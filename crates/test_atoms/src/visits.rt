@@ -93,7 +93,7 @@ const BUCKET: u128 = 32;
 
 const NODE: u128 = 48;
 
-const CELL: u128 = 40;
+const CELL: u128 = 32;
 
 /// The bytes of a bucket of a set with a name, with its lock, and of four places for cells. A bucket makes room for four, then for twice as
 /// many as it has, and keeps it.

@@ -105,8 +105,8 @@ pub fn visits_long<S: SharedSet, R: Clock + Wait>(
 /// The bytes of the usual buckets that have two texts of 16 bytes, each of its own bucket.
 fn bytes_of(kind: Kind) -> u128 {
     match kind {
-        Kind::Plain => 4096 * 32 + 2 * (48 + 40 + 16),
-        Kind::Named => 4096 * 112 + 2 * (32 + 40 + 16),
+        Kind::Plain => 4096 * 32 + 2 * (48 + 32 + 16),
+        Kind::Named => 4096 * 112 + 2 * (32 + 32 + 16),
     }
 }
 

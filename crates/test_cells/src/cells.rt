@@ -163,11 +163,9 @@ fn one_life<R: Wait + Abort>(rt: &R, alloc: Global, text: &str) -> Result<(), Al
         rt,
         owner.text() == text && first.has_text(text) && second.has_text(text),
     );
-    assert_that(
-        rt,
-        owner.label().hash == 8 && first.share.label().ticket == 7,
-    );
-    assert_that(rt, second.share.label().limit == 2);
+    assert_that(rt, owner.hash() == 8 && owner.ticket() == 7);
+    assert_that(rt, first.share.hash() == 8 && first.share.ticket() == 7);
+    assert_that(rt, second.share.limit() == 2);
     assert_that(rt, !first.gives_last());
     assert_that(rt, second.has_text(text));
     assert_that(rt, second.gives_last());
@@ -183,6 +181,39 @@ fn a_cell_keeps_its_text(rt: HostRuntime) {
     one_life(&rt, alloc, "interned").expect(&rt, "an answer");
     one_life(&rt, alloc, "tokenised ü").expect(&rt, "an answer");
     one_life(&rt, alloc, "a longer text, which takes more than one word").expect(&rt, "an answer");
+}
+
+/// The limit that takes no memory.
+const GREATEST: u64 = (1 << 63) - 1;
+
+/// Limits with bytes of each kind, the greatest, and one below it.
+const LIMITS: [u64; 7] = [1, 255, 256, 1_000, 1 << 40, GREATEST - 1, GREATEST];
+
+/// Whether a cell of the text tells this limit, and its text as it is.
+fn tells_its_limit(alloc: Global, limit: u64, text: &str) -> Result<bool, AllocError>
+    requires { (1 ≤ limit) × (limit < 2 ^ 63) }
+{
+    let (owner, share) = make(alloc, limit, text)?;
+    Ok(share.share.limit() == limit && owner.text() == text && share.has_text(text))
+}
+
+/// Whether cells of the text tell all these limits.
+fn tell_their_limits(rt: &impl Abort, alloc: Global, text: &str) -> bool {
+    for limit in &LIMITS {
+        let limit = (*limit).clamp(1, GREATEST);
+        if !tells_its_limit(alloc, limit, text).expect(rt, "an answer") {
+            return false;
+        }
+    }
+    true
+}
+
+#[test]
+fn a_cell_keeps_its_limit(rt: HostRuntime) {
+    let long = "größer, ".repeat(rt.alloc(), 100_000).expect(&rt, "a text");
+    for text in &["", "a", "interned", "tokenised ü", long.as_str()] {
+        assert_for(&rt, tell_their_limits(&rt, rt.alloc(), text), &text.len());
+    }
 }
 
 /// Whether the count stays at 0, and no share is added.
@@ -214,14 +245,16 @@ fn tried(first: &ShareGuard) -> Option<ShareGuard> {
     Some(ShareGuard { share })
 }
 
-/// Single tries on a cell of the text, at a limit of 3.
-fn tries<R: Wait + Abort>(rt: &R, alloc: Global, text: &str) -> Result<(), AllocError> {
-    let (owner, first) = make(alloc, 3, text)?;
+/// Single tries on a cell of the text, at a limit of 3 or of more.
+fn tries<R: Wait + Abort>(rt: &R, alloc: Global, limit: u64, text: &str) -> Result<(), AllocError>
+    requires { (1 ≤ limit) × (limit < 2 ^ 63) }
+{
+    let (owner, first) = make(alloc, limit, text)?;
     let second = tried(&first).expect(rt, "a share");
     assert_that(rt, second.has_text(text));
     let third = tried(&second).expect(rt, "a share");
-    assert_that(rt, tried(&first).is_none());
-    assert_that(rt, is_full(rt, &owner));
+    assert_that(rt, tried(&first).is_none() == (limit == 3));
+    assert_that(rt, is_full(rt, &owner) == (limit == 3));
     assert_that(rt, !first.gives_last());
     assert_that(rt, !third.gives_last());
     assert_that(rt, second.gives_last());
@@ -233,10 +266,11 @@ fn tries<R: Wait + Abort>(rt: &R, alloc: Global, text: &str) -> Result<(), Alloc
 #[test]
 fn single_tries(rt: HostRuntime) {
     let alloc = rt.alloc();
-    let text = "interned ".repeat(alloc, 30_000).expect(&rt, "a text");
-    tries(&rt, alloc, "interned").expect(&rt, "an answer");
-    tries(&rt, alloc, "tokenised ü").expect(&rt, "an answer");
-    tries(&rt, alloc, &text).expect(&rt, "an answer");
+    let long = "interned ".repeat(alloc, 30_000).expect(&rt, "a text");
+    for text in &["interned", "tokenised ü", long.as_str()] {
+        tries(&rt, alloc, 3, text).expect(&rt, "an answer");
+        tries(&rt, alloc, GREATEST, text).expect(&rt, "an answer");
+    }
 }
 
 /// One more share of the owner's cell by a single try.
@@ -254,11 +288,15 @@ fn has_no_try<A: Allocator>(owner: &Owner<A>) -> bool
     owner_tried(owner).is_none()
 }
 
-/// Single tries of the owner of a cell of the text, at a limit of 2: one share is given, at the limit none is, and none is once both were given back.
-fn owner_tries(rt: &impl Abort, alloc: Global, text: &str) -> Result<(), AllocError> {
-    let (owner, first) = make(alloc, 2, text)?;
+/// Single tries of the owner of a cell of the text, at a limit of 2 or of more: one share is given, at the limit none is, and none is once both were
+/// given back.
+fn owner_tries(rt: &impl Abort, alloc: Global, limit: u64, text: &str) -> Result<(), AllocError>
+    requires { (1 ≤ limit) × (limit < 2 ^ 63) }
+{
+    let (owner, first) = make(alloc, limit, text)?;
     let second = owner_tried(&owner).expect(rt, "a share");
-    assert_that(rt, second.has_text(text) && has_no_try(&owner));
+    assert_that(rt, second.has_text(text));
+    assert_that(rt, has_no_try(&owner) == (limit == 2));
     assert_that(rt, !first.gives_last());
     assert_that(rt, second.gives_last());
     assert_that(rt, has_no_try(&owner));
@@ -269,10 +307,11 @@ fn owner_tries(rt: &impl Abort, alloc: Global, text: &str) -> Result<(), AllocEr
 #[test]
 fn single_tries_of_an_owner(rt: HostRuntime) {
     let alloc = rt.alloc();
-    let text = "interned ".repeat(alloc, 30_000).expect(&rt, "a text");
-    owner_tries(&rt, alloc, "interned").expect(&rt, "an answer");
-    owner_tries(&rt, alloc, "tokenised ü").expect(&rt, "an answer");
-    owner_tries(&rt, alloc, &text).expect(&rt, "an answer");
+    let long = "interned ".repeat(alloc, 30_000).expect(&rt, "a text");
+    for text in &["interned", "tokenised ü", long.as_str()] {
+        owner_tries(&rt, alloc, 2, text).expect(&rt, "an answer");
+        owner_tries(&rt, alloc, GREATEST, text).expect(&rt, "an answer");
+    }
 }
 
 /// No share is left once both were given back.
@@ -382,24 +421,35 @@ fn the_end_frees_what_is_not_held(rt: HostRuntime) {
     );
 }
 
-/// Texts, the bytes of a cell's block, and those that a heap which gives out sixteens says are in use.
-const BLOCKS: [(&str, usize, usize); 6] = [
-    ("", 40, 48),
-    ("a", 48, 48),
-    ("abcdefgh", 48, 48),
-    ("abcdefghi", 56, 64),
-    ("not all of it is ascii: é", 72, 80),
-    ("a longer text, which takes more than one word", 88, 96),
+/// Limits, texts, the bytes of a cell's block, and those that a heap which gives out sixteens says are in use.
+const BLOCKS: [(u64, &str, usize, usize); 9] = [
+    (GREATEST, "", 32, 32),
+    (GREATEST, "a", 40, 48),
+    (GREATEST, "abcdefgh", 40, 48),
+    (GREATEST, "abcdefghi", 48, 48),
+    (GREATEST, "not all of it is ascii: é", 64, 64),
+    (
+        GREATEST,
+        "a longer text, which takes more than one word",
+        80,
+        80,
+    ),
+    (GREATEST - 1, "abcdefgh", 48, 48),
+    (1, "", 40, 48),
+    (1, "abcdefghi", 56, 64),
 ];
 
 /// Whether a cell of the text reports this as its block's size, and the heap then has this in use.
 fn tells_its_size(
     heap: &LocalHeap,
+    limit: u64,
     text: &str,
     size: usize,
     used: usize,
-) -> Result<bool, AllocError> {
-    let (owner, share) = make(heap, 1, text)?;
+) -> Result<bool, AllocError>
+    requires { (1 ≤ limit) × (limit < 2 ^ 63) }
+{
+    let (owner, share) = make(heap, limit, text)?;
     let is_told = owner.block_size() == size && heap.used() == used;
     drop(share);
     drop(owner);
@@ -409,8 +459,9 @@ fn tells_its_size(
 #[test]
 fn a_cell_tells_the_bytes_of_its_block(rt: HostRuntime) {
     let heap = LocalHeap::new(rt.alloc(), 4_096).expect(&rt, "an answer");
-    for (text, size, used) in &BLOCKS {
-        let is_told = tells_its_size(&heap, text, *size, *used).expect(&rt, "an answer");
+    for (limit, text, size, used) in &BLOCKS {
+        let limit = (*limit).clamp(1, GREATEST);
+        let is_told = tells_its_size(&heap, limit, text, *size, *used).expect(&rt, "an answer");
         assert_for(&rt, is_told, text);
     }
 }

@@ -16,21 +16,21 @@ use text_forms::SipKey;
 use text_forms::static_sets::{EmptyStaticAtomSet, StaticTables};
 use text_forms::word::{Buckets, Limits};
 
-/// So many texts are chosen. There are 25 places for them.
+/// So many texts are chosen. There are 34 places for them.
 const COUNT: usize = 20;
 
 /// So many of these places aren't below all where texts belong.
-const UPPER: u64 = 25 - 8;
+const UPPER: u64 = 34 - 8;
 
 /// The bytes that the places of texts may take.
 type Bytes = [u128; 3];
 
-/// An index is laid out over 25 places for the fifteenth text, or over 26 for the sixteenth if one lay beside the first index. If too many of them
-/// had a cell that went, it is laid out once more, over 32 for twenty.
-const AS_OTHERS: Bytes = [25 * 16, 26 * 16, 32 * 16];
+/// An index is laid out over 34 places for the seventeenth text, or over 36 for the eighteenth if one lay beside the first index. If too many of them
+/// had a cell that went, it is laid out once more, over 40 for twenty.
+const AS_OTHERS: Bytes = [34 * 16, 36 * 16, 40 * 16];
 
-/// An index of 15 places with sixteen beside it, of which eleven have a cell.
-const BESIDE: Bytes = [15 * 16 + 16 * 8; 3];
+/// An index of 18 places with sixteen beside it, of which eleven have a cell.
+const BESIDE: Bytes = [18 * 16 + 16 * 8; 3];
 
 /// The odd number nearest to 2^64 divided by the golden ratio, with which an index multiplies hashes under no key.
 const OPEN: u64 = 0x9E37_79B9_7F4A_7C15;

@@ -21,7 +21,7 @@ pub type Named<N> = NamedSet<EmptyStaticAtomSet, N>;
 pub type Words<'s, N> = Vec<Held<'s, EmptyStaticAtomSet, N>>;
 
 /// The bytes of a cell with a text of eight.
-const CELL: u128 = 40 + 8;
+const CELL: u128 = 32 + 8;
 
 /// The bytes of the eight places of a bucket without an index.
 const FEW: u128 = 8 * 8;
@@ -259,20 +259,20 @@ fn every_second_goes<N: SetName, R: Wait + Abort>(rt: &R, set: &Named<N>, count:
     is_half && are_found(rt, set, words.as_slice()) && evens_are_absent(rt, set, count)
 }
 
-/// An index of 3,000 cells has 3,706 places. A sweep lets it be as long as its cells would be given a quarter of them, and gives them five places
-/// for three cells then. One cell needs no index, and a place.
+/// An index of 3,000 cells has 5,802 places. A sweep lets it be as long as its cells would be given a quarter of them, and gives them two places for
+/// each then. One cell needs no index, and a place.
 fn shrinks<N: SetName, R: Wait + Abort>(rt: &R, set: &Named<N>) -> bool {
     let empty = set.memory(rt);
     let mut words = hold(rt, set, 3_000);
     sweep(rt, set);
-    let are_all = stand(rt, set, &words, empty, 3_706);
-    keep(&mut words, Order::Last, 556);
+    let are_all = stand(rt, set, &words, empty, 5_802);
+    keep(&mut words, Order::Last, 725);
     sweep(rt, set);
-    let are_more = stand(rt, set, &words, empty, 3_706);
-    keep(&mut words, Order::Last, 555);
-    let before = stand(rt, set, &words, empty, 3_706);
+    let are_more = stand(rt, set, &words, empty, 5_802);
+    keep(&mut words, Order::Last, 724);
+    let before = stand(rt, set, &words, empty, 5_802);
     sweep(rt, set);
-    let are_quarter = stand(rt, set, &words, empty, 925);
+    let are_quarter = stand(rt, set, &words, empty, 1_448);
     keep(&mut words, Order::Last, 1);
     sweep(rt, set);
     let is_one = takes(rt, set, empty, CELL + 8) && are_found(rt, set, words.as_slice());
@@ -292,16 +292,16 @@ fn one_comes<'s, N: SetName, R: Wait + Abort>(
     words.push(word).expect(rt, "room");
 }
 
-/// An index of 25 places has marks at some of them, once texts went and others came. With the 22nd that isn't empty it is laid out over 32, which is
-/// five for three of twenty, and so it is each time after.
+/// An index of 34 places has marks at some of them, once texts went and others came. With the 31st that isn't empty it is laid out over 40, which is
+/// two for each of twenty, and so it is each time after.
 fn is_laid_out_anew<N: SetName, R: Wait + Abort>(rt: &R, set: &Named<N>) -> bool {
     let empty = set.memory(rt);
     let mut words = hold(rt, set, 20);
-    let has_25 = stand(rt, set, &words, empty, 25);
+    let has_34 = stand(rt, set, &words, empty, 34);
     for turn in 0..1_000usize {
         one_comes(rt, set, &mut words, 20 + turn);
     }
-    has_25 && stand(rt, set, &words, empty, 32)
+    has_34 && stand(rt, set, &words, empty, 40)
 }
 
 fn is_answered<N: SetName, R: Wait + Abort>(rt: &R, set: &Named<N>, question: Question) -> bool {
@@ -341,8 +341,8 @@ fn is_so<R: Wait + Abort>(rt: &R, alloc: Global, question: Question) -> bool {
     is_so_as::<Brand, R>(rt, alloc, name, question)
 }
 
-/// How many texts come and go, and how many places the index has for them: five for three texts, of which an eighth stays empty.
-const COUNTS: [(usize, u128); 5] = [(8, 0), (9, 15), (14, 15), (15, 25), (23, 37)];
+/// How many texts come and go, and how many places the index has for them: two for each when it is laid out, of which an eighth stays empty.
+const COUNTS: [(usize, u128); 5] = [(8, 0), (9, 18), (16, 18), (17, 34), (31, 62)];
 
 fn come_in_order<R: Wait + Abort>(rt: &R, alloc: Global, order: Order) -> bool {
     for (count, places) in &COUNTS {
@@ -361,11 +361,11 @@ fn few_texts_come_and_go(rt: HostRuntime) {
     }
 }
 
-/// With the 4,732nd of them the index is given 7,886 places, which is five for each three of 4,732.
+/// With the 2,901st of them the index is given 5,802 places, which is two for each of 2,901.
 #[test]
 fn thousands_of_texts_come_and_go(rt: HostRuntime) {
     for order in &ORDERS {
-        let question = Question::Texts(5_000, 7_886, *order);
+        let question = Question::Texts(5_000, 5_802, *order);
         assert_for(&rt, is_so(&rt, rt.alloc(), question), order);
     }
 }
@@ -427,7 +427,8 @@ fn many_that_were_left_go_with_later_calls(rt: HostRuntime) {
 
 #[test]
 fn all_that_were_left_go_with_later_calls(rt: HostRuntime) {
-    assert_that(&rt, is_so(&rt, rt.alloc(), Question::AllLeft(14, 1)));
+    assert_that(&rt, is_so(&rt, rt.alloc(), Question::AllLeft(8, 1)));
+    assert_that(&rt, is_so(&rt, rt.alloc(), Question::AllLeft(14, 2)));
     assert_that(&rt, is_so(&rt, rt.alloc(), Question::AllLeft(40, 4)));
 }
 

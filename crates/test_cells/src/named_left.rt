@@ -39,7 +39,7 @@ pub fn one_goes_beside<N: SetName, R: Wait + Abort>(rt: &R, set: &Named<N>) -> b
     is_linked && held && links(rt, set, 38)
 }
 
-/// Cells that two visits left are out once four calls have looked at sixteen places each, since there are 56.
+/// Cells that two visits left are out once four calls have looked at sixteen places each, since there are 62.
 pub fn two_are_left<N: SetName, R: Wait + Abort>(rt: &R, set: &Named<N>) -> bool {
     let mut words = hold(rt, set, 40);
     leave(rt, set, &mut words, Order::First, 39);
@@ -53,7 +53,7 @@ fn has_at_least<N: SetName, R: Wait>(rt: &R, set: &Named<N>, count: u128) -> boo
     set.linked(rt) >= count
 }
 
-/// Each call looks at sixteen of their 56 places, so that four see all.
+/// Each call looks at sixteen of their 62 places, so that four see all.
 pub fn many_are_left<N: SetName, R: Wait + Abort>(rt: &R, set: &Named<N>, order: Order) -> bool {
     let mut words = hold(rt, set, 40);
     leave(rt, set, &mut words, order, 20);
@@ -63,7 +63,7 @@ pub fn many_are_left<N: SetName, R: Wait + Abort>(rt: &R, set: &Named<N>, order:
     are_linked && are_some_out && are_out && are_found(rt, set, words.as_slice())
 }
 
-/// Wherever one stands, so many calls take it out: one of 15 places, and four of 56.
+/// Wherever one stands, so many calls take it out: one of 8 places, two of 18, and four of 62.
 pub fn all_are_left<N: SetName, R: Wait + Abort>(
     rt: &R,
     set: &Named<N>,
@@ -107,13 +107,13 @@ fn hold_five<'s, N: SetName, R: Wait + Abort>(rt: &R, set: &'s Named<N>) -> Word
     words
 }
 
-/// With one more than 4,731 texts an index of 5,406 places is laid out over 7,886, while a call has looked at sixteen. Those behind it look at all
-/// of these: 493 have sixteen each.
+/// With one more than 2,900 texts an index of 3,314 places is laid out over 5,802, while a call has looked at sixteen. Those behind it look at all
+/// of these: 363 have sixteen each.
 pub fn are_left_as_it_grows<N: SetName, R: Wait + Abort>(rt: &R, set: &Named<N>) -> bool {
-    let mut words = hold(rt, set, 4_731);
-    leave(rt, set, &mut words, Order::First, 4_531);
+    let mut words = hold(rt, set, 2_900);
+    leave(rt, set, &mut words, Order::First, 2_700);
     let more = hold_five(rt, set);
-    let are_out = look(rt, set, 493) && links(rt, set, 4_536);
+    let are_out = look(rt, set, 363) && links(rt, set, 2_705);
     drop(more);
     are_out && are_found(rt, set, words.as_slice())
 }

@@ -125,7 +125,7 @@ impl<'s, Static: StaticTables> Held<'s, Static> {
     pub fn ticket(&self) -> u64
         ensures { result ≡ self.now.ticket }
     {
-        self.own.share.label().ticket
+        self.own.share.ticket()
     }
 
     /// The entry's text.
@@ -140,7 +140,7 @@ impl<'s, Static: StaticTables> Held<'s, Static> {
     pub fn text_hash(&self) -> u64
         ensures { result ≡ self.now.hash }
     {
-        self.own.share.label().hash
+        self.own.share.hash()
     }
 
     /// A permit for one more share. The entry's cell must get more, as each that a set interned does. It does nothing when it runs.

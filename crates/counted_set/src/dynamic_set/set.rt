@@ -202,7 +202,7 @@ impl<Static: StaticTables> Set<Static> {
     pub(super) fn give_back(&self, share: CellShare) -> Receipt
         ensures { (result.name ≡ share.cell.name) × (result.number ≡ share.number) }
     {
-        let hash = share.label().hash;
+        let hash = share.hash();
         let (receipt, last) = share.give().parts();
         if last.is_some() {
             self.try_prune(hash);

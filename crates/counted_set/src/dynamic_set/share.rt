@@ -67,7 +67,7 @@ impl Entry {
     pub fn ticket(&self) -> u64
         ensures { result ≡ self.now.ticket }
     {
-        self.owner.label().ticket
+        self.owner.ticket()
     }
 
     /// The text.
@@ -79,7 +79,7 @@ impl Entry {
 
     /// The bytes of its cell, including the text.
     pub(super) fn cell_size(&self) -> usize
-        ensures exact { result ≡ block_size (length self.now.text) }
+        ensures exact { result ≡ block_size self.now.limit (length self.now.text) }
         ensures few { result < 2 ^ 63 }
     {
         self.owner.block_size()
@@ -94,7 +94,7 @@ impl Entry {
     pub(super) fn has_hash(&self, hash: u64) -> bool
         ensures { IsTrue result ↔ (self.now.hash ≡ hash) }
     {
-        self.owner.label().hash == hash
+        self.owner.hash() == hash
     }
 
     /// Whether it is the entry of a text with this hash.
@@ -228,7 +228,7 @@ impl Share {
     pub fn ticket(&self) -> u64
         ensures { result ≡ self.now.ticket }
     {
-        self.own.share.label().ticket
+        self.own.share.ticket()
     }
 
     /// The entry's text.

@@ -198,7 +198,7 @@ fn is_visited<R: Wait + Print>(
     begin(rt);
     let (holders, bytes) = (holders(rt, set), set.memory(rt));
     finish(rt, End::Given);
-    holders == 1 && bytes == 4096 * 32 + 48 + 48 && atom.as_str() == "interned"
+    holders == 1 && bytes == 4096 * 32 + 48 + 32 + 8 && atom.as_str() == "interned"
 }
 
 #[test]

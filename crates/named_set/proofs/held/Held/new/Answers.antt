@@ -6,4 +6,4 @@ use Rattle.named_set.proofs.held.Held.new.Goals as goal
 pub invariant_of-result-2 : goal.invariant_of-result-2
 invariant_of-result-2 g c =
     let cell = c.args.share.cell in
-    (ap (λ l. l.ticket) c.label.ensures, ticket_seen g.Static.StaticTables.tables g.N.SetName.logs c.args.seen cell cell.text cell.label.ticket c.requires.seen refl refl, c.requires.grows)
+    (c.ticket.ensures, ticket_seen g.Static.StaticTables.tables g.N.SetName.logs c.args.seen cell cell.text cell.label.ticket c.requires.seen refl refl, c.requires.grows)

@@ -1,4 +1,4 @@
-use Rattle.std.proofs.Common.{◌≡◌, ◌∙◌, ◌∷◌, ◌+◌, List, Option, length, map, ap, subst, sym, arith}
+use Rattle.std.proofs.Common.{◌≡◌, ◌∙◌, ◌∷◌, ◌+◌, ℕ, List, Option, length, map, ap, subst, sym, arith}
 use Rattle.std.specs.List.Sorted.{IsPermutation}
 use Rattle.counted_cell.specs.Cell.{Cell}
 use Rattle.counted_cell.specs.declared.label.Label.{Label}
@@ -27,7 +27,7 @@ invariant_of-self-2 c =
     let inside = c.self.inside in
     let new = c.put_full.new.slots in
     let more = put_more inside.slots.items c.as_mut_slice.result.now new c.short_of-short.result c.args.owner c.as_mut_slice.ensures.value c.in_ok-was_empty.ensures.put in
-    let hash = c.short_of-short.ensures ∙ ap (λ (l : Label). short_hash inside.key.multiplier l.hash) c.label.ensures in
+    let hash = c.short_of-short.ensures ∙ ap (λ (h : ℕ). short_hash inside.key.multiplier h) c.hash.ensures in
     let len = sym (more.places ∙ sym (ap length c.as_mut_slice.ensures.value) ∙ c.as_mut_slice.ensures.len) in
     subst (λ (slots : List Slot). IsIndex inside.key.multiplier slots × (inside.cells + 1 ≡ length (cells_in (map cell_at slots)))) (written new inside.slots.items inside.slots.len len)
     (more.index inside.key.multiplier c.self.invariant.0 hash, omega (arith, more.count, c.self.invariant.1))
