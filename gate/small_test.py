@@ -1,11 +1,12 @@
 #!/usr/bin/env python3
 """Tries what no other part of the test command tries: the pictures of docs/ are what the scripts draw of the stored figures, the number of
-checks side by side is one that the machine has processors for, gate/pages/pages.py tells of a page of definitions that doesn't say what the sources
-say, and gate/quick.py, over a small crate, passes what is right and nothing else.
+checks side by side is one that the machine has processors for, a module's time is that since the one before, gate/pages/pages.py tells of a page of
+definitions that doesn't say what the sources say, and gate/quick.py, over a small crate, passes what is right and nothing else.
 
 usage: gate/small_test.py
 """
 
+import os
 import re
 import subprocess
 import sys
@@ -18,6 +19,7 @@ import find_modules  # has Python find the next ones
 import definitions
 import machine
 import pages
+import proof_times
 import quick
 import repository
 import run_tests
@@ -74,6 +76,18 @@ class Machine(unittest.TestCase):
             for name, bytes_ in (("memory.max", 5000), ("memory.current", 3000)):
                 (Path(room) / name).write_text(f"{bytes_}\n", encoding="ascii")
             self.assertEqual(machine.free_memory(), 2000)
+
+
+class ProofTimes(unittest.TestCase):
+    def test_a_module_took_the_time_since_the_one_before(self):
+        modules = {"first": 1, "first.Lts": 2, "a.Type.next.Lts": 5, "a.Type.next.Tie.decls": 9}
+        with tempfile.TemporaryDirectory(prefix="times-") as room:
+            for module, at in modules.items():
+                file = Path(room) / f"Rattle-few-proofs.{module}.oantt"
+                file.touch()
+                os.utime(file, (at, at))
+            told = list(proof_times.lines_of(proof_times.times_of(Path(room), "few"), 1))
+        self.assertEqual(told, ["     8.0 s in all", "     7.0 s a.Type.next: Tie 4.0, Lts 3.0"])
 
 
 class Definitions(unittest.TestCase):

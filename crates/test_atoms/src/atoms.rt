@@ -1,18 +1,15 @@
 //! What no contract says: words and texts that come from outside, and sets that threads share.
 
 use crate::assert_that;
-use crate::samples::{intern, new_set};
+use crate::samples::{are_equal, crosses, intern, is_one, new_set};
 use crate::scenes::Step;
 use crate::sets::{USUAL, play};
 use std::process::Abort;
 use std::sync::Wait;
 use std::thread::{self, Threads};
 use string_cache::{Atom, DefaultAtom};
-use test_calls::{DefaultSet, are_one, has_text};
+use test_calls::{DefaultSet, has_text};
 use test_samples::One;
-
-/// Compiles only for what threads may share and send.
-fn crosses<T: Send + Sync>(_value: &T) {}
 
 /// Texts that are inline, and their words.
 const INLINE: [Step; 7] = [
@@ -46,7 +43,7 @@ fn dynamic_atoms(rt: HostRuntime) {
 }
 
 /// Whether atoms of the two texts, from two sets, are equal.
-fn are_equal<'s, R: Wait + Abort>(
+fn have_equal_atoms<'s, R: Wait + Abort>(
     rt: &R,
     left: (&'s DefaultSet, &str),
     right: (&'s DefaultSet, &str),
@@ -60,11 +57,11 @@ fn atoms_of_two_sets(rt: HostRuntime) {
     let other = new_set(&rt, rt.alloc());
     assert_that(
         &rt,
-        are_equal(&rt, (&one, "abcdefgh"), (&other, "abcdefgh")),
+        have_equal_atoms(&rt, (&one, "abcdefgh"), (&other, "abcdefgh")),
     );
     assert_that(
         &rt,
-        !are_equal(&rt, (&one, "abcdefgh"), (&other, "interned")),
+        !have_equal_atoms(&rt, (&one, "abcdefgh"), (&other, "interned")),
     );
 }
 
@@ -83,18 +80,11 @@ fn intern_both<'s, R: Wait + Abort>(rt: &R, set: &'s DefaultSet, own: &str) -> B
     (intern(rt, set, "tokenised"), intern(rt, set, own))
 }
 
-/// Whether two threads have the same atom of the text that both interned.
-fn is_shared(left: &DefaultAtom<'_>, right: &DefaultAtom<'_>) -> bool {
-    let is_equal = left == right;
-    let is_one = are_one(left, right);
-    is_equal && is_one
-}
-
-/// Whether they have, and atoms of texts of their own.
+/// Whether two threads have the same atom of the text that both interned, and atoms of texts of their own.
 fn are_shared(left: &Both<'_>, right: &Both<'_>) -> bool {
     crosses(left);
-    is_shared(&left.0, &right.0)
-        && left.1 != right.1
+    is_one(&left.0, &right.0)
+        && !are_equal(&left.1, &right.1)
         && has_text(&left.1, "sentence")
         && has_text(&right.1, "repeated")
 }

@@ -10,7 +10,7 @@ use std::process::Abort;
 use std::sync::Wait;
 use string_cache::SharedSet;
 use string_cache::word::Buckets;
-use test_calls::{DefaultSet, has_word, look_up, made_with};
+use test_calls::{DefaultSet, has_word, is_found, made_with};
 
 fn set_of(rt: &impl Abort, alloc: Global, buckets: Buckets) -> DefaultSet {
     made_with(alloc, buckets).expect(rt, "a set")
@@ -25,18 +25,10 @@ fn has_one_entry<R: Wait>(rt: &R, set: &DefaultSet, number: usize, place: usize)
     is_right
 }
 
-/// Whether the text is found with this word.
-fn is_found<S: SharedSet, R: Wait>(rt: &R, set: S, word: u64) -> bool {
-    match look_up(rt, set, "interned") {
-        Ok(Some(atom)) => has_word(&atom, word),
-        _ => false,
-    }
-}
-
 /// Whether the text's first word is this one, and it is found with it.
 fn comes_first<S: SharedSet, R: Wait + Abort>(rt: &R, set: S, first: u64) -> bool {
     let atom = intern(rt, set, "interned");
-    has_word(&atom, first) && is_found(rt, set, first)
+    has_word(&atom, first) && is_found(rt, set, "interned", first)
 }
 
 /// Checks that the text's first word is this one, and that the next one has the next serial.

@@ -1,6 +1,6 @@
 //! Dynamic texts of each sort in each call that takes one, in what the set tells about them, and in each way in which they go.
 
-use crate::samples::{clone_of, intern};
+use crate::samples::{clone_of, end, intern, is_absent};
 use crate::sets::{self, ONE_BUCKET, Size, ask};
 use crate::texts::{is_cloned, is_of_each_owner, is_same, json_copy, lower_of, upper_of};
 use crate::{assert_for, assert_that};
@@ -39,11 +39,6 @@ fn is_found_as<S: SharedSet, R: Wait>(rt: &R, set: S, atom: &SetAtom<S::Held>, t
         Ok(Some(found)) => has_text(&found, text) && is_same(atom, found),
         _ => false,
     }
-}
-
-/// Whether the text isn't found.
-fn is_absent<S: SharedSet, R: Wait>(rt: &R, set: S, text: &str) -> bool {
-    matches!(look_up(rt, set, text), Ok(None))
 }
 
 /// Whether each call that is given the text gives the atom.
@@ -138,11 +133,6 @@ fn is_seen<S: SharedSet, R: Wait + Abort>(rt: &R, set: S, text: &str) -> bool {
     let is_seen = is_seen_with(rt, set, text, 1);
     let _second = clone_of(rt, &atom);
     is_seen && is_seen_with(rt, set, text, 2)
-}
-
-/// Drops what there is.
-fn end<T: Drop>(last: &mut Option<T>) {
-    *last = None;
 }
 
 /// Lets the text's atom go while a visit has its bucket's lock. Returns whether the text is then still linked, without a holder.

@@ -2,7 +2,7 @@
 
 mod many;
 
-use crate::samples::{check_linked, intern, new_set};
+use crate::samples::{check_linked, crosses, end, intern, new_set};
 use crate::sets::{self, ONE_BUCKET, Size, USUAL, ask, within};
 use crate::together::Together;
 use crate::{assert_for, assert_that};
@@ -342,11 +342,6 @@ fn each_push_takes_one_ticket(rt: HostRuntime) {
     play_both(&rt, rt.alloc(), USUAL, Scene::Tickets);
 }
 
-/// Drops what there is.
-fn end<T: Drop>(last: &mut Option<T>) {
-    *last = None;
-}
-
 fn end_under_lock<S: SharedSet, R: Wait + Abort>(rt: &R, set: S) {
     let mut last = Some(list_of(rt, set, &["interned", "geometric"]));
     set.for_each(rt, |_, _| end(&mut last));
@@ -431,9 +426,6 @@ fn fill_in_two<S: SharedSet + Together + Send + Sync, R: Threads + Wait + Abort 
 fn two_threads_fill_lists_of_one_set(rt: HostRuntime) {
     play_both(&rt, rt.alloc(), USUAL, Scene::TwoThreads);
 }
-
-/// Compiles only for what threads may share and send.
-fn crosses<T: Send + Sync>(_value: &T) {}
 
 fn end_in_another<R: Threads + Wait + Abort + Sync>(rt: &R, set: &Set<One>) {
     let list = list_of(rt, set, &["interned", "Überfluß"]);

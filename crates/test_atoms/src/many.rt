@@ -1,7 +1,7 @@
 //! More holders, entries and serials of one bucket than 16 bits count, and many texts of one bucket that die.
 
 use crate::assert_that;
-use crate::samples::{check_linked, clone_of, intern, word_of};
+use crate::samples::{check_linked, clone_of, end, intern, word_of};
 use crate::sets::{self, Kind, ONE_BUCKET, ask};
 use std::alloc::Global;
 use std::ops::Range;
@@ -142,11 +142,6 @@ fn hold_many<S: SharedSet, R: Wait + Abort>(rt: &R, set: S, kind: Kind) {
 #[test]
 fn one_bucket_has_thousands_of_texts(rt: HostRuntime) {
     check_both(&rt, rt.alloc(), Question::Texts);
-}
-
-/// Drops what there is.
-fn end<T: Drop>(last: &mut Option<T>) {
-    *last = None;
 }
 
 /// Lets 300 texts die while a visit has the lock of their bucket, in which this many others are held.

@@ -8,7 +8,7 @@ use string_cache::dynamic_set::Set;
 use string_cache::static_sets::StaticTables;
 use string_cache::word::Buckets;
 use string_cache::{AtomKind, SetAtom, SharedSet, TextSet};
-use test_calls::{cloned, interned, links, made};
+use test_calls::{are_one, cloned, interned, links, look_up, made};
 
 /// The buckets with this many bits.
 pub fn buckets_of(rt: &impl Abort, bits: u8) -> Buckets {
@@ -33,6 +33,34 @@ pub fn intern<S: TextSet, R: Wait + Abort>(rt: &R, set: S, text: &str) -> SetAto
 pub fn clone_of<H: AtomKind, R: Wait + Abort>(rt: &R, atom: &SetAtom<H>) -> SetAtom<H> {
     cloned(rt, atom).expect(rt, "an atom")
 }
+
+/// Whether both atoms are equal.
+pub fn are_equal<H: AtomKind>(one: &SetAtom<H>, other: &SetAtom<H>) -> bool {
+    *one == *other
+}
+
+/// Whether both atoms have the same word, and are equal.
+pub fn is_one<H: AtomKind>(one: &SetAtom<H>, other: &SetAtom<H>) -> bool {
+    are_one(one, other) && are_equal(one, other)
+}
+
+/// Whether the text isn't found.
+pub fn is_absent<S: SharedSet, R: Wait>(rt: &R, set: S, text: &str) -> bool {
+    matches!(look_up(rt, set, text), Ok(None))
+}
+
+/// A text that is owned.
+pub fn owned(rt: &impl Abort, alloc: Global, text: &str) -> String {
+    String::from_str(alloc, text).expect(rt, "a text")
+}
+
+/// Drops what there is.
+pub fn end<T: Drop>(last: &mut Option<T>) {
+    *last = None;
+}
+
+/// Compiles only for what threads may share and send.
+pub fn crosses<T: Send + Sync>(_value: &T) {}
 
 /// Checks that this many texts are linked.
 pub fn check_linked<S: SharedSet, R: Wait + Abort>(rt: &R, set: S, count: u128) {

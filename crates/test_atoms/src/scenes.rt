@@ -2,16 +2,16 @@
 //! test has none of its own.
 
 use crate::assert_for;
+use crate::samples::{intern, is_absent, is_one, owned};
 use crate::sets::Kind;
 use serde_json::Value;
-use std::alloc::Global;
 use std::borrow::CowStr;
 use std::process::Abort;
 use std::sync::Wait;
 use string_cache::{AtomKind, Fault, SetAtom, SharedSet, TextSet};
 use test_calls::{
-    are_one, cloned, copied, has_text, has_word, interned, interned_cow, interned_owned, is_of,
-    json_of, links, look_up, lowered, raised, read_json,
+    cloned, copied, has_text, has_word, interned, interned_cow, interned_owned, is_of, json_of,
+    links, look_up, lowered, raised, read_json,
 };
 
 /// A step of a scene: what is done, or what must be so. Its atoms have numbers, in the order in which they are made: 0 is the first.
@@ -88,14 +88,8 @@ fn found<S: SharedSet, R: Wait + Abort>(
     set: S,
     text: &str,
 ) -> Result<SetAtom<S::Held>, Fault> {
-    match look_up(rt, set, text) {
-        Ok(atom) => Ok(atom.expect(rt, "an atom")),
-        Err(fault) => Err(fault),
-    }
-}
-
-fn owned(rt: &impl Abort, alloc: Global, text: &str) -> String {
-    String::from_str(alloc, text).expect(rt, "a text")
+    let atom = look_up(rt, set, text)?;
+    Ok(atom.expect(rt, "an atom"))
 }
 
 /// The atom of a JSON text.
@@ -104,7 +98,10 @@ fn read<S: SharedSet, R: Wait + Abort>(
     set: S,
     text: &str,
 ) -> Result<SetAtom<S::Held>, Fault> {
-    read_json(rt, set, &Value::String(owned(rt, set.allocator(), text)))
+    let value = Value::String(owned(rt, set.allocator(), text));
+    let atom = read_json(rt, set, &value);
+    drop(value);
+    atom
 }
 
 /// The atom, there and back as JSON.
@@ -114,7 +111,9 @@ fn again<S: SharedSet, R: Wait + Abort>(
     atom: &SetAtom<S::Held>,
 ) -> Result<SetAtom<S::Held>, Fault> {
     let value = json_of(atom, set.allocator()).expect(rt, "a value");
-    read_json(rt, set, &value)
+    let again = read_json(rt, set, &value);
+    drop(value);
+    again
 }
 
 /// What a call that takes a text returns, or why it is refused.
@@ -207,10 +206,6 @@ fn sweep<S: SharedSet, R: Wait>(rt: &R, set: S) {
     set.sweep(rt);
 }
 
-fn is_one<H: AtomKind>(one: &SetAtom<H>, other: &SetAtom<H>) -> bool {
-    are_one(one, other) && one == other
-}
-
 fn have_word<H: AtomKind>(atoms: &[SetAtom<H>], word: u64) -> bool {
     for atom in atoms {
         if !has_word(atom, word) {
@@ -230,15 +225,11 @@ fn is_refused<S: SharedSet, R: Wait + Abort>(
     called(rt, set, atoms, call).err() == Some(fault)
 }
 
-fn is_absent<S: SharedSet, R: Wait + Abort>(rt: &R, set: S, text: &str) -> bool {
-    look_up(rt, set, text).expect(rt, "an answer").is_none()
-}
-
-fn gets_word<S: SharedSet, R: Wait>(rt: &R, set: S, text: &str, word: u64) -> bool {
-    match interned(rt, set, text) {
-        Ok(atom) => is_of(&atom, word, text),
-        Err(_) => false,
-    }
+fn gets_word<S: SharedSet, R: Wait + Abort>(rt: &R, set: S, text: &str, word: u64) -> bool {
+    let atom = intern(rt, set, text);
+    let is_right = is_of(&atom, word, text);
+    drop(atom);
+    is_right
 }
 
 /// The texts that are linked, each with the number of its holders.

@@ -2,7 +2,7 @@
 
 mod keys;
 
-use crate::samples::{clone_of, intern};
+use crate::samples::{clone_of, intern, is_one, owned};
 use crate::sets::{self, USUAL, ask};
 use crate::{assert_for, assert_that};
 use std::alloc::Global;
@@ -177,7 +177,9 @@ fn without_case_of_a_text(rt: HostRuntime) {
 
 /// Whether the clone, which goes, has the atom's word, and this text.
 fn is_clone<H: AtomKind>(clone: SetAtom<H>, atom: &SetAtom<H>, text: &str) -> bool {
-    are_one(&clone, atom) && has_text(&clone, text)
+    let is_clone = are_one(&clone, atom) && has_text(&clone, text);
+    drop(clone);
+    is_clone
 }
 
 /// Whether both calls clone the atom of the text.
@@ -203,11 +205,9 @@ fn clones(rt: HostRuntime) {
 
 /// Whether the other, which goes, is dynamic as the atom is, and equal to it.
 pub fn is_same<H: AtomKind>(atom: &SetAtom<H>, other: SetAtom<H>) -> bool {
-    other.is_dynamic() && other == *atom && are_one(&other, atom)
-}
-
-fn owned(rt: &impl Abort, alloc: Global, text: &str) -> String {
-    String::from_str(alloc, text).expect(rt, "a text")
+    let is_same = other.is_dynamic() && is_one(&other, atom);
+    drop(other);
+    is_same
 }
 
 fn is_owned<S: SharedSet, R: Wait + Abort>(

@@ -1,7 +1,7 @@
 //! Threads at work on one set, and on one text.
 
 use crate::assert_that;
-use crate::samples::{check_linked, clone_of, intern};
+use crate::samples::{are_equal, check_linked, clone_of, intern};
 use crate::sets::{self, Size, USUAL, ask, within};
 use crate::together::Together;
 use std::alloc::Global;
@@ -47,7 +47,7 @@ fn play_both<R: Threads + Clock + Wait + Abort + Sync>(
 
 /// Whether a clone is equal to its atom, and has the text.
 fn is_clone<H: AtomKind>(clone: &SetAtom<H>, atom: &SetAtom<H>, text: &str) -> bool {
-    clone == atom && has_text(clone, text)
+    are_equal(clone, atom) && has_text(clone, text)
 }
 
 /// Interns, clones and drops a text. Returns whether both atoms were equal, and had it.

@@ -138,7 +138,11 @@ fn is_found<S: SharedSet, R: Wait + Abort>(rt: &R, set: S, text: &str) -> bool {
 /// Whether the text is found.
 fn is_there<S: SharedSet, R: Wait>(rt: &R, set: S, text: &str) -> bool {
     match look_up(rt, set, text) {
-        Ok(Some(found)) => has_text(&found, text),
+        Ok(Some(found)) => {
+            let is_there = has_text(&found, text);
+            drop(found);
+            is_there
+        }
         _ => false,
     }
 }

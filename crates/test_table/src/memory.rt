@@ -91,7 +91,9 @@ const TEXTS: [(&str, u128); 6] = [
 
 fn has_memory(rt: &impl Abort, alloc: Global, texts: &str, bytes: u128) -> bool {
     let mut table = one_bucket(rt, alloc);
-    are_interned(&mut table, texts) && takes(&table, bytes)
+    let is_right = are_interned(&mut table, texts) && takes(&table, bytes);
+    drop(table);
+    is_right
 }
 
 #[test]
@@ -103,7 +105,9 @@ fn memory_of_texts(rt: HostRuntime) {
 
 fn takes_as_made(rt: &impl Abort, alloc: Global, bytes: u128) -> bool {
     let table = plain(rt, alloc);
-    takes(&table, bytes)
+    let is_right = takes(&table, bytes);
+    drop(table);
+    is_right
 }
 
 #[test]
@@ -142,11 +146,13 @@ fn takes_numbered(
 fn keeps_groups(rt: &impl Abort, alloc: Global, number: usize, groups: u32) -> bool {
     let mut table = one_bucket(rt, alloc);
     let empty = empty_bytes(1, groups);
-    takes_numbered(rt, alloc, &mut table, number, empty)
+    let is_right = takes_numbered(rt, alloc, &mut table, number, empty)
         && loses_numbered(rt, alloc, &mut table, number)
         && takes(&table, empty)
         && interns(&mut table, "tokenised")
-        && takes(&table, empty.saturating_add(9))
+        && takes(&table, empty.saturating_add(9));
+    drop(table);
+    is_right
 }
 
 #[test]
@@ -172,7 +178,9 @@ fn keeps_room(
 /// Whether a table that is made with room for this many texts has this many groups.
 fn has_room(rt: &impl Abort, alloc: Global, number: usize, groups: u32) -> bool {
     let mut table = Plain::with_capacity(alloc, keys_of(rt, 1), number).expect(rt, "a table");
-    keeps_room(rt, alloc, &mut table, number, empty_bytes(4096, groups))
+    let is_right = keeps_room(rt, alloc, &mut table, number, empty_bytes(4096, groups));
+    drop(table);
+    is_right
 }
 
 #[test]
@@ -194,7 +202,9 @@ fn takes_with_room(table: &mut Plain, number: usize, filled: u128, empty: u128) 
 fn one_bucket_takes_with_room(rt: &impl Abort, alloc: Global, number: usize, groups: u32) -> bool {
     let mut table = one_bucket(rt, alloc);
     let empty = empty_bytes(1, groups);
-    takes_with_room(&mut table, number, empty.saturating_add(8), empty)
+    let is_right = takes_with_room(&mut table, number, empty.saturating_add(8), empty);
+    drop(table);
+    is_right
 }
 
 /// Room for 1000 texts in a table with one, which is 128 groups, and for 150,000.
@@ -213,9 +223,11 @@ fn takes_no_more(table: &mut Plain, bytes: u128) -> bool {
 /// Whether a table that is made with room for no text takes what its buckets do, and one more text its own group.
 fn takes_no_room(rt: &impl Abort, alloc: Global) -> bool {
     let mut table = Plain::with_capacity(alloc, keys_of(rt, 1), 0).expect(rt, "a table");
-    takes_no_more(&mut table, 4096 * BUCKET)
+    let is_right = takes_no_more(&mut table, 4096 * BUCKET)
         && interns(&mut table, "interned")
-        && takes_no_more(&mut table, empty_bytes(4096, 1).saturating_add(8))
+        && takes_no_more(&mut table, empty_bytes(4096, 1).saturating_add(8));
+    drop(table);
+    is_right
 }
 
 #[test]
@@ -235,7 +247,9 @@ fn keeps_cleared_groups(
     let is_right = interns_numbered(rt, alloc, &mut table, number)
         && loses_numbered(rt, alloc, &mut table, lost);
     table.clear();
-    is_right && takes(&table, empty_bytes(1, groups))
+    let is_right = is_right && takes(&table, empty_bytes(1, groups));
+    drop(table);
+    is_right
 }
 
 /// Of a table that is full, that lost some texts, and that lost all.
@@ -289,7 +303,11 @@ fn names_keep_room(rt: &impl Abort, alloc: Global, number: usize, empty: u128) -
     let mut table = one_bucket(rt, alloc);
     let is_right = interns_numbered(rt, alloc, &mut table, number);
     let mut names = Names::of_table(table);
-    is_right && loses_names(rt, alloc, &mut names, number) && names_take(&mut names, empty)
+    let is_right = is_right
+        && loses_names(rt, alloc, &mut names, number)
+        && names_take(&mut names, empty);
+    drop(names);
+    is_right
 }
 
 #[test]

@@ -470,4 +470,5 @@ pub fn check_with(rt: &impl Abort, alloc: Global, limits: Limits, buckets: Bucke
 pub fn check_with_room(rt: &impl Abort, alloc: Global, number: usize, rows: &[Row]) {
     let mut table = Plain::with_capacity(alloc, keys_of(rt, 1), number).expect(rt, "a table");
     follow(rt, alloc, &mut table, rows);
+    drop(table);
 }

@@ -170,7 +170,9 @@ fn is_kept_till_given(rt: &impl Abort, table: &mut Plain, text: &str, bytes: u12
 
 fn is_kept_in_a_new_table(rt: &impl Abort, alloc: Global, text: &str, bytes: u128) -> bool {
     let mut table = plain(rt, alloc);
-    is_kept_till_given(rt, &mut table, text, bytes)
+    let is_right = is_kept_till_given(rt, &mut table, text, bytes);
+    drop(table);
+    is_right
 }
 
 #[test]
@@ -236,7 +238,9 @@ fn gives_one_ticket_of(
     let mut table = Table::with_buckets(alloc, keys_of(rt, 1), limits_of(rt, 1, 1), buckets).expect(
         rt, "a table",
     );
-    gives_one_ticket(rt, &mut table, first, second)
+    let is_right = gives_one_ticket(rt, &mut table, first, second);
+    drop(table);
+    is_right
 }
 
 /// Whether that is so for two texts of one of the buckets.

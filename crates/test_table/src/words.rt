@@ -250,13 +250,17 @@ fn is_named_and_found(rt: &impl Abort, functions: &mut Names<Function>, text: &s
 
 fn are_files(rt: &impl Abort, alloc: Global) -> bool {
     let mut files = new_names(rt, alloc);
-    is_named_till_the_last(rt, &mut files, "source/main.rt")
+    let is_right = is_named_till_the_last(rt, &mut files, "source/main.rt");
+    drop(files);
+    is_right
 }
 
 fn are_functions(rt: &impl Abort, alloc: Global) -> bool {
     let mut functions = new_names(rt, alloc);
-    is_named_and_found(rt, &mut functions, "main_function")
-        && finds_none(&functions, "another_name", 0)
+    let is_right = is_named_and_found(rt, &mut functions, "main_function")
+        && finds_none(&functions, "another_name", 0);
+    drop(functions);
+    is_right
 }
 
 #[test]
@@ -300,7 +304,9 @@ fn clones(table: &mut Plain, word: u64) -> bool {
 
 fn is_looked_up_in_a_new_table(rt: &impl Abort, alloc: Global, text: &str) -> bool {
     let mut table = plain(rt, alloc);
-    is_looked_up(&mut table, text)
+    let is_right = is_looked_up(&mut table, text);
+    drop(table);
+    is_right
 }
 
 #[test]
@@ -328,7 +334,9 @@ fn prints(alloc: Global, names: &Names<File>, name: Name<File>, wanted: &str) ->
 fn print(rt: &impl Abort, alloc: Global) -> bool {
     let mut files = new_names(rt, alloc);
     let name = name_of(rt, &mut files, "é\"j");
-    prints(alloc, &files, name, "   é\"j|\"é\\\"j\"|Name(0x6a22a9c341)")
+    let is_right = prints(alloc, &files, name, "   é\"j|\"é\\\"j\"|Name(0x6a22a9c341)");
+    drop(files);
+    is_right
 }
 
 #[test]
@@ -345,14 +353,18 @@ fn are_ordered(first: Name<File>, second: Name<File>) -> bool {
 fn have_hashes(alloc: Global, first: Name<File>, second: Name<File>) -> bool {
     let mut lines = HashMap::new(alloc);
     let room: Result<_, _> = lines.insert(first, 7);
-    room.is_ok() && lines.get(&first) == Some(&7) && lines.get(&second).is_none()
+    let is_right = room.is_ok() && lines.get(&first) == Some(&7) && lines.get(&second).is_none();
+    drop(lines);
+    is_right
 }
 
 fn order_and_hash(rt: &impl Abort, alloc: Global) -> bool {
     let mut files = new_names(rt, alloc);
     let first = name_of(rt, &mut files, "a");
     let second = name_of(rt, &mut files, "b");
-    are_ordered(first, second) && have_hashes(alloc, first, second)
+    let is_right = are_ordered(first, second) && have_hashes(alloc, first, second);
+    drop(files);
+    is_right
 }
 
 #[test]
