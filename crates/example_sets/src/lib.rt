@@ -31,7 +31,6 @@ pub use sets::large_set;
 pub use sharing::{agree, agree_in_scope};
 use std::alloc::Global;
 use std::cmp::Ordering;
-use std::collections::HashMap;
 use std::hash::RandomState;
 use std::sync::Wait;
 use string_cache::dynamic_set::Set;
@@ -69,15 +68,29 @@ pub fn compare_names<R: Wait>(
     let set = Set::new(alloc)?;
     let first = DefaultAtom::from_str_in(rt, &set, first)?;
     let second = DefaultAtom::from_str_in(rt, &set, second)?;
-    let capitals = first.to_ascii_uppercase_in(rt, &set)?;
-    let mut prices = HashMap::with_hasher(alloc, keys);
-    prices.insert(first.clone_atom(rt)?, price)?;
     Ok(Compared {
         is_same: first == second,
         order: first.cmp(&second),
-        is_in_capitals: capitals == second,
-        price: prices.get(&second).copied(),
+        is_in_capitals: first.to_ascii_uppercase_in(rt, &set)? == second,
+        price: price_beside(rt, alloc, keys, &first, price, &second)?,
     })
+}
+
+/// What a map that has a price for the first name alone has for the second.
+fn price_beside<R: Wait>(
+    rt: &R,
+    alloc: Global,
+    keys: RandomState,
+    first: &DefaultAtom,
+    price: u32,
+    second: &DefaultAtom,
+) -> Result<Option<u32>, Fault>
+    ensures same { IfOk result (λ found. first.now.text ≡ second.now.text → found ≡ Some price) }
+    ensures other { IfOk result (λ found. first.now.text ≢ second.now.text → found ≡ None) }
+{
+    let mut prices = no_prices(alloc, keys);
+    set_price(&mut prices, first.clone_atom(rt)?, price)?;
+    Ok(price_of(&prices, second))
 }
 
 /// What a text stands for, matched by `as_str`.
