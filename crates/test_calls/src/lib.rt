@@ -8,6 +8,7 @@ ghost use Rattle.text_forms.specs.Tables.{entry_hash};
 use serde_json::Value;
 use std::alloc::Global;
 use std::borrow::CowStr;
+use std::convert::AsStr;
 use std::sync::{MutexGuard, Wait};
 use string_cache::atom::AtomOf;
 use string_cache::dynamic_set::{Bucket, Set};
@@ -159,24 +160,36 @@ pub fn refusal<S: TextSet, R: Wait>(rt: &R, set: S, text: &str) -> Option<Fault>
     interned(rt, set, text).err()
 }
 
+/// What has a word. What only asks for words and texts takes any such type, since it takes long to prove what an atom's own says of sets.
+pub trait HasWord {
+    /// The word.
+    fn own_word(&self) -> u64;
+}
+
+impl<H: AtomKind> HasWord for SetAtom<H> {
+    fn own_word(&self) -> u64 {
+        self.unsafe_data()
+    }
+}
+
 /// Whether the atom has this word.
-pub fn has_word<H: AtomKind>(atom: &SetAtom<H>, word: u64) -> bool {
-    atom.unsafe_data() == word
+pub fn has_word<A: HasWord>(atom: &A, word: u64) -> bool {
+    atom.own_word() == word
 }
 
 /// Whether the atom has this text.
-pub fn has_text<H: AtomKind>(atom: &SetAtom<H>, text: &str) -> bool {
+pub fn has_text<A: AsStr>(atom: &A, text: &str) -> bool {
     atom.as_str() == text
 }
 
 /// Whether the atom has this word and this text.
-pub fn is_of<H: AtomKind>(atom: &SetAtom<H>, word: u64, text: &str) -> bool {
+pub fn is_of<A: HasWord + AsStr>(atom: &A, word: u64, text: &str) -> bool {
     has_word(atom, word) && has_text(atom, text)
 }
 
 /// Whether both have the same word.
-pub fn are_one<H: AtomKind>(one: &SetAtom<H>, other: &SetAtom<H>) -> bool {
-    one.unsafe_data() == other.unsafe_data()
+pub fn are_one<A: HasWord>(one: &A, other: &A) -> bool {
+    one.own_word() == other.own_word()
 }
 
 /// A set without static texts.

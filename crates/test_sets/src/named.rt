@@ -3,7 +3,7 @@ ghost use Rattle.std.specs.Prelude.{◌≡◌};
 
 mod keys;
 
-use crate::samples::{buckets_of, check_linked, clone_of, intern};
+use crate::samples::buckets_of;
 use crate::{assert_for, assert_that};
 use keys::{are_keys, is_key};
 use named_set::{FreshName, NamedSet, SetName};
@@ -15,7 +15,7 @@ use std::sync::Wait;
 use std::thread::{self, Threads};
 use string_cache::word::Limits;
 use string_cache::{NamedAtom, NamedAtomList};
-use test_calls::{are_one, has_text};
+use test_calls::{are_one, cloned, has_text, interned, links};
 use test_samples::One;
 
 /// A set with this name.
@@ -46,7 +46,7 @@ fn asked<N: SetName + Send + Sync, R: Threads + Wait + Abort + Sync>(
         Question::Keys => check_keys(rt, set),
         Question::Threads => share::<N, R>(rt, set),
     }
-    check_linked(rt, set, 0);
+    assert_that(rt, links(rt, set, 0));
 }
 
 /// Asks it of a new set with this name.
@@ -66,6 +66,15 @@ fn ask_as<N: SetName + Send + Sync, R: Threads + Wait + Abort + Sync>(
 fn ask<R: Threads + Wait + Abort + Sync>(rt: &R, alloc: Global, question: Question) {
     let name = FreshName::new(alloc, buckets_of(rt, 0)).expect(rt, "a name");
     ask_as::<Brand, R>(rt, alloc, name, question);
+}
+
+/// The atom of a text.
+fn intern<'s, N: SetName, R: Wait + Abort>(rt: &R, set: &'s Named<N>, text: &str) -> Word<'s, N> {
+    interned(rt, set, text).expect(rt, "an atom")
+}
+
+fn clone_of<'s, N: SetName, R: Wait + Abort>(rt: &R, atom: &Word<'s, N>) -> Word<'s, N> {
+    cloned(rt, atom).expect(rt, "an atom")
 }
 
 /// Whether two atoms are the same, and of this text.

@@ -9,7 +9,7 @@ use std::fmt::Display;
 use std::process::Abort;
 use std::sync::Wait;
 use string_cache::dynamic_set::Set;
-use string_cache::static_sets::{EmptyStaticAtomSet, StaticAtomSet};
+use string_cache::static_sets::EmptyStaticAtomSet;
 use string_cache::trivial_impls::PrecomputedHash;
 use string_cache::{Atom, DefaultAtom, Fault};
 use test_calls::{are_one, interned_cow, interned_owned, json_of, raised, read_json};
@@ -23,37 +23,26 @@ fn precomputed_of<T: PrecomputedHash>(value: &T) -> u32 {
 #[test]
 fn default_atom(rt: HostRuntime) {
     let atom = DefaultAtom::default();
-    assert_eq!(rt; precomputed_of(&atom), 1);
+    assert_that(&rt, precomputed_of(&atom) == 1);
     let printed = format!(in rt.alloc(); "{atom:?}").expect(&rt, "a text");
     check_text(&rt, &printed, "Atom('' type=inline)");
 }
 
-// Both print the atoms if they fail.
-
-fn check_equal<Static: StaticAtomSet>(
-    rt: &impl Abort,
-    one: &Atom<'_, Static>,
-    other: &Atom<'_, Static>,
-) {
-    assert_eq!(rt; *one, *other);
+/// Whether two atoms are equal.
+fn are_equal<A: PartialEq>(one: &A, other: &A) -> bool {
+    *one == *other
 }
 
-fn check_differ<Static: StaticAtomSet>(
-    rt: &impl Abort,
-    one: &Atom<'_, Static>,
-    other: &Atom<'_, Static>,
-) {
-    assert_ne!(rt; *one, *other);
-}
-
+/// Prints the text if it isn't the one that is wanted.
 fn check_text(rt: &impl Abort, text: &str, wanted: &str) {
-    assert_eq!(rt; text, wanted);
+    assert_for(rt, text == wanted, &text);
 }
 
 #[test]
 fn text_of_a_zero_byte(rt: HostRuntime) {
     let set = new_set::<EmptyStaticAtomSet>(&rt, rt.alloc());
-    check_differ(&rt, &intern(&rt, &set, "\0"), &intern(&rt, &set, ""));
+    let is_one = are_equal(&intern(&rt, &set, "\0"), &intern(&rt, &set, ""));
+    assert_that(&rt, !is_one);
 }
 
 #[test]
@@ -61,8 +50,8 @@ fn upper_case_of_a_static_text(rt: HostRuntime) {
     let set = new_set::<One>(&rt, rt.alloc());
     let atom = intern(&rt, &set, "sentence");
     let upper = raised(&rt, &set, &atom).expect(&rt, "an atom");
-    check_equal(&rt, &upper, &intern(&rt, &set, "SENTENCE"));
-    check_differ(&rt, &upper, &atom);
+    let is_wanted = are_equal(&upper, &intern(&rt, &set, "SENTENCE"));
+    assert_that(&rt, is_wanted && !are_equal(&upper, &atom));
 }
 
 /// Writes a value under widths.
@@ -146,8 +135,7 @@ fn check_json<R: Wait + Abort>(rt: &R, set: &Set<One>, text: &str, json: &str) {
     let atom = intern(rt, set, text);
     check_text(rt, &json_text(rt, set.allocator(), &atom), json);
     let again = atom_of_json(rt, set, json);
-    check_equal(rt, &again, &atom);
-    assert_that(rt, are_one(&again, &atom));
+    assert_that(rt, are_equal(&again, &atom) && are_one(&again, &atom));
 }
 
 /// Texts, and the JSON texts of their atoms.
@@ -175,8 +163,8 @@ fn check_interned<R: Wait + Abort>(
     atom: Result<DefaultAtom<'_>, Fault>,
 ) {
     let atom = atom.expect(rt, "an atom");
-    assert_that(rt, atom.is_dynamic());
-    check_equal(rt, &atom, &intern(rt, set, "interned"));
+    let is_interned = are_equal(&atom, &intern(rt, set, "interned"));
+    assert_that(rt, atom.is_dynamic() && is_interned);
 }
 
 fn interned_text(rt: &impl Abort, alloc: Global) -> String {

@@ -1,14 +1,14 @@
-//! What tests of this crate share. They say nothing about what they do, so that each test is proved in a moment.
+//! What tests of this crate share. They say nothing about what they do, and take a `Set` alone, not any set, so that each test is proved in a moment.
 
 use crate::assert_that;
 use std::alloc::Global;
 use std::process::Abort;
 use std::sync::{MutexGuard, Wait};
+use string_cache::Atom;
 use string_cache::dynamic_set::{Bucket, Set};
 use string_cache::static_sets::{EmptyStaticAtomSet, StaticTables};
 use string_cache::word::Buckets;
-use string_cache::{AtomKind, SetAtom, SharedSet, TextSet};
-use test_calls::{DefaultSet, cloned, interned, limited, links, locked, made, made_with};
+use test_calls::{DefaultSet, interned, limited, links, locked, made, made_with};
 
 /// The buckets with this many bits.
 pub fn buckets_of(rt: &impl Abort, bits: u8) -> Buckets {
@@ -34,12 +34,12 @@ pub fn limited_set(rt: &impl Abort, alloc: Global, holders: u64, serials: u64) -
 }
 
 /// The atom of a text.
-pub fn intern<S: TextSet, R: Wait + Abort>(rt: &R, set: S, text: &str) -> SetAtom<S::Held> {
+pub fn intern<'s, R: Wait + Abort, Static: StaticTables>(
+    rt: &R,
+    set: &'s Set<Static>,
+    text: &str,
+) -> Atom<'s, Static> {
     interned(rt, set, text).expect(rt, "an atom")
-}
-
-pub fn clone_of<H: AtomKind, R: Wait + Abort>(rt: &R, atom: &SetAtom<H>) -> SetAtom<H> {
-    cloned(rt, atom).expect(rt, "an atom")
 }
 
 /// The lock of a bucket, held.
@@ -51,9 +51,14 @@ pub fn lock_of<'s, R: Wait + Abort>(
     locked(rt, set, at).expect(rt, "a bucket")
 }
 
+/// Whether this many texts are linked.
+pub fn has_linked<R: Wait, Static: StaticTables>(rt: &R, set: &Set<Static>, count: u128) -> bool {
+    links(rt, set, count)
+}
+
 /// Checks that this many texts are linked.
-pub fn check_linked<S: SharedSet, R: Wait + Abort>(rt: &R, set: S, count: u128) {
-    assert_that(rt, links(rt, set, count));
+pub fn check_linked<R: Wait + Abort, Static: StaticTables>(rt: &R, set: &Set<Static>, count: u128) {
+    assert_that(rt, has_linked(rt, set, count));
 }
 
 /// The locks of all buckets but the one at this place, or of all if there is no such bucket.

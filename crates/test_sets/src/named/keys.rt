@@ -1,7 +1,6 @@
 //! Atoms of a set with a name as keys by their words.
 
-use super::Named;
-use crate::samples::intern;
+use super::{Named, intern};
 use named_set::SetName;
 use std::collections::HashMap;
 use std::hash::Hash;

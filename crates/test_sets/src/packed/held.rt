@@ -1,16 +1,16 @@
 //! Sets, tables and worlds of packed static types.
 
 use crate::assert_that;
+use crate::samples::{has_linked, intern, new_set};
 use std::alloc::Global;
 use std::process::Abort;
 use std::sync::Wait;
-use string_cache::dynamic_set::Set;
+use string_cache::Fault;
 use string_cache::static_sets::StaticTables;
 use string_cache::steps::{Step, StepReply, World};
 use string_cache::table::Table;
 use string_cache::word::{Limits, static_word};
-use string_cache::{Atom, Fault};
-use test_calls::{has_text, interned, links};
+use test_calls::has_text;
 use test_packed::dishes::Dishes;
 use test_packed::elements::Elements;
 use test_packed::misplaced::Misplaced;
@@ -19,30 +19,18 @@ use test_samples::keys;
 // These say nothing about what they do, so that each test is proved in a moment. They take any static type, since the borrow checker doesn't cover a
 // function that names a set, an atom or a table of a packed type.
 
-fn new_set<Static: StaticTables>(rt: &impl Abort, alloc: Global) -> Set<Static> {
-    Set::new(alloc).expect(rt, "a set")
-}
-
-fn intern<'s, R: Wait + Abort, Static: StaticTables>(
-    rt: &R,
-    set: &'s Set<Static>,
-    text: &str,
-) -> Atom<'s, Static> {
-    interned(rt, set, text).expect(rt, "an atom")
-}
-
 /// Whether an atom of the text is static, and links nothing in a set of its own.
 fn is_static<S: StaticTables>(rt: &(impl Wait + Abort), alloc: Global, text: &str) -> bool {
     let set = new_set::<S>(rt, alloc);
     let atom = intern(rt, &set, text);
-    atom.is_static() && has_text(&atom, text) && links(rt, &set, 0)
+    atom.is_static() && has_text(&atom, text) && has_linked(rt, &set, 0)
 }
 
 /// Whether an atom of the text is dynamic, and the one that its set links.
 fn is_linked<S: StaticTables>(rt: &(impl Wait + Abort), alloc: Global, text: &str) -> bool {
     let set = new_set::<S>(rt, alloc);
     let atom = intern(rt, &set, text);
-    atom.is_dynamic() && has_text(&atom, text) && links(rt, &set, 1)
+    atom.is_dynamic() && has_text(&atom, text) && has_linked(rt, &set, 1)
 }
 
 #[test]
