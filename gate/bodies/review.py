@@ -57,6 +57,7 @@ LIBRARY = "string_cache_c"  # its tests are programs in other languages
 # Whose tests see a crate, beside those that name it in crates.txt: they call it by the names that a crate above gives again.
 SEEN_BY = {
     "text_forms": {"test_table", "test_across"}, "interner_table": {"test_table", "test_atoms", "test_across"}, "atomic_steps": {"test_table"},
+    "set_atoms": {"test_across"},
 }
 
 
