@@ -149,9 +149,27 @@ const SPENT: [Step; 20] = [
     Step::Linked(0),
 ];
 
+/// A text of more than 64 bytes.
+const SMALL: &str =
+    "the letters of this text, which has more than sixty-four bytes, are small: größer";
+
+/// The same of a text that is put into another case by way of memory.
+const LONG: [Step; 9] = [
+    Step::Intern(SMALL),
+    Step::Make(Call::Upper(0)),
+    Step::Make(Call::Lower(1)),
+    Step::One(0, 2),
+    Step::Refused(Call::Lower(1), Fault::FullCount),
+    Step::Drop(0),
+    Step::Drop(2),
+    Step::Refused(Call::Lower(1), Fault::TicketsSpent),
+    Step::Linked(1),
+];
+
 #[test]
 fn limits_refuse_calls(rt: HostRuntime) {
     play(&rt, rt.alloc(), NARROW, &[&FULL, &SPENT]);
+    play(&rt, rt.alloc(), NARROW, &[&LONG]);
 }
 
 /// Nobody holds inline and static texts: the set has none of them.

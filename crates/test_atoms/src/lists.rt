@@ -106,6 +106,7 @@ fn has_texts<S: SharedSet>(list: &SetList<S>, texts: &[&str]) -> bool {
     list.len() == texts.len()
         && list.is_empty() == texts.is_empty()
         && list.iter().len() == texts.len()
+        && list.iter().size_hint() == (texts.len(), Some(texts.len()))
         && has_each(list, texts)
 }
 
@@ -355,23 +356,31 @@ fn list_ends_under_a_held_lock(rt: HostRuntime) {
     play_both(&rt, rt.alloc(), USUAL, Scene::EndsUnderLock);
 }
 
-/// Gives inline and static texts places, and takes them out. Returns whether there was one to take.
-fn fills_with_fixed<S: SharedSet, R: Wait + Abort>(rt: &R, set: S) -> bool {
-    let mut list = list_of(rt, set, &["é", "sentence"]);
-    let has_second = !lends_none(rt, &list, 1) && has_last(&mut list);
-    list.clear();
-    has_second
+/// Whether each of the list's three places has an atom to lend, and no other has.
+fn lends_three<S: SharedSet, R: Wait + Abort>(rt: &R, list: &SetList<S>) -> bool {
+    !lends_none(rt, list, 0)
+        && !lends_none(rt, list, 1)
+        && !lends_none(rt, list, 2)
+        && lends_none(rt, list, 3)
+}
+
+/// Gives inline and static texts places behind a dynamic one, and takes them out. Returns whether each place had an atom.
+fn fills_with_fixed<S: SharedSet, R: Wait + Abort>(rt: &R, list: &mut SetList<S>) -> bool {
+    let are_pushed = push(rt, list, "é") == Ok(()) && push(rt, list, "sentence") == Ok(());
+    let are_lent = lends_three(rt, list) && has_last(list);
+    list.truncate(1);
+    are_pushed && are_lent
 }
 
 /// Does so while a visit has the lock of the only bucket.
 fn fill_under_lock<S: SharedSet, R: Wait + Abort>(rt: &R, set: S) {
-    let _held = intern(rt, set, "interned");
+    let mut list = list_of(rt, set, &["interned"]);
     let mut is_filled = false;
-    set.for_each(rt, |_, _| is_filled = fills_with_fixed(rt, set));
+    set.for_each(rt, |_, _| is_filled = fills_with_fixed(rt, &mut list));
     assert_that(rt, is_filled);
 }
 
-/// Inline and static texts take no lock.
+/// Inline and static texts take no lock, nor does a clone of a place.
 #[test]
 fn fixed_texts_have_places_under_a_held_lock(rt: HostRuntime) {
     play_both(&rt, rt.alloc(), ONE_BUCKET, Scene::FixedUnderLock);

@@ -17,8 +17,8 @@ use test_calls::{are_one, has_text, has_word};
 /// A text, its 32-bit hash, what its atom prints as, for readers and for debugging, and the JSON that it is written as.
 type Row = (&'static str, u32, &'static str, &'static str);
 
-/// Texts that are inline, static and dynamic. The last hash is that of the text's entry, as OpenSSL's SipHash gives it.
-const ROWS: [Row; 5] = [
+/// Texts that are inline, static and dynamic. The last two hashes are of the texts' entries, as OpenSSL's SipHash gives them.
+const ROWS: [Row; 6] = [
     ("", 1, ", Atom('' type=inline)", "\"\""),
     (
         "foo",
@@ -43,6 +43,12 @@ const ROWS: [Row; 5] = [
         0x53ce_1faa,
         "interned, Atom('interned' type=dynamic)",
         "\"interned\"",
+    ),
+    (
+        "Stück \"Größe\" \\",
+        0x3d3b_6e14,
+        "Stück \"Größe\" \\, Atom('Stück \"Größe\" \\' type=dynamic)",
+        "\"Stück \\\"Größe\\\" \\\\\"",
     ),
 ];
 

@@ -2,9 +2,10 @@
 //! bucket of "afterwards" is 0, of "geometric" 0xfff, and of "interned" 0x210.
 
 use crate::assert_for;
-use crate::samples::{check_linked, clone_of, intern};
+use crate::samples::{check_linked, clone_of, intern, owned};
 use crate::scenes::{self, Step};
 use crate::sets::{self, Kind, ONE_BUCKET, USUAL, ask};
+use crate::texts::json_copy;
 use crate::together::Together;
 use serde_json::Value;
 use std::process::Abort;
@@ -13,7 +14,7 @@ use std::sync::atomic::{AtomicBool, Ordering};
 use std::thread::{self, Threads};
 use std::time::{Clock, Duration};
 use string_cache::{Fault, SetAtom, SharedSet};
-use test_calls::{has_text, has_word, look_up, lowered, read_json, shown};
+use test_calls::{has_text, has_word, interned_owned, look_up, lowered, read_json, shown};
 
 /// What is done during the visit.
 #[derive(Clone, Copy, Debug)]
@@ -164,9 +165,32 @@ fn lowers_to<S: SharedSet, R: Wait + Abort>(
     has_text(&lower, text) && !lower.is_dynamic()
 }
 
-/// Whether a text that isn't dynamic is interned, cloned, looked up and put into lower case.
+/// Whether the text as an owned one, and as JSON, is given the atom.
+fn is_given<S: SharedSet, R: Wait + Abort>(
+    rt: &R,
+    set: S,
+    atom: &SetAtom<S::Held>,
+    text: &str,
+) -> bool {
+    let own = owned(rt, set.allocator(), text);
+    match interned_owned(rt, set, own) {
+        Ok(other) => other == *atom && json_copy(rt, set, atom) == *atom,
+        Err(_) => false,
+    }
+}
+
+/// Whether a text that isn't dynamic is interned, also as an owned one and from JSON, cloned, looked up and put into lower case.
 fn keeps_fixed<S: SharedSet, R: Wait + Abort>(rt: &R, set: S, text: &str) -> bool {
-    lowers_to(rt, set, &intern(rt, set, text), text) && is_found(rt, set, text)
+    let atom = intern(rt, set, text);
+    lowers_to(rt, set, &atom, text) && is_given(rt, set, &atom, text) && is_found(rt, set, text)
+}
+
+/// Whether the atom, whose text is in lower case, is given again in lower case.
+fn stays_lower<S: SharedSet, R: Wait>(rt: &R, set: S, atom: &SetAtom<S::Held>) -> bool {
+    match lowered(rt, set, atom) {
+        Ok(lower) => lower == *atom,
+        Err(_) => false,
+    }
 }
 
 /// Whether a JSON value that is no text is refused as such.
@@ -180,6 +204,8 @@ fn works_unlocked<S: SharedSet, R: Clock + Wait + Abort>(rt: &R, set: S, at: &Me
     at.meet(rt);
     drop(clone_of(rt, &dynamic));
     let is_right = keeps_fixed(rt, set, "foo") && keeps_fixed(rt, set, "sentence");
+    let is_right = is_right && lowers_to(rt, set, &intern(rt, set, "FOO"), "foo");
+    let is_right = is_right && stays_lower(rt, set, &dynamic);
     let is_right = is_right && refuses_null(rt, set) && has_text(&dynamic, "interned");
     at.end();
     is_right

@@ -69,6 +69,8 @@ pub fn clear_long_list<S: SharedSet, R: Wait + Abort>(rt: &R, set: S) {
     let mut list = long_list(rt, set);
     list.clear();
     assert_that(rt, list.is_empty() && links(rt, set, 0));
+    push(rt, &mut list, "interned").expect(rt, "a place");
+    assert_that(rt, has_at(&list, 0, "interned") && list.len() == 1);
 }
 
 #[test]
