@@ -30,10 +30,19 @@ SPARED = {
 # may meet such a request once, but no more of them than there are such requests meet one each time.
 TRIES = 5
 
-# The most requests that a call may make, by its test's name: a new text has a cell, and a node where its bucket's first one has no room; in a
-# table that has room it has its bytes.
+# The most requests that a call may make, by its test's name: a new text has a cell, and a node where its bucket's first one has no room, however it
+# is handed in; in a table that has room it has its bytes. A long text that is put into another case is owned meanwhile, a JSON text has its bytes,
+# and a list that has no room asks for it once.
 FEW = {
     "refusals::sets::text_is_interned": 2,
+    "refusals::sets::owned_text_is_interned": 2,
+    "refusals::sets::text_that_may_be_owned_is_interned": 2,
+    "refusals::sets::json_text_is_interned": 2,
+    "refusals::sets::text_is_put_into_upper_case": 2,
+    "refusals::sets::long_text_is_put_into_upper_case": 3,
+    "refusals::sets::json_is_made": 1,
+    "refusals::lists::text_is_pushed": 2,
+    "refusals::lists::place_is_pushed": 3,
     "refusals::sets::text_finds_room_in_a_node": 1,
     "refusals::tables::text_finds_room_in_a_table": 1,
     "refusals::tables::text_finds_room_in_a_cleared_table": 1,

@@ -7,7 +7,7 @@ use std::process::Abort;
 use std::sync::Wait;
 use string_cache::dynamic_set::Set;
 use string_cache::{AtomList, EmptyStaticAtomSet, Fault};
-use test_calls::{links, push};
+use test_calls::{is_found, links, push};
 use test_refusals::{begin, finishes_refused};
 
 /// A list of atoms without static texts.
@@ -45,6 +45,11 @@ fn is_pushed_at_last<R: Wait + Print>(
     push_at_last(rt, list, texts[1], places) == Ok(()) && ends_at(list, places, texts)
 }
 
+/// Whether the text is held under this word.
+fn is_held<R: Wait>(rt: &R, set: &Set<EmptyStaticAtomSet>, text: &str, word: u64) -> bool {
+    is_found(rt, set, text, word)
+}
+
 /// A list of one text, which has room for a second place.
 fn list_of_one<'s, R: Wait + Abort>(
     rt: &R,
@@ -56,14 +61,15 @@ fn list_of_one<'s, R: Wait + Abort>(
     list
 }
 
-/// There is room for the place, and none for the text.
+/// There is room for the place, and none for the text. By OpenSSL's SipHash the bucket of "interned" is 0x210.
 #[test]
 fn text_is_pushed(rt: HostRuntime) {
     let set = new_set(&rt, rt.alloc());
     let mut list = list_of_one(&rt, &set, "ab");
     assert_that(
         &rt,
-        is_pushed_at_last(&rt, &mut list, 1, ["ab", "interned"]),
+        is_pushed_at_last(&rt, &mut list, 1, ["ab", "interned"])
+            && is_held(&rt, &set, "interned", 0x1_0840),
     );
     drop(list);
     assert_that(&rt, links(&rt, &set, 0));
@@ -81,14 +87,16 @@ fn list_of_sixty_four<'s, R: Wait + Abort>(
     list
 }
 
-/// The text is there, and there is no room for the place.
+/// There is no room for the place, and none for the text, which spends no ticket before it has both. By OpenSSL's SipHash the bucket of "tokenised"
+/// is 0xe77.
 #[test]
 fn place_is_pushed(rt: HostRuntime) {
     let set = new_set(&rt, rt.alloc());
     let mut list = list_of_sixty_four(&rt, &set);
     assert_that(
         &rt,
-        is_pushed_at_last(&rt, &mut list, 64, ["ab", "interned"]),
+        is_pushed_at_last(&rt, &mut list, 64, ["ab", "tokenised"])
+            && is_held(&rt, &set, "tokenised", 0x1_39dc),
     );
     drop(list);
     assert_that(&rt, links(&rt, &set, 0));

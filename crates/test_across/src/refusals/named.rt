@@ -11,7 +11,8 @@ use std::marker::Brand;
 use std::process::Abort;
 use std::sync::Wait;
 use string_cache::word::{Buckets, Limits};
-use string_cache::{EmptyStaticAtomSet, Fault, NamedAtom};
+use string_cache::{EmptyStaticAtomSet, Fault, NamedAtom, SharedSet};
+use test_calls::{links, shown};
 use test_refusals::{End, at_last, begin, finish, finishes_refused};
 
 type Named<N> = NamedSet<EmptyStaticAtomSet, N>;
@@ -28,9 +29,9 @@ const SMALL: &str = "aaaaaaaaaaaaaaaaaaaaaaaaaaaaaaaaaaaaaaaaaaaaaaaaaaaaaaaaaaa
 
 const CAPITALS: &str = "AAAAAAAAAAAAAAAAAAAAAAAAAAAAAAAAAAAAAAAAAAAAAAAAAAAAAAAAAAAAAAAAA";
 
-/// A call that may ask for memory.
+/// A call that may ask for memory, or those that may not.
 #[derive(Clone, Copy)]
-enum Call {
+pub enum Call {
     /// What makes the set.
     Set,
     /// What interns a text, which is passed in one of these forms.
@@ -44,6 +45,8 @@ enum Call {
     ToJson,
     /// What interns a long text.
     Long,
+    /// What may not.
+    Unasked,
 }
 
 fn owned(rt: &impl Abort, alloc: Global, text: &str) -> String {
@@ -186,6 +189,43 @@ fn is_long_given<N: SetName, R: Wait + Print + Abort>(rt: &R, set: &Named<N>) ->
     is_of(&atom, FIRST, &long)
 }
 
+/// Whether the answer, which goes, is the atom.
+fn is_same<N: SetName>(answer: Result<Word<'_, N>, Fault>, atom: &Word<'_, N>) -> bool {
+    match answer {
+        Ok(other) => other == *atom,
+        Err(_) => false,
+    }
+}
+
+/// Whether the atom is found by its text.
+fn is_found<N: SetName, R: Wait>(rt: &R, set: &Named<N>, atom: &Word<'_, N>) -> bool {
+    match NamedAtom::get_in(rt, set, SMALL) {
+        Ok(Some(found)) => found == *atom,
+        _ => false,
+    }
+}
+
+fn is_absent<N: SetName, R: Wait>(rt: &R, set: &Named<N>) -> bool {
+    matches!(NamedAtom::get_in(rt, set, CAPITALS), Ok(None))
+}
+
+/// Whether the set shows one text with one holder, which a sweep leaves.
+fn shows_one<S: SharedSet, R: Wait>(rt: &R, set: S) -> bool {
+    set.sweep(rt);
+    shown(rt, set).holders == 1 && set.memory(rt) > 0 && links(rt, set, 1)
+}
+
+/// Whether the atom is given again by each call, and shown, and goes.
+fn is_given_again<N: SetName, R: Wait + Print>(rt: &R, set: &Named<N>, atom: Word<'_, N>) -> bool {
+    begin(rt);
+    let is_given = is_same(NamedAtom::from_str_in(rt, set, SMALL), &atom);
+    let is_cloned = is_same(atom.clone_atom(rt), &atom);
+    let is_right = is_found(rt, set, &atom) && is_absent(rt, set) && shows_one(rt, set);
+    drop(atom);
+    finish(rt, End::Given);
+    is_given && is_cloned && is_right && set.linked(rt) == 0
+}
+
 /// Whether the call, made in a new set, gives what it must.
 fn is_made_in<N: SetName, R: Wait + Print + Abort>(rt: &R, set: &Named<N>, call: Call) -> bool {
     let alloc = set.allocator();
@@ -198,6 +238,7 @@ fn is_made_in<N: SetName, R: Wait + Print + Abort>(rt: &R, set: &Named<N>, call:
         Call::Upper => return is_put_into_capitals(rt, set),
         Call::ToJson => return has_json(rt, set),
         Call::Long => return is_long_given(rt, set) && set.linked(rt) == 0,
+        Call::Unasked => return is_given_again(rt, set, intern(rt, set)),
     };
     is_first(rt, set, answer)
 }
@@ -250,7 +291,7 @@ fn is_set_made_with<R: Wait + Print + Abort>(rt: &R, alloc: Global, name: FreshN
     is_set_made::<Brand, R>(rt, alloc, name)
 }
 
-fn check<R: Wait + Print + Abort>(rt: &R, alloc: Global, call: Call) {
+pub fn check<R: Wait + Print + Abort>(rt: &R, alloc: Global, call: Call) {
     assert_that(rt, is_made_with(rt, alloc, new_name(rt, alloc), call));
 }
 

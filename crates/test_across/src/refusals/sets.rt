@@ -12,7 +12,7 @@ use string_cache::dynamic_set::Set;
 use string_cache::word::{Buckets, Limits};
 use string_cache::{DefaultAtom, EmptyStaticAtomSet, Fault};
 use test_calls::{
-    interned, interned_cow, interned_owned, is_of, json_of, links, raised, read_json,
+    interned, interned_cow, interned_owned, is_of, json_of, links, lowered, raised, read_json,
 };
 use test_refusals::{at_last, begin, finishes_refused};
 
@@ -132,7 +132,20 @@ fn upper_at_last<'s, R: Wait + Print>(
     answer
 }
 
-/// Whether the atom of a text in upper case has this word and this text, and both are linked.
+/// Whether the atom in lower case is this other one.
+fn is_lowered<R: Wait>(
+    rt: &R,
+    set: &Set<EmptyStaticAtomSet>,
+    upper: &DefaultAtom<'_>,
+    atom: &DefaultAtom<'_>,
+) -> bool {
+    match lowered(rt, set, upper) {
+        Ok(lower) => lower == *atom,
+        Err(_) => false,
+    }
+}
+
+/// Whether the atom of a text in upper case has this word and this text, and both are linked. In lower case it is again that of the text.
 fn is_put_into_upper_case<R: Wait + Print + Abort>(
     rt: &R,
     set: &Set<EmptyStaticAtomSet>,
@@ -142,7 +155,17 @@ fn is_put_into_upper_case<R: Wait + Print + Abort>(
 ) -> bool {
     let atom = intern(rt, set, text);
     let upper = upper_at_last(rt, set, &atom).expect(rt, "an atom");
-    is_of(&upper, word, wanted) && links(rt, set, 2)
+    is_of(&upper, word, wanted) && is_lowered(rt, set, &upper, &atom) && links(rt, set, 2)
+}
+
+/// By OpenSSL's SipHash the bucket of "INTERNED" is 0xae6.
+#[test]
+fn text_is_put_into_upper_case(rt: HostRuntime) {
+    let set = new_set(&rt, rt.alloc());
+    assert_that(
+        &rt,
+        is_put_into_upper_case(&rt, &set, "interned", 0x1_2b98, "INTERNED"),
+    );
 }
 
 /// By OpenSSL the bucket of 65 letters `A` is 0x9a0.

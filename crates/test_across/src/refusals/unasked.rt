@@ -2,6 +2,7 @@
 
 use crate::assert_that;
 use crate::begun::{intern, intern_all, new_set, new_table, table_keys, word_in};
+use crate::refusals::named;
 use serde_json::Value;
 use std::alloc::Global;
 use std::cmp::Ordering;
@@ -27,19 +28,27 @@ fn atom_word<R: Wait + Abort, Static: StaticTables>(rt: &R, set: &Set<Static>, t
         .unsafe_data()
 }
 
-/// Whether a text has this word in the set and in the table.
+/// The word of the atom of an owned text.
+fn own_word<R: Wait + Abort, Static: StaticTables>(rt: &R, set: &Set<Static>, own: String) -> u64 {
+    interned_owned(rt, set, own)
+        .expect(rt, "an answer")
+        .unsafe_data()
+}
+
+/// Whether a text has this word in the set, also as an owned one, and in the table.
 fn are_interned<R: Wait + Print + Abort, Static: StaticTables>(
     rt: &R,
     set: &Set<Static>,
     table: &mut Table<Static>,
+    own: String,
     text: &str,
     word: u64,
 ) -> bool {
     begin(rt);
-    let in_set = atom_word(rt, set, text);
+    let in_set = atom_word(rt, set, text) == word && own_word(rt, set, own) == word;
     let in_table = word_in(table, text);
     finish(rt, End::Given);
-    in_set == word && in_table == Ok(word)
+    in_set && in_table == Ok(word)
 }
 
 /// Checks that a text has this word in a new set and in a new table.
@@ -50,9 +59,10 @@ fn check_word<Static: StaticTables, R: Wait + Print + Abort>(
     word: u64,
 ) {
     let set: Set<Static> = new_set(rt, alloc);
+    let own = String::from_str(alloc, text).expect(rt, "a text");
     assert_that(
         rt,
-        are_interned(rt, &set, &mut new_table(rt, alloc), text, word),
+        are_interned(rt, &set, &mut new_table(rt, alloc), own, text, word),
     );
 }
 
@@ -113,12 +123,18 @@ fn lower_word<R: Wait + Abort>(rt: &R, set: &Set<One>, atom: &Atom<'_, One>) -> 
     lowered(rt, set, atom).expect(rt, "an answer").unsafe_data()
 }
 
+/// The word of the atom in lower case, and again in lower case, which is then a clone.
+fn word_lowered_twice<R: Wait + Abort>(rt: &R, set: &Set<One>, atom: &Atom<'_, One>) -> u64 {
+    let lower = lowered(rt, set, atom).expect(rt, "an answer");
+    lower_word(rt, set, &lower)
+}
+
 #[test]
 fn lower_case_is_a_static_text(rt: HostRuntime) {
     let set: Set<One> = new_set(&rt, rt.alloc());
     let upper = intern(&rt, &set, "SENTENCE");
     begin(&rt);
-    let word = lower_word(&rt, &set, &upper);
+    let word = word_lowered_twice(&rt, &set, &upper);
     finish(&rt, End::Given);
     assert_that(&rt, word == 2);
 }
@@ -421,15 +437,15 @@ fn table_is_looked_into(rt: HostRuntime) {
 /// A list of atoms without static texts.
 type DefaultList<'s> = AtomList<'s, EmptyStaticAtomSet>;
 
-/// Whether the list has an atom at its first place.
-fn is_cloned<R: Wait + Abort>(rt: &R, list: &DefaultList<'_>) -> bool {
-    cloned_at(rt, list, 0).expect(rt, "an answer").is_some()
+/// Whether the list has an atom at this place.
+fn is_cloned<R: Wait + Abort>(rt: &R, list: &DefaultList<'_>, at: usize) -> bool {
+    cloned_at(rt, list, at).expect(rt, "an answer").is_some()
 }
 
-/// Whether "interned" is read in the list, which is cleared, and then has room for another text.
+/// Whether "interned" is read in the list of it and a short text, which is cleared, and then has room for another text.
 fn is_read_and_cleared<R: Wait + Abort>(rt: &R, list: &mut DefaultList<'_>) -> bool {
-    let has_text = list.get(0) == Some("interned") && list.iter().len() == 1;
-    let is_cloned = is_cloned(rt, list);
+    let has_text = list.get(0) == Some("interned") && list.iter().len() == 2;
+    let is_cloned = is_cloned(rt, list, 0) && is_cloned(rt, list, 1) && !is_cloned(rt, list, 2);
     list.clear();
     let is_empty = pop(list).is_none();
     has_text && is_cloned && is_empty && push(rt, list, "ab") == Ok(())
@@ -445,8 +461,15 @@ fn list_is_read_and_cleared(rt: HostRuntime) {
     let set: Set<EmptyStaticAtomSet> = new_set(&rt, rt.alloc());
     let mut list = AtomList::new(&set);
     push(&rt, &mut list, "interned").expect(&rt, "a place");
+    push(&rt, &mut list, "short").expect(&rt, "a place");
     begin(&rt);
     let are_right = is_read_and_cleared(&rt, &mut list) && new_list_is_empty(&set);
     finish(&rt, End::Given);
     assert_that(&rt, are_right && links(&rt, &set, 0));
+}
+
+/// What is held in a set with a name is interned again, looked up, cloned, shown and dropped.
+#[test]
+fn atom_of_a_set_with_a_name_is_given_again(rt: HostRuntime) {
+    named::check(&rt, rt.alloc(), named::Call::Unasked);
 }

@@ -52,10 +52,11 @@ fn is_owned_again<R: Wait + Abort>(
     interned_owned(rt, &set, text).expect(rt, "an atom") == *atom
 }
 
-/// Whether the atom prints its text.
+/// Whether the atom prints its text, and for debugging 21 bytes more: those of `Atom('` and `' type=dynamic)`.
 fn prints_itself<R: Abort>(rt: &R, alloc: Global, atom: &DefaultAtom<'_>) -> bool {
     let printed = format!(in alloc; "{atom}").expect(rt, "a text");
-    atom.eq_str(&printed)
+    let shown = format!(in alloc; "{atom:?}").expect(rt, "a text");
+    atom.eq_str(&printed) && shown.len() == printed.len().saturating_add(21)
 }
 
 #[test]
