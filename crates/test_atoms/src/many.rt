@@ -125,6 +125,15 @@ fn is_found_at<S: SharedSet, R: Wait + Abort>(rt: &R, set: S, n: usize) -> bool 
     )
 }
 
+/// The bytes of so many. A set without a name has a bucket, and a node for each four; one with a name, whose index is given two places for each of
+/// 47,642, has as many places for more, up to an eighth that stays empty.
+fn bytes_of_texts(kind: Kind) -> u128 {
+    match kind {
+        Kind::Plain => 32 + 625 * 48 + 2_500 * 40,
+        Kind::Named => 112 + 95_284 * 16 + 70_000 * 40,
+    }
+}
+
 /// Whether the set shows this many of them, with the oldest and the newest found.
 fn shows_texts<S: SharedSet, R: Wait + Abort>(rt: &R, set: S, texts: usize) -> bool {
     links(rt, set, texts as u128)
@@ -133,10 +142,23 @@ fn shows_texts<S: SharedSet, R: Wait + Abort>(rt: &R, set: S, texts: usize) -> b
         && is_found_at(rt, set, texts.saturating_sub(1))
 }
 
+/// Lets all of them go while a visit has the lock of their bucket, and sweeps.
+fn end_swept<S: SharedSet, R: Wait>(rt: &R, set: S, atoms: Vec<SetAtom<S::Held>>) {
+    let mut last = Some(atoms);
+    set.for_each(rt, |_, _| end(&mut last));
+    set.sweep(rt);
+}
+
 fn hold_many<S: SharedSet, R: Wait + Abort>(rt: &R, set: S, kind: Kind) {
     let texts = texts_of(kind);
-    let _atoms = numbered_atoms(rt, set, 0..texts);
-    assert_that(rt, shows_texts(rt, set, texts));
+    let mut atoms = numbered_atoms(rt, set, 0..texts);
+    assert_that(
+        rt,
+        shows_texts(rt, set, texts) && set.memory(rt) == bytes_of_texts(kind),
+    );
+    drop(atoms.pop());
+    assert_that(rt, links(rt, set, (texts as u128).saturating_sub(1)));
+    end_swept(rt, set, atoms);
 }
 
 #[test]

@@ -161,18 +161,32 @@ fn items_that_were_passed_end_as_well(rt: HostRuntime) -> Result<(), Fail> {
     Ok(())
 }
 
+/// One of those whose ends are counted.
+struct Counted<'a> {
+    ended: &'a AtomicU64,
+}
+
+impl<'a> Drop for Counted<'a> {
+    fn drop(self) {
+        let Self { ended } = self;
+        let _ = ended.fetch_add(1, Ordering::SeqCst);
+    }
+}
+
 /// An end that called itself for each next node would need more stack than there is.
 #[test]
 fn a_long_chain_ends(rt: HostRuntime) -> Result<(), Fail> {
+    let ended = AtomicU64::new(0);
     let mut chain = NodeChain::new(rt.alloc());
-    for number in 0..200_000u64 {
+    for _ in 0..200_000u32 {
         chain.rewind();
-        if let Err(refused) = chain.add_head(number) {
+        if let Err(refused) = chain.add_head(Counted { ended: &ended }) {
             chain.rewind();
             chain.add_head(refused.value)?;
         }
     }
     assert_that(&rt, chain.remaining() == 200_000);
     drop(chain);
+    assert_that(&rt, ended.load(Ordering::SeqCst) == 200_000);
     Ok(())
 }

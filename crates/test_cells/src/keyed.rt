@@ -3,8 +3,11 @@
 //! another key they are texts like any others.
 ghost use Rattle.std.specs.Prelude.{◌≡◌};
 
-use crate::calls::interned;
-use crate::named_cells::{Named, Words, bytes_of, let_go_at, takes, text_of};
+use crate::calls::{interned, links};
+use crate::named_cells::{
+    Named, Order, Words, are_found, bytes_of, keep, leave, let_go_at, let_go_to, sweep, takes,
+    text_of,
+};
 use crate::{assert_for, assert_that};
 use named_set::{FreshName, SetName};
 use std::alloc::Global;
@@ -25,12 +28,24 @@ const UPPER: u64 = 34 - 8;
 /// The bytes that the places of texts may take.
 type Bytes = [u128; 3];
 
+/// What is asked of a set about texts that were chosen.
+#[derive(Clone, Copy)]
+enum Question {
+    /// Their places take these bytes.
+    Takes(Bytes),
+    /// Those that lie beside an index go, are looked at, visited and swept, as those in it are.
+    Beside,
+}
+
 /// An index is laid out over 34 places for the seventeenth text, or over 36 for the eighteenth if one lay beside the first index. If too many of them
 /// had a cell that went, it is laid out once more, over 40 for twenty.
-const AS_OTHERS: Bytes = [34 * 16, 36 * 16, 40 * 16];
+const AS_OTHERS: Question = Question::Takes([34 * 16, 36 * 16, 40 * 16]);
 
 /// An index of 18 places with sixteen beside it, of which eleven have a cell.
-const BESIDE: Bytes = [18 * 16 + 16 * 8; 3];
+const BESIDE: Question = Question::Takes([18 * 16 + 16 * 8; 3]);
+
+/// Of seventeen texts nine are in the index, and so many lie beside it.
+const OUTSIDE: usize = 8;
 
 /// The odd number nearest to 2^64 divided by the golden ratio, with which an index multiplies hashes under no key.
 const OPEN: u64 = 0x9E37_79B9_7F4A_7C15;
@@ -75,14 +90,15 @@ fn chosen(rt: &impl Abort, alloc: Global, choice: Choice, two: Buckets) -> Vec<S
     texts
 }
 
-/// Holds each of the texts.
+/// Holds each of the texts, or so many.
 fn hold<'s, N: SetName, R: Wait + Abort>(
     rt: &R,
     set: &'s Named<N>,
     texts: &[String],
+    count: usize,
 ) -> Words<'s, N> {
     let mut words = Vec::new(set.allocator());
-    for text in texts {
+    for text in texts.iter().take(count) {
         let word = interned(rt, set, text.as_str()).expect(rt, "a word");
         words.push(word).expect(rt, "room");
     }
@@ -122,11 +138,99 @@ fn stays_at<N: SetName, R: Wait + Abort>(
 ) -> bool {
     let cells = bytes_of(0, COUNT as u128).saturating_sub(bytes_of(0, 0));
     let empty = set.memory(rt).saturating_add(cells);
-    let mut words = hold(rt, set, texts);
+    let mut words = hold(rt, set, texts, COUNT);
     let are_there = takes_one(rt, set, empty, bytes);
     come_again(rt, set, texts, &mut words);
     come_again(rt, set, texts, &mut words);
     are_there && takes_one(rt, set, empty, bytes)
+}
+
+/// Nine texts, which stand at the lowest places of the index, and those beside it.
+fn hold_beside<'s, N: SetName, R: Wait + Abort>(
+    rt: &R,
+    set: &'s Named<N>,
+    texts: &[String],
+) -> Words<'s, N> {
+    hold(rt, set, texts, 9 + OUTSIDE)
+}
+
+/// How many cells a visit meets.
+fn visited<N: SetName, R: Wait>(rt: &R, set: &Named<N>) -> usize {
+    let mut count = 0usize;
+    set.for_each(rt, |_, _| count = count.saturating_add(1));
+    count
+}
+
+/// Whether those beside the index are counted and visited, and each goes with its last holder.
+fn go_beside<N: SetName, R: Wait + Abort>(
+    rt: &R,
+    set: &Named<N>,
+    empty: u128,
+    texts: &[String],
+) -> bool {
+    let mut words = hold_beside(rt, set, texts);
+    let bytes = bytes_of(18, 17).saturating_add(8 * 8);
+    let are_all = takes(rt, set, empty, bytes) && visited(rt, set) == 17;
+    are_all && let_go_to(rt, set, &mut words, Order::Last, 9)
+}
+
+/// Lets those beside the index go while a visit has the lock.
+fn leave_beside<N: SetName, R: Wait>(rt: &R, set: &Named<N>, words: &mut Words<'_, N>) -> bool {
+    leave(rt, set, words, Order::Last, 9);
+    links(rt, set, 17)
+}
+
+/// Whether calls take them out: the first two of nine look at all of the 26 places.
+fn are_looked_at_beside<N: SetName, R: Wait + Abort>(
+    rt: &R,
+    set: &Named<N>,
+    texts: &[String],
+) -> bool {
+    let mut words = hold_beside(rt, set, texts);
+    let are_left = leave_beside(rt, set, &mut words);
+    are_left && are_found(rt, set, words.as_slice()) && links(rt, set, 9)
+}
+
+/// Whether they are out once they are swept.
+fn are_swept_beside<N: SetName, R: Wait + Abort>(rt: &R, set: &Named<N>, texts: &[String]) -> bool {
+    let mut words = hold_beside(rt, set, texts);
+    let are_left = leave_beside(rt, set, &mut words);
+    sweep(rt, set);
+    are_left && links(rt, set, 9) && are_found(rt, set, words.as_slice())
+}
+
+/// Whether a sweep gives an index back of which only cells beside it are left: eight need none.
+fn need_no_index<N: SetName, R: Wait + Abort>(
+    rt: &R,
+    set: &Named<N>,
+    empty: u128,
+    texts: &[String],
+) -> bool {
+    let mut words = hold_beside(rt, set, texts);
+    keep(&mut words, Order::First, OUTSIDE);
+    sweep(rt, set);
+    takes(rt, set, empty, bytes_of(0, 8)) && are_found(rt, set, words.as_slice())
+}
+
+/// Whether cells beside an index are treated as those in it.
+fn lie_beside<N: SetName, R: Wait + Abort>(rt: &R, set: &Named<N>, texts: &[String]) -> bool {
+    let empty = set.memory(rt);
+    go_beside(rt, set, empty, texts)
+        && are_looked_at_beside(rt, set, texts)
+        && are_swept_beside(rt, set, texts)
+        && need_no_index(rt, set, empty, texts)
+}
+
+fn is_answered<N: SetName, R: Wait + Abort>(
+    rt: &R,
+    set: &Named<N>,
+    texts: &[String],
+    question: Question,
+) -> bool {
+    match question {
+        Question::Takes(bytes) => stays_at(rt, set, texts, &bytes),
+        Question::Beside => lie_beside(rt, set, texts),
+    }
 }
 
 fn is_so_as<N: SetName, R: Wait + Abort>(
@@ -134,21 +238,21 @@ fn is_so_as<N: SetName, R: Wait + Abort>(
     alloc: Global,
     name: FreshName,
     texts: &[String],
-    bytes: &Bytes,
+    question: Question,
 ) -> bool
     requires { N.logs ≡ name.logs }
 {
     let set = Named::<N>::new(alloc, name, Limits::greatest()).expect(rt, "a set");
-    stays_at::<N, R>(rt, &set, texts, bytes)
+    is_answered::<N, R>(rt, &set, texts, question)
 }
 
-/// Whether the places of a new set of two buckets under this key take these bytes.
+/// Whether it is so of a new set of two buckets under this key.
 fn is_so<R: Wait + Abort>(
     rt: &R,
     alloc: Global,
     choice: Choice,
     key: Option<SipKey>,
-    bytes: &Bytes,
+    question: Question,
 ) -> bool {
     let two = Buckets::new(1).expect(rt, "a number");
     let texts = chosen(rt, alloc, choice, two);
@@ -157,23 +261,23 @@ fn is_so<R: Wait + Abort>(
         Some(key) => open.under(key),
         None => open,
     };
-    is_so_as::<Brand, R>(rt, alloc, name, texts.as_slice(), bytes)
+    is_so_as::<Brand, R>(rt, alloc, name, texts.as_slice(), question)
 }
 
-/// Whether the places of texts that are chosen for one key, or for none, take these bytes in either bucket under another, or under none.
-fn take<R: Wait + Abort>(
+/// Whether it is so of texts that are chosen for one key, or for none, in either bucket under another, or under none.
+fn are_so<R: Wait + Abort>(
     rt: &R,
     alloc: Global,
     chosen_for: Option<SipKey>,
     key: Option<SipKey>,
-    bytes: &Bytes,
+    question: Question,
 ) -> bool {
     for bucket in &[0u16, 1] {
         let choice = Choice {
             bucket: *bucket,
             key: chosen_for,
         };
-        if !is_so(rt, alloc, choice, key, bytes) {
+        if !is_so(rt, alloc, choice, key, question) {
             return false;
         }
     }
@@ -186,21 +290,22 @@ fn key_of(low: u64, high: u64) -> Option<SipKey> {
 
 #[test]
 fn chosen_texts_lie_beside_an_index(rt: HostRuntime) {
-    assert_that(&rt, take(&rt, rt.alloc(), None, None, &BESIDE));
+    assert_that(&rt, are_so(&rt, rt.alloc(), None, None, BESIDE));
+    assert_that(&rt, are_so(&rt, rt.alloc(), None, None, Question::Beside));
     let known = key_of(3, 4);
-    assert_that(&rt, take(&rt, rt.alloc(), known, known, &BESIDE));
+    assert_that(&rt, are_so(&rt, rt.alloc(), known, known, BESIDE));
 }
 
 #[test]
 fn chosen_texts_are_as_others_under_a_key(rt: HostRuntime) {
-    assert_that(&rt, take(&rt, rt.alloc(), None, key_of(3, 4), &AS_OTHERS));
+    assert_that(&rt, are_so(&rt, rt.alloc(), None, key_of(3, 4), AS_OTHERS));
     for (low, high) in &[(3, 5), (2, 4), (4, 3), (0, 0), (u64::MAX, u64::MAX)] {
-        let other = take(
+        let other = are_so(
             &rt,
             rt.alloc(),
             key_of(3, 4),
             key_of(*low, *high),
-            &AS_OTHERS,
+            AS_OTHERS,
         );
         assert_for(&rt, other, &(low, high));
     }

@@ -20,6 +20,8 @@ mod named_cells;
 #[cfg(test)]
 mod named_left;
 #[cfg(test)]
+mod named_long;
+#[cfg(test)]
 mod named_threads;
 pub mod receipts;
 

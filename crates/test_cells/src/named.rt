@@ -1,10 +1,10 @@
 //! What no clause says about a set with a name: that a text which is held is found under its word, that the last holder's end takes out its cell, and
 //! when the limits refuse.
-ghost use Rattle.std.specs.Prelude.{◌≡◌};
+ghost use Rattle.std.specs.Prelude.{◌≡◌, true};
 
 use crate::assert_that;
 use crate::calls::{are_one, cloned, found, interned, is_found_as, links};
-use named_set::{FreshName, Held, NamedSet, SetName};
+use named_set::{FreshName, Held, HeldCell, NamedSet, SetName};
 use std::alloc::Global;
 use std::marker::Brand;
 use std::process::Abort;
@@ -184,6 +184,53 @@ fn is_full_at_two<S: StaticTables, N: SetName, R: Wait>(
     }
 }
 
+/// Whether a clone has the word that is held.
+fn is_cloned<S: StaticTables, N: SetName, R: Wait>(rt: &R, held: &Held<'_, S, N>) -> bool {
+    match cloned(rt, held) {
+        Ok(clone) => are_one(held, &clone),
+        Err(_) => false,
+    }
+}
+
+/// Whether a single try gives one more that holds the cell, and none at the limit of two.
+fn is_tried<S: StaticTables, N: SetName>(cell: &HeldCell<'_, S, N>, text: &str) -> bool
+    requires { cell.now.name.grows ≡ true }
+{
+    match cell.try_clone_held(cell.permit()) {
+        Ok(second) => second.text() == text && cell.try_clone_held(cell.permit()).is_err(),
+        Err(_) => false,
+    }
+}
+
+/// Whether the text is found and cloned, also by a single try.
+fn has_second<S: StaticTables, N: SetName, R: Wait>(
+    rt: &R,
+    set: &NamedSet<S, N>,
+    text: &str,
+) -> bool {
+    match interned(rt, set, text) {
+        Ok(held) => {
+            is_found_as(rt, set, &held, text)
+                && is_cloned(rt, &held)
+                && is_tried(&held.into_parts().1, text)
+        }
+        Err(_) => false,
+    }
+}
+
+/// A short text, none, one of NUL and others, one of more than a line, and two beyond ASCII.
+const TEXTS: [&str; 6] = ["a", "", "a\0NUL", "two\nlines", "été", "長さ、大きさ"];
+
+/// Whether each is found, and can have a second holder.
+fn are_all<S: StaticTables, N: SetName, R: Wait>(rt: &R, set: &NamedSet<S, N>) -> bool {
+    for text in &TEXTS {
+        if !has_second(rt, set, text) {
+            return false;
+        }
+    }
+    true
+}
+
 /// Interns and gives back until the tickets of its one bucket are spent, and returns how many it had.
 fn tickets_of<S: StaticTables, N: SetName, R: Wait>(rt: &R, set: &NamedSet<S, N>) -> u64 {
     for count in 0..100u64 {
@@ -233,6 +280,7 @@ fn asks_of<N: SetName, R: Wait + Abort>(
     assert_that(rt, goes_with_the_last(rt, set, "interned"));
     assert_that(rt, goes_with_the_last(rt, set, long.as_str()));
     assert_that(rt, is_full_at_two(rt, set, "interned"));
+    assert_that(rt, are_all(rt, set) && has_second(rt, set, long.as_str()));
     Ok(true)
 }
 

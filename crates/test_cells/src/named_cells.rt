@@ -7,6 +7,7 @@ use crate::named_left::{
     all_are_left, are_left_as_it_grows, left_comes_again, many_are_left, many_are_left_alone,
     many_are_swept, one_goes_beside, one_is_left, two_are_left,
 };
+use crate::named_long::long_texts_come_and_go;
 use crate::{assert_for, assert_that};
 use named_set::{FreshName, Held, NamedSet, SetName};
 use std::alloc::Global;
@@ -44,6 +45,8 @@ const ORDERS: [Order; 3] = [Order::First, Order::Last, Order::Between];
 enum Question {
     /// So many texts, for which the index has so many places, come and go.
     Texts(usize, u128, Order),
+    /// The same of long texts.
+    LongTexts(usize, u128, Order),
     /// Every second of so many goes.
     EverySecond(usize),
     /// An index that is shrunk.
@@ -174,7 +177,7 @@ pub fn sweep<N: SetName, R: Wait>(rt: &R, set: &Named<N>) {
 }
 
 /// Lets all but so many go one by one, and tells whether each takes its cell along.
-fn let_go_to<N: SetName, R: Wait>(
+pub fn let_go_to<N: SetName, R: Wait>(
     rt: &R,
     set: &Named<N>,
     words: &mut Words<'_, N>,
@@ -209,6 +212,17 @@ fn bytes_left_of(places: u128) -> u128 {
     if places == 0 { FEW } else { 0 }
 }
 
+/// Whether one more text finds a place in the index as it is: cells that went have left no mark where no look goes on below.
+fn has_room_left<N: SetName, R: Wait + Abort>(
+    rt: &R,
+    set: &Named<N>,
+    empty: u128,
+    places: u128,
+) -> bool {
+    let words = hold(rt, set, 1);
+    stand(rt, set, &words, empty, places)
+}
+
 fn come_and_go<N: SetName, R: Wait + Abort>(
     rt: &R,
     set: &Named<N>,
@@ -222,7 +236,7 @@ fn come_and_go<N: SetName, R: Wait + Abort>(
     let is_half = let_go_to(rt, set, &mut words, order, count / 2);
     let are_left = stand(rt, set, &words, empty, places);
     let are_gone = let_go_to(rt, set, &mut words, order, 0);
-    let keeps = stand(rt, set, &words, empty, places);
+    let keeps = stand(rt, set, &words, empty, places) && has_room_left(rt, set, empty, places);
     sweep(rt, set);
     let gives_back = takes(rt, set, empty, bytes_left_of(places));
     are_there && is_half && are_left && are_gone && keeps && gives_back
@@ -307,6 +321,9 @@ fn is_laid_out_anew<N: SetName, R: Wait + Abort>(rt: &R, set: &Named<N>) -> bool
 fn is_answered<N: SetName, R: Wait + Abort>(rt: &R, set: &Named<N>, question: Question) -> bool {
     match question {
         Question::Texts(count, places, order) => come_and_go(rt, set, count, places, order),
+        Question::LongTexts(count, places, order) => {
+            long_texts_come_and_go(rt, set, count, places, order)
+        }
         Question::EverySecond(count) => every_second_goes(rt, set, count),
         Question::Shrunk => shrinks(rt, set),
         Question::OneLeft(count, order) => one_is_left(rt, set, count, order),
@@ -350,7 +367,7 @@ fn come_in_order<R: Wait + Abort>(rt: &R, alloc: Global, order: Order) -> bool {
             return false;
         }
     }
-    true
+    is_so(rt, alloc, Question::LongTexts(31, 62, order))
 }
 
 /// Few are walked. With the ninth an index is made.

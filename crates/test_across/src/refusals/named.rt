@@ -47,6 +47,8 @@ pub enum Call {
     Long,
     /// What may not.
     Unasked,
+    /// What interns a text beside so many, for which there is no room.
+    Beside(u64),
 }
 
 fn owned(rt: &impl Abort, alloc: Global, text: &str) -> String {
@@ -226,6 +228,52 @@ fn is_given_again<N: SetName, R: Wait + Print>(rt: &R, set: &Named<N>, atom: Wor
     is_given && is_cloned && is_right && set.linked(rt) == 0
 }
 
+/// The atom of a number's text.
+fn numbered<'s, N: SetName, R: Wait + Abort>(
+    rt: &R,
+    set: &'s Named<N>,
+    number: u64,
+) -> Word<'s, N> {
+    let text = format!(in set.allocator(); "numbered {number}").expect(rt, "a text");
+    NamedAtom::from_str_in(rt, set, text.as_str()).expect(rt, "an atom")
+}
+
+/// So many atoms.
+fn hold<'s, N: SetName, R: Wait + Abort>(
+    rt: &R,
+    set: &'s Named<N>,
+    count: u64,
+) -> Vec<Word<'s, N>> {
+    let mut atoms = Vec::new(set.allocator());
+    for number in 0..count {
+        atoms.push(numbered(rt, set, number)).expect(rt, "room");
+    }
+    atoms
+}
+
+/// The atom of a text for which an index is laid out. What was made for it goes if that is refused.
+fn indexed_at_last<'s, N: SetName, R: Wait + Print>(
+    rt: &R,
+    set: &'s Named<N>,
+    text: &str,
+) -> Result<Word<'s, N>, Fault> {
+    begin(rt);
+    let answer = NamedAtom::from_str_in(rt, set, text);
+    if finishes_refused(rt, &answer) {
+        return NamedAtom::from_str_in(rt, set, text);
+    }
+    answer
+}
+
+/// Whether a text comes next beside so many, which are there.
+fn comes_beside<N: SetName, R: Wait + Print + Abort>(rt: &R, set: &Named<N>, count: u64) -> bool {
+    let atoms = hold(rt, set, count);
+    let next = indexed_at_last(rt, set, SMALL).expect(rt, "an atom");
+    let are_linked = set.linked(rt) == u128::from(count) + 1;
+    drop(atoms);
+    are_linked && is_of(&next, count.saturating_add(1) << 16, SMALL)
+}
+
 /// Whether the call, made in a new set, gives what it must.
 fn is_made_in<N: SetName, R: Wait + Print + Abort>(rt: &R, set: &Named<N>, call: Call) -> bool {
     let alloc = set.allocator();
@@ -239,6 +287,7 @@ fn is_made_in<N: SetName, R: Wait + Print + Abort>(rt: &R, set: &Named<N>, call:
         Call::ToJson => return has_json(rt, set),
         Call::Long => return is_long_given(rt, set) && set.linked(rt) == 0,
         Call::Unasked => return is_given_again(rt, set, intern(rt, set)),
+        Call::Beside(count) => return comes_beside(rt, set, count) && set.linked(rt) == 0,
     };
     is_first(rt, set, answer)
 }
@@ -337,6 +386,18 @@ fn long_text_is_put_into_capitals(rt: HostRuntime) {
 #[test]
 fn json_is_made(rt: HostRuntime) {
     check(&rt, rt.alloc(), Call::ToJson);
+}
+
+/// With the ninth text an index is made.
+#[test]
+fn ninth_text_is_interned(rt: HostRuntime) {
+    check(&rt, rt.alloc(), Call::Beside(8));
+}
+
+/// With the seventeenth it is laid out anew.
+#[test]
+fn seventeenth_text_is_interned(rt: HostRuntime) {
+    check(&rt, rt.alloc(), Call::Beside(16));
 }
 
 #[test]

@@ -244,7 +244,7 @@ fn set_ends_with_an_entry(rt: HostRuntime) {
     assert_that(&rt, linked == 1);
 }
 
-/// A set of one bucket whose six entries, which are in two nodes, died under its lock.
+/// A set of one bucket whose six entries, which are in two nodes, died under its lock. Before, they went one by one.
 fn with_six_dying<R: Wait + Abort>(rt: &R, alloc: Global) -> Set<EmptyStaticAtomSet> {
     let buckets = Buckets::new(0).expect(rt, "bits");
     let set = Set::with_buckets(alloc, Limits::greatest(), buckets).expect(rt, "a set");
@@ -256,6 +256,7 @@ fn with_six_dying<R: Wait + Abort>(rt: &R, alloc: Global) -> Set<EmptyStaticAtom
         "forgotten",
         "magnitude",
     ];
+    drop(intern_all(rt, &set, &texts));
     let atoms = intern_all(rt, &set, &texts);
     let held = set.buckets().get(0).expect(rt, "a bucket").lock(rt);
     drop(atoms);
