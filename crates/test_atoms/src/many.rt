@@ -142,11 +142,10 @@ fn shows_texts<S: SharedSet, R: Wait + Abort>(rt: &R, set: S, texts: usize) -> b
         && is_found_at(rt, set, texts.saturating_sub(1))
 }
 
-/// Lets all of them go while a visit has the lock of their bucket, and sweeps.
-fn end_swept<S: SharedSet, R: Wait>(rt: &R, set: S, atoms: Vec<SetAtom<S::Held>>) {
+/// Lets all of them go while a visit has the lock of their bucket.
+fn end_visited<S: SharedSet, R: Wait>(rt: &R, set: S, atoms: Vec<SetAtom<S::Held>>) {
     let mut last = Some(atoms);
     set.for_each(rt, |_, _| end(&mut last));
-    set.sweep(rt);
 }
 
 fn hold_many<S: SharedSet, R: Wait + Abort>(rt: &R, set: S, kind: Kind) {
@@ -158,7 +157,8 @@ fn hold_many<S: SharedSet, R: Wait + Abort>(rt: &R, set: S, kind: Kind) {
     );
     drop(atoms.pop());
     assert_that(rt, links(rt, set, (texts as u128).saturating_sub(1)));
-    end_swept(rt, set, atoms);
+    end_visited(rt, set, atoms);
+    set.sweep(rt);
 }
 
 #[test]
@@ -168,8 +168,7 @@ fn one_bucket_has_thousands_of_texts(rt: HostRuntime) {
 
 /// Lets 300 texts die while a visit has the lock of their bucket, in which this many others are held.
 fn let_die<S: SharedSet, R: Wait + Abort>(rt: &R, set: S, held: u64) {
-    let mut last = Some(numbered_atoms(rt, set, 0..300));
-    set.for_each(rt, |_, _| end(&mut last));
+    end_visited(rt, set, numbered_atoms(rt, set, 0..300));
     assert_that(rt, visited(rt, set) == (held.saturating_add(300), held));
 }
 
