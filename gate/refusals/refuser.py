@@ -48,8 +48,13 @@ FEW = {
     "refusals::tables::text_finds_room_in_a_cleared_table": 1,
 }
 
-# The fewest requests that a call may make, by its test's name: each dynamic text that a table holds has its bytes.
-MANY = {"refusals::programs::many_words_in_a_table": 100}
+# The fewest requests that a call may make, by its test's name: each dynamic text that a table holds has its bytes, each of two workers its thread,
+# and half of four long lists another.
+MANY = {
+    "refusals::programs::many_words_in_a_table": 100,
+    "refusals::starts::counts_of_many_by_four": 5,
+    "refusals::starts::program_counts": 2,
+}
 
 
 @dataclass

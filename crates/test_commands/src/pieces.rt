@@ -1,23 +1,33 @@
-//! Pieces of what is pending: when they are written, and what stays if they can't be.
+//! Pieces of what is pending: when they are written, and what stays if they can't be; and that texts of as many bytes are read.
 
 use crate::assert_for;
 use crate::memory::Page;
 use std::alloc::Global;
 use std::process::Abort;
 use text_streams::faults::AppFault;
-use text_streams::streams::{Io, write_full};
+use text_streams::streams::{Io, read_text, write_full};
 
 /// This many bytes of pending text.
 fn pending(rt: &impl Abort, alloc: Global, number: usize) -> String {
     "a".repeat(alloc, number).expect(rt, "room")
 }
 
-/// Whether, of the first number of pending bytes, the second is written, and the others stay pending.
+/// Whether the text is read as it is.
+fn is_read(alloc: Global, text: &str) -> bool {
+    match read_text(alloc, &mut Io::new(text.as_bytes())) {
+        Ok(read) => read.as_str() == text,
+        Err(_) => false,
+    }
+}
+
+/// Whether a text of the first number of bytes is read, and, once it is pending, the second number of them is written, and the others stay pending.
 fn moves(rt: &impl Abort, alloc: Global, number: usize, written: usize) -> bool {
     let mut pending = pending(rt, alloc, number);
+    let is_read = is_read(alloc, &pending);
     let mut writer = Io::new(Vec::new(alloc));
     let answer = write_full(&mut writer, &mut pending);
-    answer == Ok(())
+    is_read
+        && answer == Ok(())
         && pending.len() == number.saturating_sub(written)
         && writer.into_inner().len() == written
 }

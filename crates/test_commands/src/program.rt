@@ -261,9 +261,12 @@ fn program_of_counts(rt: HostRuntime) {
     try_runs(&rt, rt.alloc(), &COUNT_RUNS);
 }
 
-static WORD_RUNS: [Run; 3] = [
+static WORD_RUNS: [Run; 6] = [
     Run::Given("words", EXAMPLE, EXAMPLE_LINES),
     Run::Given("words", b"", b""),
+    Run::Given("words", b"\0\n", b"Not seen the word \"\0\" before\n"),
+    Run::Refused("words", b"interned \xe5\xad", NOT_TEXT),
+    Run::Refused("words", b"interned \xe5\xad interned", NOT_TEXT),
     Run::Refused("words", b"\xff", NOT_TEXT),
 ];
 
@@ -385,8 +388,27 @@ pub const COUNT_WORDS: &[&str] = &["count", "3"];
 const BYTES_LINE: CommandLine = &[b"atoms", b"words", b"\xff"];
 
 /// Lines with the arguments that they give.
-const WORD_LINES: [(CommandLine, &[&str]); 5] = [
+const WORD_LINES: [(CommandLine, &[&str]); 6] = [
     (COUNT_LINE, COUNT_WORDS),
+    (
+        &[
+            b"atoms",
+            b"a longer argument than any that a command takes",
+            b"zw\xc3\xb6lf",
+            b"1",
+            b"2",
+            b"3",
+            b"4",
+        ],
+        &[
+            "a longer argument than any that a command takes",
+            "zwölf",
+            "1",
+            "2",
+            "3",
+            "4",
+        ],
+    ),
     (
         &[b"atoms", b"generate", b"0", b"1", b"x"],
         &["generate", "0", "1", "x"],

@@ -4,11 +4,13 @@ ghost use Rattle.std.specs.Prelude.{◌≡◌, None, false};
 
 use crate::memory::{Bytes, Outcome, Streams};
 use crate::{assert_for, assert_that};
+use commands::count::count_command;
 use commands::words::{words, words_alone};
 use std::alloc::Global;
 use std::hash::RandomState;
 use std::process::Abort;
 use std::sync::Wait;
+use std::thread::Threads;
 use std::{io, str};
 use string_cache::dynamic_set::Set;
 use string_cache::word::Limits;
@@ -172,7 +174,7 @@ fn numbered<R: Abort>(
 }
 
 /// Whether the lines of a text are written, of any size.
-fn are_lines(alloc: Global, text: &str, lines: &str) -> bool {
+pub fn are_lines(alloc: Global, text: &str, lines: &str) -> bool {
     let mut writer = Io::new(Vec::new(alloc));
     let answer = tell_alone(alloc, text, &mut writer);
     answer == Ok(()) && writer.into_inner().as_slice() == lines.as_bytes()
@@ -227,22 +229,47 @@ impl Sink for Sizes {
     }
 }
 
+impl Sizes {
+    fn none() -> Sizes {
+        Sizes {
+            writes: 0,
+            first: 0,
+            second: 0,
+        }
+    }
+}
+
 /// How many writes the lines of a text take, and the bytes of the first two.
 fn sizes_of(alloc: Global, text: &str) -> Result<(u64, usize, usize), AppFault> {
-    let mut sizes = Sizes {
-        writes: 0,
-        first: 0,
-        second: 0,
-    };
+    let mut sizes = Sizes::none();
     tell_alone(alloc, text, &mut sizes)?;
     Ok((sizes.writes, sizes.first, sizes.second))
 }
 
-/// A piece is written once the lines have 65,536 bytes, as those of 1,024 words have here: each line has 64, in 60 characters.
+/// The same of the lines of its counts.
+fn sizes_of_counts<R: Threads + Wait + Sync>(
+    rt: &R,
+    alloc: Global,
+    text: &str,
+) -> Result<(u64, usize, usize), AppFault> {
+    let mut sizes = Sizes::none();
+    let keys = keys(1).ok_or(AppFault::Keys)?;
+    let reader = &mut Bytes::whole(text.as_bytes());
+    count_command(rt, alloc, keys, 1, reader, &mut sizes)?;
+    Ok((sizes.writes, sizes.first, sizes.second))
+}
+
+/// Three pieces, of which the first two have 65,536 bytes.
+const PIECES: Result<(u64, usize, usize), AppFault> = Ok((3, 65_536, 65_536));
+
+/// A piece is written once the lines have 65,536 bytes, as those of 1,024 words have here: each line has 64, in 60 characters, or in 56 for a count.
 #[test]
 fn lines_come_in_pieces(rt: HostRuntime) {
     let text = numbered(&rt, rt.alloc(), "smörgåsbordsmörgåsbordbord", 3000, IN_TEXT);
-    assert_that(&rt, sizes_of(rt.alloc(), &text) == Ok((3, 65_536, 65_536)));
+    assert_that(&rt, sizes_of(rt.alloc(), &text) == PIECES);
+    let front = "smörgåsbordsmörgåsbordsmörgåsbordsmörgåsbordbor";
+    let text = numbered(&rt, rt.alloc(), front, 3000, IN_TEXT);
+    assert_that(&rt, sizes_of_counts(&rt, rt.alloc(), &text) == PIECES);
 }
 
 /// Whether the lines of 550 words with this beginning, which have more than a megabyte, are written over the set.

@@ -4,6 +4,7 @@ use super::words_of_line;
 use crate::memory::Page;
 use crate::refusals::numbered_words;
 use crate::under_keys::NUMBERS;
+use crate::words::are_lines;
 use crate::{assert_for, assert_that};
 use commands::program::program;
 use std::alloc::Global;
@@ -217,33 +218,32 @@ struct Told {
 }
 
 impl Told {
-    /// The one word "interned", which will occur 351 times.
-    fn of_interned<R: Abort>(rt: &R, alloc: Global) -> Told {
+    /// The one word "interned", which will occur this many times.
+    fn of_interned<R: Abort>(rt: &R, alloc: Global, times: u32) -> Told {
         Told {
             text: owned(rt, alloc, "interned"),
             words: owned(rt, alloc, "Not seen the word \"interned\" before\n"),
-            counts: owned(rt, alloc, "351 interned\n"),
+            counts: format!(in alloc; "{times} interned\n").expect(rt, "room"),
         }
     }
 
     /// Goes on with a new word, the same word again, and "interned", which occurred `n` times before.
     fn go_on<R: Abort>(&mut self, rt: &R, word: &str, n: u32) {
-        write!(self.text, " {word}{n:03}\n{word}{n:03} interned").expect(rt, "room");
+        write!(self.text, " {word}{n:05}\n{word}{n:05} interned").expect(rt, "room");
         write!(
             self.words,
-            "Not seen the word \"{word}{n:03}\" before\nSeen the word \"{word}{n:03}\" 1 times\nSeen the word \"interned\" {n} times\n"
+            "Not seen the word \"{word}{n:05}\" before\nSeen the word \"{word}{n:05}\" 1 times\nSeen the word \"interned\" {n} times\n"
         )
         .expect(rt, "room");
-        writeln!(self.counts, "2 {word}{n:03}").expect(rt, "room");
+        writeln!(self.counts, "2 {word}{n:05}").expect(rt, "room");
     }
 }
 
-/// More than two megabytes: each of 350 long words occurs twice, and between them the same word 351 times.
-fn two_megabytes<R: Abort>(rt: &R, alloc: Global) -> Told {
-    let word = "字".repeat(alloc, 1_000).expect(rt, "room");
-    let mut told = Told::of_interned(rt, alloc);
-    for n in 1..=350 {
-        told.go_on(rt, &word, n);
+/// A text in which each of this many words with one beginning occurs twice, and between them the same word.
+fn told_of<R: Abort>(rt: &R, alloc: Global, word: &str, count: u32) -> Told {
+    let mut told = Told::of_interned(rt, alloc, count.saturating_add(1));
+    for n in 1..=count {
+        told.go_on(rt, word, n);
     }
     told
 }
@@ -259,18 +259,35 @@ fn is_told<R: Threads + Wait + Sync + Abort>(
     writes(rt, alloc, line, text.as_bytes(), output.as_bytes())
 }
 
-/// Whether the words are listed, and counted by one worker and by three.
+/// Whether the words are listed, also alone, and counted by one worker and by three.
 fn are_told<R: Threads + Wait + Sync + Abort>(rt: &R, alloc: Global, told: &Told) -> bool {
-    is_told(rt, alloc, "words", &told.text, &told.words)
+    are_lines(alloc, &told.text, &told.words)
+        && is_told(rt, alloc, "words", &told.text, &told.words)
         && is_told(rt, alloc, "count 1", &told.text, &told.counts)
         && is_told(rt, alloc, "count 3", &told.text, &told.counts)
 }
 
+/// Whether that is so for a text of at least this many bytes.
+fn are_many_told<R: Threads + Wait + Sync + Abort>(
+    rt: &R,
+    alloc: Global,
+    (word, count): (&str, u32),
+    bytes: usize,
+) -> bool {
+    let told = told_of(rt, alloc, word, count);
+    told.text.len() >= bytes && are_told(rt, alloc, &told)
+}
+
+/// Of 350 long words, and of 5,000 short ones.
 #[test]
 fn two_megabytes_of_words(rt: HostRuntime) {
-    let told = two_megabytes(&rt, rt.alloc());
-    assert_that(&rt, told.text.len() > 2_000_000);
-    assert_that(&rt, are_told(&rt, rt.alloc(), &told));
+    let long = "字".repeat(rt.alloc(), 1_000).expect(&rt, "room");
+    let long = (long.as_str(), 350);
+    assert_that(&rt, are_many_told(&rt, rt.alloc(), long, 2_000_000));
+    assert_that(
+        &rt,
+        are_many_told(&rt, rt.alloc(), ("word", 5_000), 100_000),
+    );
 }
 
 /// Whether the text is interned by a script.
