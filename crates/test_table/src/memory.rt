@@ -18,7 +18,7 @@ const GROUP: u128 = 496 + 208;
 const UNITS: u128 = 1;
 
 /// A table of one bucket.
-fn one_bucket(rt: &impl Abort, alloc: Global) -> Plain {
+pub fn one_bucket(rt: &impl Abort, alloc: Global) -> Plain {
     let buckets = Buckets::new(0).expect(rt, "bits");
     Table::with_buckets(alloc, keys_of(rt, 1), Limits::greatest(), buckets).expect(rt, "a table")
 }
@@ -298,12 +298,34 @@ fn names_take(names: &mut Names<Files>, bytes: u128) -> bool {
         && takes(names.table(), bytes.saturating_add(9))
 }
 
+/// Whether as many texts get a name.
+fn interns_names(rt: &impl Abort, alloc: Global, names: &mut Names<Files>, number: usize) -> bool {
+    for n in 0..number {
+        if names.intern(&numbered_text(rt, alloc, TEXT, n)).is_err() {
+            return false;
+        }
+    }
+    true
+}
+
+/// Whether names take this many bytes once they are cleared.
+fn names_stay(names: &mut Names<Files>, bytes: u128) -> bool {
+    names.clear();
+    takes(names.table(), bytes)
+}
+
+/// Whether names of as many texts take this many bytes once they are cleared.
+fn cleared_names_keep_room(rt: &impl Abort, alloc: Global, number: usize, empty: u128) -> bool {
+    let mut names = Names::of_table(one_bucket(rt, alloc));
+    let is_right = interns_names(rt, alloc, &mut names, number) && names_stay(&mut names, empty);
+    drop(names);
+    is_right
+}
+
 /// Whether names of as many texts take this many bytes once all are gone, and with a new one then.
 fn names_keep_room(rt: &impl Abort, alloc: Global, number: usize, empty: u128) -> bool {
-    let mut table = one_bucket(rt, alloc);
-    let is_right = interns_numbered(rt, alloc, &mut table, number);
-    let mut names = Names::of_table(table);
-    let is_right = is_right
+    let mut names = Names::of_table(one_bucket(rt, alloc));
+    let is_right = interns_names(rt, alloc, &mut names, number)
         && loses_names(rt, alloc, &mut names, number)
         && names_take(&mut names, empty);
     drop(names);
@@ -315,5 +337,9 @@ fn memory_stays_when_names_go(rt: HostRuntime) {
     assert_that(
         &rt,
         names_keep_room(&rt, rt.alloc(), 576, empty_bytes(1, 64)),
+    );
+    assert_that(
+        &rt,
+        cleared_names_keep_room(&rt, rt.alloc(), 576, empty_bytes(1, 64)),
     );
 }

@@ -1,8 +1,8 @@
 //! Calls of a table that are made in a run, with values from outside.
 
 use crate::assert_that;
-use crate::memory::interns_numbered;
-use crate::rows::{FIRST, Made, Row, SECOND, Told, check_plain, follow, plain};
+use crate::memory::{interns_numbered, one_bucket};
+use crate::rows::{FIRST, Made, Row, SECOND, Told, check_plain, follow};
 use string_cache_core::table::TableReply;
 
 /// Calls one after another, each in a run of its own, and the reply to each, when "interned" has one holder.
@@ -26,7 +26,7 @@ fn calls_are_run(rt: HostRuntime) {
     check_plain(&rt, rt.alloc(), &CALLS);
 }
 
-/// The text is interned, an inline word and no word are given, and the text is interned.
+/// The text is interned, an inline word and no word are given, the text is interned, and a longer one.
 static IN_ORDER: [Row; 2] = [
     Row::Run(
         &[
@@ -34,15 +34,17 @@ static IN_ORDER: [Row; 2] = [
             Made::Give(0x6111),
             Made::Give(0),
             Made::Intern("interned"),
+            Made::Intern("Größenordnungen, über die niemand spricht"), // its bucket is 0xa97
         ],
         &[
             TableReply::Word(FIRST),
             TableReply::Given,
             TableReply::NotHeld,
             TableReply::Word(FIRST),
+            TableReply::Word(0x1_2a5c),
         ],
     ),
-    Row::Tell(Told::Keeps(1, 8)),
+    Row::Tell(Told::Keeps(2, 52)),
 ];
 
 #[test]
@@ -102,15 +104,19 @@ fn a_run_is_made_over_three_texts(rt: HostRuntime) {
     check_plain(&rt, rt.alloc(), &BESIDE_TWO);
 }
 
-static ALONE: [Row; 1] = [Row::Intern("interned", Ok(FIRST))];
+/// The first ticket of the only bucket.
+const ONLY: u64 = 0x1_0000;
 
-static OVER_MANY: [Row; 2] = [Row::RunClones(FIRST, 50_000), Row::RunClones(FIRST, 1)];
+static ALONE: [Row; 1] = [Row::Intern("interned", Ok(ONLY))];
 
+static OVER_MANY: [Row; 2] = [Row::RunClones(ONLY, 50_000), Row::RunClones(ONLY, 1)];
+
+/// One bucket has 66,000 more texts.
 #[test]
 fn a_run_of_many_calls_is_made_over_many_texts(rt: HostRuntime) {
     let alloc = rt.alloc();
-    let mut table = plain(&rt, alloc);
+    let mut table = one_bucket(&rt, alloc);
     follow(&rt, alloc, &mut table, &ALONE);
-    assert_that(&rt, interns_numbered(&rt, alloc, &mut table, 10_000));
+    assert_that(&rt, interns_numbered(&rt, alloc, &mut table, 66_000));
     follow(&rt, alloc, &mut table, &OVER_MANY);
 }

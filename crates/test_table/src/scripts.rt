@@ -220,7 +220,7 @@ fn bad_line_is_named_behind_many(rt: HostRuntime) {
     for good in 0..200u16 {
         assert_for(&rt, is_bad_behind(rt.alloc(), good) == Ok(true), &good);
     }
-    assert_that(&rt, is_bad_behind(rt.alloc(), 9_999) == Ok(true));
+    assert_that(&rt, is_bad_behind(rt.alloc(), 65_535) == Ok(true));
 }
 
 #[test]

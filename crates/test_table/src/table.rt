@@ -2,8 +2,8 @@
 
 use crate::hashers::keys_of;
 use crate::rows::{
-    FIRST, Plain, Row, SECOND, Told, check, check_plain, check_with, gives, has_text, interns,
-    is_first, keeps, plain,
+    FIRST, Made, Plain, Row, SECOND, Told, check, check_plain, check_with, gives, has_text,
+    interns, is_first, keeps, plain,
 };
 use crate::texts::numbered_text;
 use crate::{assert_for, assert_that};
@@ -11,7 +11,7 @@ use std::alloc::Global;
 use std::process::Abort;
 use string_cache_core::Fault;
 use string_cache_core::phf::hash;
-use string_cache_core::table::Table;
+use string_cache_core::table::{Table, TableReply};
 use string_cache_core::word::{Buckets, Limits};
 use test_samples::One;
 
@@ -106,10 +106,17 @@ fn the_last_text_comes_in_the_place_of_one_that_goes(rt: HostRuntime) {
 }
 
 /// When a text may have at most two holders, and is interned or cloned.
-static FULL: [Row; 8] = [
+static FULL: [Row; 9] = [
     Row::Intern("interned", Ok(FIRST)),
     Row::Intern("interned", Ok(FIRST)),
     Row::Intern("interned", Err(Fault::FullCount)),
+    Row::Run(
+        &[Made::Intern("interned"), Made::Clone(FIRST)],
+        &[
+            TableReply::Refused(Fault::FullCount),
+            TableReply::Refused(Fault::FullCount),
+        ],
+    ),
     Row::Tell(Told::Keeps(1, 8)),
     Row::Clone(FIRST, Err(Fault::FullCount)),
     Row::Give(FIRST),

@@ -236,10 +236,18 @@ fn finds_none<K>(names: &Names<K>, text: &str, word: u64) -> bool {
     names.name_of(word).is_none() && names.get(text).is_none()
 }
 
-/// Whether the name of a text, interned twice, has the text until both holders are gone.
+/// Whether no more holders of a name can be had.
+fn is_full<K>(names: &mut Names<K>, name: Name<K>, text: &str) -> bool {
+    names.intern(text) == Err(Fault::FullCount) && names.clone_held(name) == Err(Fault::FullCount)
+}
+
+/// Whether the name of a text, interned twice and no more, has the text until both holders are gone.
 fn is_named_till_the_last(rt: &impl Abort, files: &mut Names<File>, text: &str) -> bool {
     let name = name_of(rt, files, text);
-    names(files, name, text) && interns_as(files, text, name) && loses_both(files, name, text)
+    names(files, name, text)
+        && interns_as(files, text, name)
+        && is_full(files, name, text)
+        && loses_both(files, name, text)
 }
 
 /// Whether the name of a text has it, and is found.
@@ -248,8 +256,15 @@ fn is_named_and_found(rt: &impl Abort, functions: &mut Names<Function>, text: &s
     names(functions, name, text) && finds_name(functions, text, name)
 }
 
+/// Names that may have two holders each.
+fn names_of_two<K>(rt: &impl Abort, alloc: Global) -> Names<K> {
+    let limits = Limits::new(2, 9).expect(rt, "limits");
+    let table = Plain::with_limits(alloc, keys_of(rt, 1), limits).expect(rt, "a table");
+    Names::of_table(table)
+}
+
 fn are_files(rt: &impl Abort, alloc: Global) -> bool {
-    let mut files = new_names(rt, alloc);
+    let mut files = names_of_two(rt, alloc);
     let is_right = is_named_till_the_last(rt, &mut files, "source/main.rt");
     drop(files);
     is_right
@@ -257,7 +272,7 @@ fn are_files(rt: &impl Abort, alloc: Global) -> bool {
 
 fn are_functions(rt: &impl Abort, alloc: Global) -> bool {
     let mut functions = new_names(rt, alloc);
-    let is_right = is_named_and_found(rt, &mut functions, "main_function")
+    let is_right = is_named_and_found(rt, &mut functions, "hauptgr\u{f6}\u{df}e")
         && finds_none(&functions, "another_name", 0);
     drop(functions);
     is_right

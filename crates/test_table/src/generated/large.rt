@@ -28,13 +28,23 @@ fn two_thousand_texts(rt: HostRuntime) {
     assert_that(&rt, are_placed(rt.alloc(), &texts) == Ok(true));
 }
 
-/// Short lists, each with a key under which some pair needs a first displacement of some hundreds.
-const LATE: [(usize, u64); 4] = [(9, 41), (13, 92), (14, 18), (15, 50)];
+/// Short lists, each with a key under which some pair needs a first displacement of some hundreds, the fifth one of 5,831; of eight texts, the last
+/// second displacement that is tried, and the last first one. The last key is large.
+const LATE: [(usize, u64); 8] = [
+    (9, 41),
+    (13, 92),
+    (14, 18),
+    (15, 50),
+    (21, 1_681),
+    (8, 26),
+    (8, 233),
+    (9, u64::MAX - 1),
+];
 
 /// Whether this many texts are placed under the key.
 fn are_numbered_placed(alloc: Global, count: usize, key: u64) -> Result<bool, GenFault> {
     let texts = numbered(alloc, count)?;
-    let tables = tables_of(alloc, &lent(alloc, &texts)?, key, 4096)?;
+    let tables = tables_of(alloc, &lent(alloc, &texts)?, key, u32::MAX)?;
     Ok(are_of(alloc, &tables, count, count.div_ceil(5)))
 }
 
@@ -57,10 +67,17 @@ fn is_placed_alone(alloc: Global, text: &str) -> Result<bool, GenFault> {
     Ok(are_of(alloc, &tables, 1, 1))
 }
 
+/// Whether the empty text, a NUL and another have tables.
+fn are_odd_placed(alloc: Global) -> Result<bool, GenFault> {
+    let tables = tables_of(alloc, &["", "\0", "sentence"], 0, 1_024)?;
+    Ok(are_of(alloc, &tables, 3, 1))
+}
+
 #[test]
 fn long_text_is_placed(rt: HostRuntime) {
     let text = long_text(&rt, rt.alloc());
     assert_that(&rt, is_placed_alone(rt.alloc(), &text) == Ok(true));
+    assert_that(&rt, are_odd_placed(rt.alloc()) == Ok(true));
 }
 
 /// Whether the table text of the one text, whatever its hash, is that of perfect tables, and isn't without a line feed.
