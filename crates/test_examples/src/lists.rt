@@ -14,9 +14,16 @@ fn are_listed<R: Wait + Abort>(rt: &R, set: &Set<EmptyStaticAtomSet>) -> bool {
     list.len() == 4 && list.iter().eq(names.iter().copied()) && set.linked(rt) == 2
 }
 
+/// Whether this many names are listed.
+fn is_listed<R: Wait + Abort>(rt: &R, set: &Set<EmptyStaticAtomSet>, names: &[&str]) -> bool {
+    list_names(rt, set, names).expect(rt, "a list").len() == names.len()
+}
+
 #[test]
 fn names_are_listed(rt: HostRuntime) {
     let set = Set::new(rt.alloc()).expect(&rt, "a set");
     assert_that(&rt, are_listed(&rt, &set));
+    assert_that(&rt, is_listed(&rt, &set, &[]));
+    assert_that(&rt, is_listed(&rt, &set, &["blockquote"; 70]));
     assert_that(&rt, set.linked(&rt) == 0);
 }

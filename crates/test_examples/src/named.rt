@@ -45,11 +45,22 @@ fn crew_says<R: Threads + Wait + Sync + Abort>(rt: &R, alloc: Global, last: &str
     crew_agrees(rt, alloc, &texts).expect(rt, "an answer")
 }
 
-/// Eight threads agree if all have one text, and not if the last has another.
+/// What a crew of this many says about one text.
+fn crew_of_says<R: Threads + Wait + Sync + Abort>(rt: &R, alloc: Global, number: usize) -> bool {
+    let mut texts = Vec::new(alloc);
+    for _ in 0..number {
+        add_copy(rt, alloc, &mut texts, "eine Größe");
+    }
+    crew_agrees(rt, alloc, &texts).expect(rt, "an answer")
+}
+
+/// Eight threads agree if all have one text, and not if the last has another. So do none, and 70.
 #[test]
 fn crews_agree(rt: HostRuntime) {
     assert_that(&rt, crew_says(&rt, rt.alloc(), ""));
     assert_that(&rt, !crew_says(&rt, rt.alloc(), "Größe"));
+    assert_that(&rt, crew_of_says(&rt, rt.alloc(), 0));
+    assert_that(&rt, crew_of_says(&rt, rt.alloc(), 70));
 }
 
 /// Who looks up a text that was declared.
@@ -86,10 +97,22 @@ fn found_short<R: Threads + Wait + Sync + Abort>(
     found(rt, alloc, crew, long, &short)
 }
 
-/// Whether the crew finds the long text, which was declared, and not another.
+/// What is found for a short text if it was declared.
+fn found_itself<R: Threads + Wait + Sync + Abort>(
+    rt: &R,
+    alloc: Global,
+    crew: Crew,
+) -> Option<u32> {
+    let short = String::from_str(alloc, "Größe").expect(rt, "room");
+    found_short(rt, alloc, crew, &short)
+}
+
+/// Whether the crew finds the long text, which was declared, and not another, and a short one.
 fn do_find<R: Threads + Wait + Sync + Abort>(rt: &R, alloc: Global, crew: Crew) -> bool {
     let long = long_text(rt, alloc);
-    found(rt, alloc, crew, &long, &long) == Some(7) && found_short(rt, alloc, crew, &long).is_none()
+    found(rt, alloc, crew, &long, &long) == Some(7)
+        && found_short(rt, alloc, crew, &long).is_none()
+        && found_itself(rt, alloc, crew) == Some(7)
 }
 
 /// Whether the same was found as is wanted.
@@ -112,12 +135,23 @@ fn eight_find<R: Threads + Wait + Sync + Abort>(rt: &R, alloc: Global) -> bool {
     are_same(found.as_slice(), &wanted)
 }
 
+/// How many answers there are if nobody asks.
+fn answers_to_none<R: Threads + Wait + Sync + Abort>(rt: &R, alloc: Global) -> usize {
+    let declared = String::from_str(alloc, "eine Größe").expect(rt, "room");
+    let texts = Vec::new(alloc);
+    let keys = keys(1).expect(rt, "keys");
+    declare_and_look_up_all(rt, alloc, keys, &declared, 7, &texts)
+        .expect(rt, "an answer")
+        .len()
+}
+
 /// A text that was declared is found, and another isn't.
 #[test]
 fn declared_texts_are_found(rt: HostRuntime) {
     assert_that(&rt, do_find(&rt, rt.alloc(), Crew::One));
     assert_that(&rt, do_find(&rt, rt.alloc(), Crew::Two));
     assert_that(&rt, eight_find(&rt, rt.alloc()));
+    assert_that(&rt, answers_to_none(&rt, rt.alloc()) == 0);
 }
 
 /// Declares these names in turn.
@@ -181,7 +215,34 @@ fn are_told_of_copies<N: SetName + Send + Sync, R: Threads + Wait + Sync + Abort
     are_told_of::<N, R>(rt, alloc, set, symbols, texts.as_slice())
 }
 
-/// Eight readers of a map of three names, one of which was declared twice.
+/// Whether four readers of the long text, which the map and two others may hold, are refused as they should be.
+fn are_full<N: SetName + Send + Sync, R: Threads + Wait + Sync + Abort>(
+    rt: &R,
+    alloc: Global,
+    set: &Texts<N>,
+    symbols: &Symbols<N>,
+    long: &str,
+) -> bool {
+    let texts = copies(rt, alloc, &[long, long, long, long]);
+    let told = look_up_all(rt, alloc, set, symbols, texts.as_slice());
+    matches!(told, Err(Fault::FullCount))
+}
+
+/// What is declared beside the long text. One name is declared twice.
+const DECLARED: [(&str, u32); 10] = [
+    ("Größe", 1),
+    ("長さ", 2),
+    ("Größe", 3),
+    ("a", 4),
+    ("b", 5),
+    ("c", 6),
+    ("d", 7),
+    ("e", 8),
+    ("f", 9),
+    ("g", 10),
+];
+
+/// Eight readers of a map, and four that are too many.
 fn eight_are_told<N: SetName + Send + Sync, R: Threads + Wait + Sync + Abort>(
     rt: &R,
     alloc: Global,
@@ -190,9 +251,10 @@ fn eight_are_told<N: SetName + Send + Sync, R: Threads + Wait + Sync + Abort>(
     let long = long_text(rt, alloc);
     let long = long.as_str();
     let mut symbols = Symbols::new(alloc, keys(1).expect(rt, "keys"));
-    let names = [(long, 300), ("Größe", 1), ("長さ", 2), ("Größe", 3)];
-    declare_all(rt, set, &mut symbols, &names).expect(rt, "room");
+    declare_all(rt, set, &mut symbols, &[(long, 300)]).expect(rt, "room");
+    declare_all(rt, set, &mut symbols, &DECLARED).expect(rt, "room");
     are_told_of_copies::<N, R>(rt, alloc, set, &symbols, long)
+        && are_full::<N, R>(rt, alloc, set, &symbols, long)
 }
 
 /// The same, in the set with this name.
@@ -203,11 +265,12 @@ fn readers_are_told<N: SetName + Send + Sync, R: Threads + Wait + Sync + Abort>(
 ) -> bool
     requires { N.logs ≡ name.logs }
 {
-    let set = NamedSet::new(alloc, name, Limits::greatest()).expect(rt, "a set");
+    let limits = Limits::new(3, 9).expect(rt, "limits");
+    let set = NamedSet::new(alloc, name, limits).expect(rt, "a set");
     eight_are_told::<N, R>(rt, alloc, &set)
 }
 
-/// Each of eight readers is told what was declared last for its text, or nothing if it wasn't declared.
+/// Each of eight readers is told what was declared last for its text, or nothing if it wasn't declared. A reader's refusal is told.
 #[test]
 fn readers_are_told_what_was_declared(rt: HostRuntime) {
     let name = FreshName::usual(rt.alloc()).expect(&rt, "a name");

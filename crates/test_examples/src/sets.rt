@@ -16,6 +16,7 @@ use std::sync::Wait;
 use std::thread::Threads;
 use string_cache::dynamic_set::Set;
 use string_cache::static_sets::{StaticAtomSet, StaticTables};
+use string_cache::word::{Buckets, Limits};
 use string_cache::{Atom, DefaultAtom, EmptyStaticAtomSet, Fault};
 use test_samples::keys;
 
@@ -36,7 +37,9 @@ fn intern<'s, R: Wait + Abort, Static: StaticTables>(
 }
 
 /// Two names; whether they are one, their order, and whether the second is the first in upper case.
-const NAMES: [(&str, &str, bool, Ordering, bool); 3] = [
+const NAMES: [(&str, &str, bool, Ordering, bool); 5] = [
+    ("", "", true, Ordering::Equal, true),
+    ("B\u{e4}r", "B\u{e4}R", false, Ordering::Greater, true),
     ("pear tree", "pear tree", true, Ordering::Equal, false),
     ("pear tree", "plum", false, Ordering::Less, false),
     ("pear tree", "PEAR TREE", false, Ordering::Greater, true),
@@ -96,6 +99,10 @@ fn headers_have_small_letters(rt: HostRuntime) {
         &rt,
         are_one_header(&rt, &set, "Content-Type", "CONTENT-TYPE", "content-type"),
     );
+    assert_that(
+        &rt,
+        are_one_header(&rt, &set, "GR\u{d6}SSE", "gr\u{d6}sse", "gr\u{d6}sse"),
+    );
 }
 
 /// Whether the atom is written as a value that is read back as the atom.
@@ -140,7 +147,13 @@ fn goes_through<R: Wait + Abort>(rt: &R, set: &DefaultSet, text: &str, json: &st
 #[test]
 fn atoms_go_through_json(rt: HostRuntime) {
     let set = new_set(&rt, rt.alloc());
-    assert_that(&rt, goes_through(&rt, &set, "interned", "\"interned\""));
+    for (text, json) in &[
+        ("interned", r#""interned""#),
+        ("m\u{f6}hrensuppe", "\"m\u{f6}hrensuppe\""),
+        ("a\"b", r#""a\"b""#),
+    ] {
+        assert_for(&rt, goes_through(&rt, &set, text, json), text);
+    }
 }
 
 /// A price list with one name.
@@ -168,9 +181,16 @@ fn priced<R: Wait + Abort>(rt: &R, set: &DefaultSet, name: &str) -> Result<Optio
     price_of_text(rt, set, &one_price(rt, set), name)
 }
 
+/// A set with one bucket of three tickets, which a price list for each of three look-ups spends.
+fn set_of_three_tickets(rt: &impl Abort, alloc: Global) -> DefaultSet {
+    let limits = Limits::new(9, 3).expect(rt, "limits");
+    let buckets = Buckets::new(0).expect(rt, "bits");
+    Set::with_buckets(alloc, limits, buckets).expect(rt, "a set")
+}
+
 #[test]
 fn prices_are_found_without_interning(rt: HostRuntime) {
-    let set = new_set(&rt, rt.alloc());
+    let set = set_of_three_tickets(&rt, rt.alloc());
     for (name, price) in &[
         ("pear tree", Some(40u32)),
         ("plum tree", None), // dynamic
@@ -233,6 +253,8 @@ fn texts_in_tables(alloc: Global, names: &[&str]) -> Option<usize> {
 #[test]
 fn tables_are_made_of_names(rt: HostRuntime) {
     let names = ["figcaption", "m\u{f6}hrensuppe"];
+    assert_that(&rt, texts_in_tables(rt.alloc(), &names) == Some(2));
+    let names = ["textarea", "colgroup"]; // those that none of the first two keys places
     assert_that(&rt, texts_in_tables(rt.alloc(), &names) == Some(2));
     assert_that(
         &rt,
@@ -336,6 +358,7 @@ fn threads_agree(rt: HostRuntime) {
     for (left, right, wanted) in &[
         ("tokenised", "tokenised", true),
         ("tokenised", "tokenized", false),
+        ("", "", true),
     ] {
         assert_for(&rt, do_agree(&rt, &set, left, right, *wanted), right);
     }

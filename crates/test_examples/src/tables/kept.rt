@@ -3,7 +3,7 @@
 use crate::assert_that;
 use example_tables::{
     all_done, all_held, any_shared, bytes_for_each, first_text, last_text, make_room, small_table,
-    start_over, table_of, table_with_holders, takes_at_most, usual_length,
+    start_over, table_of, table_with_holders, takes_at_most, two_come_and_go, usual_length,
 };
 use interner_table::static_sets::EmptyStaticAtomSet;
 use interner_table::table::{Call, Table};
@@ -70,7 +70,7 @@ fn shared_texts_are_seen(rt: HostRuntime) {
     assert_that(&rt, of_table(rt.alloc(), &[], shares_none));
     let names = ["pear tree", "plum tree", "tea", "tea"];
     assert_that(&rt, of_table(rt.alloc(), &names, shares_none));
-    let names = ["pear tree", "plum tree", "plum tree"];
+    let names = ["plum tree"; 70];
     assert_that(&rt, of_table(rt.alloc(), &names, shares_any));
 }
 
@@ -123,8 +123,17 @@ fn a_small_table_takes_little(rt: HostRuntime) {
     assert_that(&rt, small_takes(rt.alloc(), 127) == Some(false));
 }
 
+/// Whether two holders of a name come and go, or one goes if there may be no more, and nothing is held then.
+fn two_come(table: &mut Plain, are_allowed: bool) -> bool {
+    let outcome = two_come_and_go(table, "pear tree", "pear tree", true);
+    outcome.is_ok() == are_allowed && table.entries() == 0
+}
+
 /// Whether at most this many hold "pear tree", which nobody held before.
 fn is_full_at(table: &mut Plain, holders: u64) -> bool {
+    if !two_come(table, holders > 1) {
+        return false;
+    }
     for _ in 0..holders {
         if table.intern("pear tree").is_err() {
             return false;
@@ -145,7 +154,7 @@ fn is_limited(alloc: Global, holders: u64) -> Option<bool> {
 #[test]
 fn holders_are_limited(rt: HostRuntime) {
     assert_that(&rt, is_limited(rt.alloc(), 1) == Some(true));
-    assert_that(&rt, is_limited(rt.alloc(), 3) == Some(true));
+    assert_that(&rt, is_limited(rt.alloc(), 70_000) == Some(true));
     assert_that(&rt, is_limited(rt.alloc(), 0).is_none());
 }
 
@@ -153,9 +162,12 @@ fn holds_first(table: &Plain) -> bool {
     all_held(table, &[FIRST])
 }
 
-/// Whether "interned" is held once room was made, and isn't once the table started over.
+/// More names than there are places in a group.
+const MORE: [&str; 12] = ["plum tree"; 12];
+
+/// Whether "interned" is held once room was made, which takes more than a group of places, and isn't once the table started over.
 fn has_room_and_starts_over(table: &mut Plain) -> bool {
-    let has_room = make_room(table, &["plum tree", "figs and dates"]).is_ok();
+    let has_room = make_room(table, &MORE).is_ok() && !takes_at_most(table, BYTES);
     let is_held = holds_first(table);
     start_over(table);
     has_room && is_held && !holds_first(table)
@@ -183,6 +195,23 @@ fn is_done(table: &mut Plain, call: Call) -> Option<bool> {
     all_done(table, &[call]).ok()
 }
 
+/// The same for two calls.
+fn are_done(table: &mut Plain, call: Call, other: Call) -> Option<bool> {
+    all_done(table, &[call, other]).ok()
+}
+
+/// The same for none.
+fn is_none_done(table: &mut Plain) -> Option<bool> {
+    all_done(table, &[]).ok()
+}
+
+/// Whether two calls are done, or just the first of two, and none.
+fn are_done_together(table: &mut Plain) -> bool {
+    are_done(table, Call::Clone(FIRST), Call::Give(FIRST)) == Some(true)
+        && are_done(table, Call::Clone(SHORT), Call::Give(0)) == Some(false)
+        && is_none_done(table) == Some(true)
+}
+
 /// Whether "interned" is cloned, and given twice and no more.
 fn is_done_in_turn(table: &mut Plain) -> bool {
     is_done(table, Call::Clone(FIRST)) == Some(true)
@@ -193,5 +222,6 @@ fn is_done_in_turn(table: &mut Plain) -> bool {
 
 #[test]
 fn calls_are_done_or_not(rt: HostRuntime) {
+    assert_that(&rt, of_table(rt.alloc(), &["interned"], are_done_together));
     assert_that(&rt, of_table(rt.alloc(), &["interned"], is_done_in_turn));
 }
