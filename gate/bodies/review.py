@@ -44,7 +44,7 @@ import further
 from built import CANT_BUILD, CANT_RUN, tests_of
 from caught import FailsWithout, Own, fails, right_refused
 from copies import copy_without_work, has_tests
-from edits import BadEdit, applied, changes_in
+from edits import BadEdit, applied, changed, changes_in
 from programs import build
 from refuser import refuser
 from repository import TOP, crates_listed, said_by, stands_on
@@ -131,6 +131,7 @@ def readable(bodies, review):
             if body.crate not in listed or not (body.function and body.changes):
                 raise BadEdit("it lacks a crate of crates.txt, a function, or a pair 'old:' and 'new:'")
             body.placed = batches.placed(str(body), TOP / "crates" / body.crate, body.function, body.changes)
+            changed(body.changes, TOP / "crates" / body.crate)  # each old text has to stand once, also behind the pairs before it
             found.append(body)
         except (BadEdit, OSError) as why:
             review.not_checked(body, f"BAD EDIT: {why}")

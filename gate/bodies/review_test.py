@@ -114,6 +114,15 @@ file: src/lib.rt
 old:     7
 new:     5
 
+body: seven_stands_twice
+crate: few
+function: digit
+file: src/lib.rt
+old:     7
+new:     7 - 0 * 7
+old: 7
+new: 6
+
 body: other_is_nothing
 crate: few
 function: other
@@ -127,9 +136,10 @@ WANTED = {
     "digit_is_six (": "proved, and the test digit_is_seven of test_few fails",
     "digit_is_five (": "proved, and the test digit_is_seven of test_few fails",
     "other_is_unknown (": "NOT CHECKED: BAD EDIT: ",
+    "seven_stands_twice (": "NOT CHECKED: BAD EDIT: an 'old:' text stands 2 times",
     "other_is_nothing (": "NOT CHECKED: src/lib.rt:",
     "  factors_in_another_order (": "few",
-    "review: 7 bodies, 1 that nothing holds, 2 not checked:": "",
+    "review: 8 bodies, 1 that nothing holds, 3 not checked:": "",
 }
 ROOT = """\
 //! What C calls.
