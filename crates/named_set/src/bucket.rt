@@ -240,11 +240,12 @@ impl<Static: StaticTables, N: SetName, G: Grant> Bucket<Static, N, G> {
         self.unseen = first;
     }
 
-    // Begins a look that isn't at its end anew, if the index had so many places and has others now: cells stand elsewhere then.
-    fn look_anew(&mut self, places: usize)
+    // Begins a look that isn't at its end anew, if there was no room for a cell: the index was laid out for it, maybe over as many places, and
+    // cells stand elsewhere then.
+    fn look_anew(&mut self, had_room: bool)
         ensures { self.new ≡ self.old }
     {
-        if self.unseen > 0 && self.owners.first_beside() != places {
+        if self.unseen > 0 && !had_room {
             self.look_at_all();
         }
     }
@@ -424,7 +425,7 @@ impl<Static: StaticTables, N: SetName, G: Grant> Bucket<Static, N, G> {
         }
         let serial = self.last + 1;
         let (owner, share) = new_cell::<G>(self.alloc, serial, self.number, text, hash, limits)?;
-        let places = self.owners.first_beside();
+        let had_room = self.owners.has_room();
         if let Err(owner) = self.owners.add(owner) {
             let _ = share.give();
             drop(owner);
@@ -433,7 +434,7 @@ impl<Static: StaticTables, N: SetName, G: Grant> Bucket<Static, N, G> {
         share.enter(&mut self.log);
         self.last = serial;
         let seen = self.seen();
-        self.look_anew(places);
+        self.look_anew(had_room);
         Ok((share, seen))
     }
 }

@@ -65,6 +65,11 @@ impl Cells {
         self.slots.places()
     }
 
+    /// Whether the index has room for one cell more, so that it isn't laid out for it.
+    pub(crate) fn has_room(&self) -> bool {
+        self.slots.has_room()
+    }
+
     /// The cell that stands there, if one does.
     #[inline]
     pub(crate) fn at(&self, at: usize) -> Option<&Owner<Global>>

@@ -4,8 +4,8 @@ ghost use Rattle.std.specs.Prelude.{◌≡◌};
 
 use crate::calls::{found, interned, is_found_as, links};
 use crate::named_left::{
-    all_are_left, are_left_as_it_grows, left_comes_again, many_are_left, many_are_left_alone,
-    many_are_swept, one_goes_beside, one_is_left, two_are_left,
+    all_are_left, are_left_as_it_grows, are_left_as_it_is_laid_out, left_comes_again,
+    many_are_left, many_are_left_alone, many_are_swept, one_goes_beside, one_is_left, two_are_left,
 };
 use crate::named_long::long_texts_come_and_go;
 use crate::{assert_for, assert_that};
@@ -69,6 +69,8 @@ enum Question {
     ManySwept(Order),
     /// Some were left as the index grows.
     LeftAsItGrows,
+    /// Some were left as the index is laid out over as many places.
+    LeftAsItIsLaidOut,
     /// Texts come and go, and the index stays as large as it has to be.
     Marked,
 }
@@ -306,15 +308,25 @@ fn one_comes<'s, N: SetName, R: Wait + Abort>(
     words.push(word).expect(rt, "room");
 }
 
+/// So many texts come as others go, in turn.
+pub fn take_turns<'s, N: SetName, R: Wait + Abort>(
+    rt: &R,
+    set: &'s Named<N>,
+    words: &mut Words<'s, N>,
+    times: usize,
+) {
+    for turn in 0..times {
+        one_comes(rt, set, words, turn.saturating_add(20));
+    }
+}
+
 /// An index of 34 places has marks at some of them, once texts went and others came. With the 31st that isn't empty it is laid out over 40, which is
 /// two for each of twenty, and so it is each time after.
 fn is_laid_out_anew<N: SetName, R: Wait + Abort>(rt: &R, set: &Named<N>) -> bool {
     let empty = set.memory(rt);
     let mut words = hold(rt, set, 20);
     let has_34 = stand(rt, set, &words, empty, 34);
-    for turn in 0..1_000usize {
-        one_comes(rt, set, &mut words, 20 + turn);
-    }
+    take_turns(rt, set, &mut words, 1_000);
     has_34 && stand(rt, set, &words, empty, 40)
 }
 
@@ -335,6 +347,7 @@ fn is_answered<N: SetName, R: Wait + Abort>(rt: &R, set: &Named<N>, question: Qu
         Question::ManyLeftAlone(order) => many_are_left_alone(rt, set, order),
         Question::ManySwept(order) => many_are_swept(rt, set, order),
         Question::LeftAsItGrows => are_left_as_it_grows(rt, set),
+        Question::LeftAsItIsLaidOut => are_left_as_it_is_laid_out(rt, set),
         Question::Marked => is_laid_out_anew(rt, set),
     }
 }
@@ -471,6 +484,7 @@ fn many_that_were_left_are_swept(rt: HostRuntime) {
 #[test]
 fn cells_that_were_left_go_as_the_index_grows(rt: HostRuntime) {
     assert_that(&rt, is_so(&rt, rt.alloc(), Question::LeftAsItGrows));
+    assert_that(&rt, is_so(&rt, rt.alloc(), Question::LeftAsItIsLaidOut));
 }
 
 #[test]

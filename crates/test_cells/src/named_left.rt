@@ -1,7 +1,9 @@
 //! Cells of a bucket that were left, since their last holders ended while another had its lock: each call that has it then takes out one of them,
 //! or looks at sixteen places if several were left.
 use crate::calls::{interned, links};
-use crate::named_cells::{Named, Order, Words, are_found, hold, keep, leave, look, sweep};
+use crate::named_cells::{
+    Named, Order, Words, are_found, hold, keep, leave, look, sweep, take_turns, text_of,
+};
 use named_set::SetName;
 use std::process::Abort;
 use std::sync::Wait;
@@ -115,5 +117,18 @@ pub fn are_left_as_it_grows<N: SetName, R: Wait + Abort>(rt: &R, set: &Named<N>)
     let more = hold_five(rt, set);
     let are_out = look(rt, set, 363) && links(rt, set, 2_705);
     drop(more);
+    are_out && are_found(rt, set, words.as_slice())
+}
+
+/// Of 34 places of an index 30 aren't empty once 43 texts came as others went. As ten are left then, the next call looks at sixteen places, and has
+/// the index laid out over 34 again for its text, where a cell that wasn't seen stands at one of those. Three calls look at all of them.
+pub fn are_left_as_it_is_laid_out<N: SetName, R: Wait + Abort>(rt: &R, set: &Named<N>) -> bool {
+    let mut words = hold(rt, set, 20);
+    take_turns(rt, set, &mut words, 43);
+    leave(rt, set, &mut words, Order::First, 10);
+    let text = text_of(rt, set.allocator(), 63);
+    let next = interned(rt, set, text.as_str()).expect(rt, "a word");
+    let are_out = look(rt, set, 3) && links(rt, set, 11);
+    drop(next);
     are_out && are_found(rt, set, words.as_slice())
 }
