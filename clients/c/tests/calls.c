@@ -206,18 +206,28 @@ static void many_texts_are_kept(void) {
     sc_close(&table);
 }
 
-static void large_texts_are_taken(void) {
-    enum { BYTES = 300000 };
+enum { LARGE = 300000 };
+
+static void check_large(const char text[LARGE]) {
     sc_table table = opened();
-    static char text[BYTES], room[BYTES];
+    static char room[LARGE];
     uint64_t word = 0;
     size_t len = 0;
     bool perfect = true;
-    memset(text, 'a', sizeof text);
-    CHECK(sc_intern(&table, text, sizeof text, &word) == SC_OK);
-    CHECK(sc_text(&table, word, room, sizeof room, &len) == SC_OK && len == BYTES && memcmp(room, text, BYTES) == 0);
-    CHECK(sc_check_tables(text, sizeof text, &perfect) == SC_OK && !perfect);
+    CHECK(sc_intern(&table, text, LARGE, &word) == SC_OK);
+    CHECK(sc_text(&table, word, room, LARGE, &len) == SC_OK && len == LARGE && memcmp(room, text, LARGE) == 0);
+    CHECK(sc_check_tables(text, LARGE, &perfect) == SC_OK && !perfect);
     sc_close(&table);
+}
+
+static void large_texts_are_taken(void) {
+    static char text[LARGE];
+    memset(text, 'a', LARGE);
+    check_large(text);
+    for (size_t at = 0; at < LARGE; at += 2) {
+        memcpy(text + at, "\xc3\xa9", 2);
+    }
+    check_large(text);
 }
 
 static void numbers_have_texts(void) {
