@@ -3,7 +3,8 @@
 
 A check that keeps its work writes each module as soon as it is done with it, so a module took the time since the one before. Of a function, `Lts` and
 `Tie` walk over its code, and `Proof` has the goals that are searched. What a crate uses for the first time counts with the function that uses it.
-Libraries are those that `rt ci` or `rt check` left. Other work on the machine counts too: compare times of one run.
+Libraries are those that `rt ci` or `rt check` left. Other work on the machine counts too: compare times of one run. What isn't proved is timed as
+well, so a time doesn't say that a function is proved.
 
 usage: gate/machine/proof_times.py [--test] [--top N] CRATE [FUNCTION ..]     with --test: of its tests as well; with functions, each by the end of
 the name that `rt check` prints: of these alone
