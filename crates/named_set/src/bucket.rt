@@ -25,9 +25,6 @@ use text_forms::Fault;
 use text_forms::static_sets::StaticTables;
 use text_forms::word::{Limits, ticket_word};
 
-/// So many places are looked at by a call, if several were left.
-const SOME: usize = 16;
-
 /// What one lock of a set holds: the cells that are linked, and the log of all that ever were, which takes no memory. A share may be added
 /// to each cell by a grant of the last type.
 #[derive(Drop)]
@@ -35,7 +32,6 @@ pub struct Bucket<Static: StaticTables, N: SetName, G: Grant> {
     owners: Cells,
     log: CellLog,
     last: u64,
-    unseen: usize, // so many places are still to be looked at
     number: u16,
     alloc: Global,
     of: PhantomData<(Static, N, G)>,
@@ -78,7 +74,6 @@ impl<Static: StaticTables, N: SetName, G: Grant> Bucket<Static, N, G> {
             owners: Cells::new(alloc, key),
             log,
             last: 0,
-            unseen: 0,
             number,
             alloc,
             of: PhantomData,
@@ -181,7 +176,7 @@ impl<Static: StaticTables, N: SetName, G: Grant> Bucket<Static, N, G> {
     {
         let end = self.owners.places();
         self.prune(0, end);
-        self.unseen = 0;
+        self.owners.end_look();
         self.shrink();
     }
 
@@ -215,7 +210,7 @@ impl<Static: StaticTables, N: SetName, G: Grant> Bucket<Static, N, G> {
     pub(crate) fn look_at_all(&mut self)
         ensures { self.new ≡ self.old }
     {
-        self.unseen = self.owners.places();
+        self.owners.look_at_all();
     }
 
     /// Looks at some of the places that are still to be looked at, and takes out the cells there that have no share left.
@@ -223,7 +218,7 @@ impl<Static: StaticTables, N: SetName, G: Grant> Bucket<Static, N, G> {
     pub(crate) fn look_on(&mut self)
         ensures { self.new.number ≡ self.old.number }
     {
-        if self.unseen > 0 {
+        if self.owners.has_unseen() {
             self.look_at_some();
         }
     }
@@ -234,20 +229,8 @@ impl<Static: StaticTables, N: SetName, G: Grant> Bucket<Static, N, G> {
     fn look_at_some(&mut self)
         ensures { self.new.number ≡ self.old.number }
     {
-        let end = self.unseen.min(self.owners.places());
-        let first = end.saturating_sub(SOME);
+        let (first, end) = self.owners.next_unseen();
         self.prune(first, end);
-        self.unseen = first;
-    }
-
-    // Begins a look that isn't at its end anew, if there was no room for a cell: the index was laid out for it, maybe over as many places, and
-    // cells stand elsewhere then.
-    fn look_anew(&mut self, had_room: bool)
-        ensures { self.new ≡ self.old }
-    {
-        if self.unseen > 0 && !had_room {
-            self.look_at_all();
-        }
     }
 
     // Takes out all cells that have no share left and stand from one place on, before another.
@@ -425,7 +408,6 @@ impl<Static: StaticTables, N: SetName, G: Grant> Bucket<Static, N, G> {
         }
         let serial = self.last + 1;
         let (owner, share) = new_cell::<G>(self.alloc, serial, self.number, text, hash, limits)?;
-        let had_room = self.owners.has_room();
         if let Err(owner) = self.owners.add(owner) {
             let _ = share.give();
             drop(owner);
@@ -434,7 +416,6 @@ impl<Static: StaticTables, N: SetName, G: Grant> Bucket<Static, N, G> {
         share.enter(&mut self.log);
         self.last = serial;
         let seen = self.seen();
-        self.look_anew(had_room);
         Ok((share, seen))
     }
 }

@@ -6,6 +6,7 @@ ghost use Rattle.counted_cell.specs.Cell.{Cell};
 ghost use Rattle.named_set.specs.Places.{cells_in, FoundAt, HasCell, HaveHash};
 
 use crate::index_key::IndexKey;
+use crate::look::Look;
 use crate::slots::Slots;
 use counted_cell::{NoShares, Owner};
 use std::alloc::Global;
@@ -22,6 +23,7 @@ const FEW: usize = 8;
 pub struct Cells {
     slots: Slots,
     beside: Vec<Owner<Global>>,
+    look: Look,
 }
 
 impl Model for Cells {
@@ -41,6 +43,7 @@ impl Cells {
         Cells {
             slots: Slots::new(alloc, key),
             beside: Vec::new(alloc),
+            look: Look::new(),
         }
     }
 
@@ -65,9 +68,33 @@ impl Cells {
         self.slots.places()
     }
 
-    /// Whether the index has room for one cell more, so that it isn't laid out for it.
-    pub(crate) fn has_room(&self) -> bool {
-        self.slots.has_room()
+    /// All places are to be looked at. `next_unseen` tells which are next.
+    pub(crate) fn look_at_all(&mut self)
+        ensures { self.new ≡ self.old }
+    {
+        self.look.begin();
+    }
+
+    /// Whether places are still to be looked at.
+    #[inline]
+    pub(crate) fn has_unseen(&self) -> bool {
+        self.look.has_unseen()
+    }
+
+    /// The next places of those that are still to be looked at: where they begin, and where they end.
+    pub(crate) fn next_unseen(&mut self) -> (usize, usize)
+        ensures same { self.new ≡ self.old }
+        ensures within { result.1 ≤ length self.old }
+    {
+        let places = self.places();
+        self.look.next(places)
+    }
+
+    /// All were seen.
+    pub(crate) fn end_look(&mut self)
+        ensures { self.new ≡ self.old }
+    {
+        self.look.end();
     }
 
     /// The cell that stands there, if one does.
@@ -133,6 +160,7 @@ impl Cells {
         if let Err(refused) = self.beside.push(owner) {
             return Err(refused.value);
         }
+        self.look.again(); // there is one place more
         Ok(())
     }
 
@@ -169,6 +197,7 @@ impl Cells {
             index_each(&mut self.slots, &mut self.beside);
         }
         self.beside.shrink_to_fit();
+        self.look.again(); // cells stand elsewhere
         is_laid_out
     }
 
@@ -183,6 +212,7 @@ impl Cells {
         if at < first {
             self.slots.take(at)
         } else {
+            self.look.again(); // the last one will stand there
             self.beside.swap_remove(at - first)
         }
     }

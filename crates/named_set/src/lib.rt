@@ -10,6 +10,7 @@ mod cells;
 mod held;
 mod index_key;
 mod locked;
+mod look;
 mod name;
 mod set;
 mod slots;

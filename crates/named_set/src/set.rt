@@ -217,8 +217,8 @@ impl<Static: StaticTables, N: SetName> NamedSet<Static, N> {
     /// by bucket, from the first to the last, each under its lock. In which order a bucket's cells come isn't said.
     ///
     /// A cell that nobody holds any more may still be linked: its number is 0. Beside other threads, which may link and unlink between one
-    /// bucket and the next, and count up and down at any time, nothing is said of what is visited. A `visit` that waits for the lock of the
-    /// bucket, as one that interns a text may, waits for ever; it may clone and drop held words.
+    /// bucket and the next, and count up and down at any time, nothing is said of what is visited. A `visit` that waits for a lock of the
+    /// set, as one that interns a text may, can wait for ever, and others with it; it may clone and drop held words.
     pub fn for_each<R: Wait, F: FnMut(&str, u64)>(&self, rt: &R, mut visit: F)
         requires { F.IsAlwaysCallable visit }
     {

@@ -4,8 +4,9 @@ ghost use Rattle.std.specs.Prelude.{◌≡◌};
 
 use crate::calls::{found, interned, is_found_as, links};
 use crate::named_left::{
-    all_are_left, are_left_as_it_grows, are_left_as_it_is_laid_out, left_comes_again,
-    many_are_left, many_are_left_alone, many_are_swept, one_goes_beside, one_is_left, two_are_left,
+    all_are_left, are_left_anew, are_left_as_it_grows, are_left_as_it_is_laid_out,
+    are_left_in_turns, left_comes_again, many_are_left, many_are_left_alone, many_are_swept,
+    one_goes_beside, one_is_left, take_turns, two_are_left,
 };
 use crate::named_long::long_texts_come_and_go;
 use crate::{assert_for, assert_that};
@@ -67,10 +68,13 @@ enum Question {
     ManyLeftAlone(Order),
     /// Half of 150 were left, and are swept.
     ManySwept(Order),
+    /// Some were left while calls looked for others, once or again and again.
+    LeftAnew,
+    LeftInTurns,
     /// Some were left as the index grows.
     LeftAsItGrows,
-    /// Some were left as the index is laid out over as many places.
-    LeftAsItIsLaidOut,
+    /// Some were left behind so many turns, and the index is laid out, maybe over as many places.
+    LeftAsItIsLaidOut(usize),
     /// Texts come and go, and the index stays as large as it has to be.
     Marked,
 }
@@ -295,31 +299,6 @@ fn shrinks<N: SetName, R: Wait + Abort>(rt: &R, set: &Named<N>) -> bool {
     are_all && are_more && before && are_quarter && is_one
 }
 
-/// The first of the words goes, and the text of this number comes.
-fn one_comes<'s, N: SetName, R: Wait + Abort>(
-    rt: &R,
-    set: &'s Named<N>,
-    words: &mut Words<'s, N>,
-    number: usize,
-) {
-    let text = text_of(rt, set.allocator(), number);
-    let_go_at(words, 0);
-    let word = interned(rt, set, text.as_str()).expect(rt, "a word");
-    words.push(word).expect(rt, "room");
-}
-
-/// So many texts come as others go, in turn.
-pub fn take_turns<'s, N: SetName, R: Wait + Abort>(
-    rt: &R,
-    set: &'s Named<N>,
-    words: &mut Words<'s, N>,
-    times: usize,
-) {
-    for turn in 0..times {
-        one_comes(rt, set, words, turn.saturating_add(20));
-    }
-}
-
 /// An index of 34 places has marks at some of them, once texts went and others came. With the 31st that isn't empty it is laid out over 40, which is
 /// two for each of twenty, and so it is each time after.
 fn is_laid_out_anew<N: SetName, R: Wait + Abort>(rt: &R, set: &Named<N>) -> bool {
@@ -346,8 +325,10 @@ fn is_answered<N: SetName, R: Wait + Abort>(rt: &R, set: &Named<N>, question: Qu
         Question::AllLeft(count, calls) => all_are_left(rt, set, count, calls),
         Question::ManyLeftAlone(order) => many_are_left_alone(rt, set, order),
         Question::ManySwept(order) => many_are_swept(rt, set, order),
+        Question::LeftAnew => are_left_anew(rt, set),
+        Question::LeftInTurns => are_left_in_turns(rt, set),
         Question::LeftAsItGrows => are_left_as_it_grows(rt, set),
-        Question::LeftAsItIsLaidOut => are_left_as_it_is_laid_out(rt, set),
+        Question::LeftAsItIsLaidOut(turns) => are_left_as_it_is_laid_out(rt, set, turns),
         Question::Marked => is_laid_out_anew(rt, set),
     }
 }
@@ -447,11 +428,8 @@ fn two_that_were_left_go_with_later_calls(rt: HostRuntime) {
 #[test]
 fn many_that_were_left_go_with_later_calls(rt: HostRuntime) {
     for order in &ORDERS {
-        assert_for(
-            &rt,
-            is_so(&rt, rt.alloc(), Question::ManyLeft(*order)),
-            order,
-        );
+        let question = Question::ManyLeft(*order);
+        assert_for(&rt, is_so(&rt, rt.alloc(), question), order);
     }
 }
 
@@ -460,6 +438,12 @@ fn all_that_were_left_go_with_later_calls(rt: HostRuntime) {
     assert_that(&rt, is_so(&rt, rt.alloc(), Question::AllLeft(8, 1)));
     assert_that(&rt, is_so(&rt, rt.alloc(), Question::AllLeft(14, 2)));
     assert_that(&rt, is_so(&rt, rt.alloc(), Question::AllLeft(40, 4)));
+}
+
+#[test]
+fn cells_that_were_left_go_however_often_others_are(rt: HostRuntime) {
+    assert_that(&rt, is_so(&rt, rt.alloc(), Question::LeftAnew));
+    assert_that(&rt, is_so(&rt, rt.alloc(), Question::LeftInTurns));
 }
 
 #[test]
@@ -473,18 +457,18 @@ fn many_that_were_left_go_beside_others(rt: HostRuntime) {
 #[test]
 fn many_that_were_left_are_swept(rt: HostRuntime) {
     for order in &ORDERS {
-        assert_for(
-            &rt,
-            is_so(&rt, rt.alloc(), Question::ManySwept(*order)),
-            order,
-        );
+        let question = Question::ManySwept(*order);
+        assert_for(&rt, is_so(&rt, rt.alloc(), question), order);
     }
 }
 
 #[test]
 fn cells_that_were_left_go_as_the_index_grows(rt: HostRuntime) {
     assert_that(&rt, is_so(&rt, rt.alloc(), Question::LeftAsItGrows));
-    assert_that(&rt, is_so(&rt, rt.alloc(), Question::LeftAsItIsLaidOut));
+    for turns in 0..200 {
+        let question = Question::LeftAsItIsLaidOut(turns);
+        assert_for(&rt, is_so(&rt, rt.alloc(), question), &turns);
+    }
 }
 
 #[test]

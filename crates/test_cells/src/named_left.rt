@@ -2,7 +2,7 @@
 //! or looks at sixteen places if several were left.
 use crate::calls::{interned, links};
 use crate::named_cells::{
-    Named, Order, Words, are_found, hold, keep, leave, look, sweep, take_turns, text_of,
+    Named, Order, Words, are_found, hold, keep, leave, let_go_at, look, sweep, text_of,
 };
 use named_set::SetName;
 use std::process::Abort;
@@ -78,6 +78,50 @@ pub fn all_are_left<N: SetName, R: Wait + Abort>(
     are_linked && look(rt, set, calls) && links(rt, set, 0)
 }
 
+/// Two calls have looked at the upper half of 62 places as more are left. Four look at all of them from there on.
+pub fn are_left_anew<N: SetName, R: Wait + Abort>(rt: &R, set: &Named<N>) -> bool {
+    let mut words = hold(rt, set, 40);
+    leave(rt, set, &mut words, Order::First, 20);
+    let is_begun = look(rt, set, 2);
+    leave(rt, set, &mut words, Order::Between, 10);
+    is_begun && look(rt, set, 4) && links(rt, set, 10) && are_found(rt, set, words.as_slice())
+}
+
+/// One text more.
+fn hold_more<'s, N: SetName, R: Wait + Abort>(
+    rt: &R,
+    set: &'s Named<N>,
+    words: &mut Words<'s, N>,
+    text: &str,
+) {
+    let word = interned(rt, set, text).expect(rt, "a word");
+    words.push(word).expect(rt, "room");
+}
+
+/// So many times two more texts come and are left.
+fn leave_in_turns<'s, N: SetName, R: Wait + Abort>(
+    rt: &R,
+    set: &'s Named<N>,
+    words: &mut Words<'s, N>,
+    times: usize,
+) {
+    let count = words.len();
+    for turn in 0..times {
+        let text = text_of(rt, set.allocator(), turn.saturating_add(1_000));
+        hold_more(rt, set, words, text.as_str());
+        hold_more(rt, set, words, "comes again");
+        leave(rt, set, words, Order::Last, count);
+    }
+}
+
+/// However often two are left, each place has its turn, so that few more are linked than those that are held.
+pub fn are_left_in_turns<N: SetName, R: Wait + Abort>(rt: &R, set: &Named<N>) -> bool {
+    let mut words = hold(rt, set, 40);
+    leave_in_turns(rt, set, &mut words, 500);
+    let are_few = set.linked(rt) <= 50;
+    are_few && are_found(rt, set, words.as_slice())
+}
+
 /// Cells that go meanwhile are no more to be looked at.
 pub fn many_are_left_alone<N: SetName, R: Wait + Abort>(
     rt: &R,
@@ -103,14 +147,13 @@ pub fn many_are_swept<N: SetName, R: Wait + Abort>(rt: &R, set: &Named<N>, order
 fn hold_five<'s, N: SetName, R: Wait + Abort>(rt: &R, set: &'s Named<N>) -> Words<'s, N> {
     let mut words = Vec::new(set.allocator());
     for text in &["first", "second", "third", "fourth", "fifth"] {
-        let word = interned(rt, set, text).expect(rt, "a word");
-        words.push(word).expect(rt, "room");
+        hold_more(rt, set, &mut words, text);
     }
     words
 }
 
 /// With one more than 2,900 texts an index of 3,314 places is laid out over 5,802, while a call has looked at sixteen. Those behind it look at all
-/// of these: 363 have sixteen each.
+/// of these, in 363 blocks of sixteen.
 pub fn are_left_as_it_grows<N: SetName, R: Wait + Abort>(rt: &R, set: &Named<N>) -> bool {
     let mut words = hold(rt, set, 2_900);
     leave(rt, set, &mut words, Order::First, 2_700);
@@ -120,15 +163,41 @@ pub fn are_left_as_it_grows<N: SetName, R: Wait + Abort>(rt: &R, set: &Named<N>)
     are_out && are_found(rt, set, words.as_slice())
 }
 
-/// Of 34 places of an index 30 aren't empty once 43 texts came as others went. As ten are left then, the next call looks at sixteen places, and has
-/// the index laid out over 34 again for its text, where a cell that wasn't seen stands at one of those. Three calls look at all of them.
-pub fn are_left_as_it_is_laid_out<N: SetName, R: Wait + Abort>(rt: &R, set: &Named<N>) -> bool {
+/// The first of the words goes, and the text of this number comes.
+fn one_comes<'s, N: SetName, R: Wait + Abort>(
+    rt: &R,
+    set: &'s Named<N>,
+    words: &mut Words<'s, N>,
+    number: usize,
+) {
+    let text = text_of(rt, set.allocator(), number);
+    let_go_at(words, 0);
+    hold_more(rt, set, words, text.as_str());
+}
+
+/// So many texts come as others go, in turn.
+pub fn take_turns<'s, N: SetName, R: Wait + Abort>(
+    rt: &R,
+    set: &'s Named<N>,
+    words: &mut Words<'s, N>,
+    times: usize,
+) {
+    for turn in 0..times {
+        one_comes(rt, set, words, turn.saturating_add(20));
+    }
+}
+
+/// An index has marks at some of its 34 or 40 places, once so many texts came as others went. As ten of twenty are left then, a call looks at the last
+/// places. If the next one has the index laid out for its text, cells that weren't seen may stand where it had looked. Three calls look at all places.
+pub fn are_left_as_it_is_laid_out<N: SetName, R: Wait + Abort>(
+    rt: &R,
+    set: &Named<N>,
+    turns: usize,
+) -> bool {
     let mut words = hold(rt, set, 20);
-    take_turns(rt, set, &mut words, 43);
+    take_turns(rt, set, &mut words, turns);
     leave(rt, set, &mut words, Order::First, 10);
-    let text = text_of(rt, set.allocator(), 63);
-    let next = interned(rt, set, text.as_str()).expect(rt, "a word");
-    let are_out = look(rt, set, 3) && links(rt, set, 11);
-    drop(next);
-    are_out && are_found(rt, set, words.as_slice())
+    let is_begun = look(rt, set, 1);
+    hold_more(rt, set, &mut words, "the next text");
+    is_begun && look(rt, set, 3) && links(rt, set, 11) && are_found(rt, set, words.as_slice())
 }
