@@ -5,6 +5,7 @@ pub use Rattle.text_forms.specs.Form
 pub mod HeldText
 pub use Rattle.text_forms.specs.InlineText
 pub mod Kept
+pub use Rattle.text_forms.specs.KeyedHash
 pub use Rattle.text_forms.specs.Layout
 pub use Rattle.text_forms.specs.Map
 pub mod Memory

@@ -10,6 +10,7 @@ pub use Rattle.text_forms.specs.Faults
 pub use Rattle.text_forms.specs.Form
 pub use Rattle.text_forms.specs.InlineText
 pub use Rattle.interner_table.specs.Kept
+pub use Rattle.text_forms.specs.KeyedHash
 pub use Rattle.text_forms.specs.Layout
 pub use Rattle.counted_set.specs.Link
 pub use Rattle.text_forms.specs.Map

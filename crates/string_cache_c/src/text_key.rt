@@ -1,8 +1,7 @@
 //! The key under which a table hashes its texts.
 
 use std::hash::BuildHasher;
-use text_forms::SipKey;
-use text_forms::phf::Sip;
+use text_forms::{SipHasher, SipKey};
 
 /// A key of SipHash-1-3 that C drew or chose, and handed over. No function here makes one, so a table uses its caller's key.
 #[repr(C)]
@@ -12,14 +11,14 @@ pub struct TextKey {
 }
 
 impl BuildHasher for TextKey {
-    type Hasher = Sip;
+    type Hasher = SipHasher;
 
-    ghost use Rattle.text_forms.specs.Phf.{start};
+    ghost use Rattle.text_forms.specs.KeyedHash.{begun};
 
-    ghost build_hasher = { λ key. start key.key.low key.key.high };
+    ghost build_hasher = { λ key. begun key.key.low key.key.high };
 
     #[inline]
-    fn build_hasher(&self) -> Sip {
+    fn build_hasher(&self) -> SipHasher {
         self.key.build_hasher()
     }
 }

@@ -5,6 +5,7 @@ pub use Rattle.text_forms.specs.Form
 pub use Rattle.interner_table.specs.HeldText
 pub use Rattle.text_forms.specs.InlineText
 pub use Rattle.interner_table.specs.Kept
+pub use Rattle.text_forms.specs.KeyedHash
 pub use Rattle.text_forms.specs.Layout
 pub use Rattle.text_forms.specs.Map
 pub use Rattle.interner_table.specs.Memory

@@ -2,7 +2,7 @@
 
 use crate::{assert_for, assert_that};
 use std::cell::Cell;
-use std::hash::{BuildHasher, Hasher};
+use std::hash::{BuildHasher, Hash, Hasher};
 use std::io;
 use std::random::RandomSource;
 use text_forms::SipKey;
@@ -95,19 +95,90 @@ fn a_byte_is_a_message(rt: HostRuntime) {
     );
 }
 
+/// The hash of a text, with its end.
+fn hash_of_text(key: SipKey, text: &str) -> u64 {
+    key.hash_one(text)
+}
+
 #[test]
 fn the_end_of_a_text_adds_nothing(rt: HostRuntime) {
-    let none = SipKey::new(LOW, HIGH).build_hasher().finish();
-    assert_that(&rt, hash_of_byte(SipKey::new(LOW, HIGH), 0xff) == none);
-    assert_that(&rt, hash_of(SipKey::new(LOW, HIGH), b"\xff") == none);
     for (message, zero, counting) in &HASHES {
-        assert_for(&rt, SipKey::new(0, 0).hash_one(*message) == *zero, message);
+        let is_one = message.len() == 1;
         assert_for(
             &rt,
-            SipKey::new(LOW, HIGH).hash_one(*message) == *counting,
+            is_one || hash_of_text(SipKey::new(0, 0), message) == *zero,
+            message,
+        );
+        assert_for(
+            &rt,
+            is_one || hash_of_text(SipKey::new(LOW, HIGH), message) == *counting,
             message,
         );
     }
+}
+
+/// SipHash-1-3 of the byte 255 as a message of its own, and of that behind the byte 0, as another program worked them out.
+#[test]
+fn the_byte_that_ends_texts_is_a_message_elsewhere(rt: HostRuntime) {
+    assert_that(
+        &rt,
+        hash_of_byte(SipKey::new(0, 0), 0xff) == 0x3040_6ea5_23c5_3def,
+    );
+    assert_that(
+        &rt,
+        hash_of(SipKey::new(LOW, HIGH), b"\xff") == 0x336d_3897_9e4a_286b,
+    );
+    assert_that(
+        &rt,
+        hash_of_text(SipKey::new(0, 0), "\0") == 0xf14e_dd56_aa07_ea1e,
+    );
+    assert_that(
+        &rt,
+        hash_of_text(SipKey::new(LOW, HIGH), "\0") == 0x7ecc_3231_f847_2bec,
+    );
+}
+
+/// Whether no two of the keys have one hash.
+fn are_apart<K: Hash>(key: SipKey, keys: &[K]) -> bool {
+    for (at, one) in keys.iter().enumerate() {
+        for other in keys.iter().take(at) {
+            if key.hash_one(one) == key.hash_one(other) {
+                return false;
+            }
+        }
+    }
+    true
+}
+
+/// Keys of bytes, of which some are the one that ends a text: where it stands counts, and how often.
+#[test]
+fn bytes_of_keys_count(rt: HostRuntime) {
+    let key = SipKey::new(LOW, HIGH);
+    let four = [
+        [1u8, 255, 255, 255],
+        [255, 1, 255, 255],
+        [255, 255, 1, 255],
+        [255, 255, 255, 1],
+        [1, 1, 255, 255],
+        [255; 4],
+    ];
+    assert_that(&rt, are_apart(key, &four));
+    assert_that(&rt, are_apart(key, &[(255u8, 7u8), (7, 255), (255, 255)]));
+    assert_that(&rt, are_apart(key, &[(-1i8, 5i8), (5, -1), (-1, -1)]));
+    let behind_texts = [
+        ("ab", 255u8, 1u8),
+        ("ab", 1, 255),
+        ("", 255, 1),
+        ("", 1, 255),
+    ];
+    assert_that(&rt, are_apart(key, &behind_texts));
+    let behind_numbers = [
+        (256u16, 255u8, 1u8),
+        (256, 1, 255),
+        (256, 255, 255),
+        (256, 1, 1),
+    ];
+    assert_that(&rt, are_apart(key, &behind_numbers));
 }
 
 #[test]

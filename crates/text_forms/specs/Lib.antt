@@ -2,6 +2,7 @@ pub mod Bounds
 pub mod Faults
 pub mod Form
 pub mod InlineText
+pub mod KeyedHash
 pub mod Layout
 pub mod Map
 pub mod Packed

@@ -1,8 +1,7 @@
 -- SipHash (Aumasson and Bernstein, 2012) as a fold over a text's 64-bit words, and the place that the hashes give a text in static tables (hash,
 -- displace and compress: Belazzougui, Botelho and Dietzfelbinger, 2009).
-use Rattle.std.specs.Prelude.{ℕ, zero, suc, if◌then◌else◌, ◌+◌, ◌*◌, ◌/◌, ◌%◌, ◌^◌, List, [], ◌∷◌, ◌++◌, length, drop, map, fold, bit_xor, slice_index_or}
+use Rattle.std.specs.Prelude.{ℕ, zero, suc, ◌+◌, ◌*◌, ◌/◌, ◌%◌, ◌^◌, List, [], ◌∷◌, ◌++◌, length, drop, map, fold, bit_xor, slice_index_or}
 use Rattle.std.specs.Int.{w64, rotate_left}
-use Rattle.std.specs.Str.{bytes_eq}
 use Rattle.std.specs.Simd.{first_chunks}
 use Rattle.text_forms.specs.declared.phf.Sip.{Sip}
 use Rattle.text_forms.specs.declared.phf.Hashes.{Hashes}
@@ -77,11 +76,6 @@ xor_of s = bit_xor (bit_xor (bit_xor s.v0 s.v1) s.v2) s.v3
 -- SipHash-2-4 with 64 bits
 unfoldable pub sip24_of : List ℕ → ℕ → ℕ → ℕ
 sip24_of bytes k0 k1 = xor_of (rounds 4 (xor_v2 (absorb_all 2 (start k0 k1) bytes) 0xff))
-
--- the state after one write into a hasher: its bytes are taken in as a message, with their length. A text is ended by a write of the byte 255
--- alone, which adds nothing, since the text's length was taken in.
-unfoldable pub written : Sip → List ℕ → Sip
-written s bytes = if bytes_eq bytes (255 ∷ []) then s else absorb_all 1 s bytes
 
 -- the 64 bits that SipHash-1-3 gives after this state
 unfoldable pub sip13_of : Sip → ℕ

@@ -10,4 +10,4 @@ pub mod static_sets;
 pub mod word;
 
 pub use faults::Fault;
-pub use sip_key::SipKey;
+pub use sip_key::{SipHasher, SipKey};
