@@ -17,7 +17,7 @@ pub enum State {
     Comment,
     /// A `*` in such a comment.
     Star,
-    /// A string or a character in these quotes.
+    /// A string or a character in these quotes, which ends with its line if not before.
     Quoted(char),
     /// A backslash between these quotes.
     Escape(char),
@@ -32,6 +32,7 @@ impl State {
             (State::Comment | State::Star, '*') => State::Star,
             (State::Star, '/') => State::Between,
             (State::Comment | State::Star, _) => State::Comment,
+            (State::Quoted(_), '\n') => State::Between,
             (State::Quoted(quote), '\\') => State::Escape(quote),
             (State::Quoted(quote), _) if quote != letter => State::Quoted(quote),
             (State::Quoted(_), _) => State::Between,
