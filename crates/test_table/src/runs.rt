@@ -88,8 +88,8 @@ fn a_run_has_no_calls_or_many(rt: HostRuntime) {
     check_plain(&rt, rt.alloc(), &NONE_OR_MANY);
 }
 
-/// By OpenSSL's SipHash the buckets of the other two are 0x2ec and 0x20a.
-static BESIDE_TWO: [Row; 4] = [
+/// By OpenSSL's SipHash the buckets of the other two are 0x2ec and 0x20a. As the first goes, the last takes its place, and comes last again.
+static BESIDE_TWO: [Row; 7] = [
     Row::Intern("interned", Ok(FIRST)),
     Row::Intern("the first", Ok(0x1_0bb0)),
     Row::Intern("the second", Ok(0x1_0828)),
@@ -97,6 +97,12 @@ static BESIDE_TWO: [Row; 4] = [
         &[Made::Clone(FIRST), Made::Clone(0x1_0bb0)],
         &[TableReply::Word(FIRST), TableReply::Word(0x1_0bb0)],
     ),
+    Row::Run(
+        &[Made::Give(FIRST), Made::Give(FIRST)],
+        &[TableReply::Given, TableReply::Given],
+    ),
+    Row::Run(&[Made::Intern("interned")], &[TableReply::Word(SECOND)]),
+    Row::Tell(Told::Stand(&[("the second", 1), ("the first", 2), ("interned", 1)])),
 ];
 
 #[test]

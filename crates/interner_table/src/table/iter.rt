@@ -88,7 +88,7 @@ impl<'t> Clone for Iter<'t> {
 
 impl<S: StaticTables, H: BuildHasher> Table<S, H> {
     ghost use Rattle.interner_table.specs.HeldText.{pair_of};
-    ghost use Rattle.interner_table.specs.Kept.{Pair, map_of};
+    ghost use Rattle.interner_table.specs.Kept.{IsSoundMap, Pair, map_of};
 
     /// The dynamic texts that are held, each once, with its word and its holders. They are in the order in which they were interned, except that when
     /// a text is taken out, the last one takes its place: the same calls give the same order.
@@ -96,7 +96,9 @@ impl<S: StaticTables, H: BuildHasher> Table<S, H> {
         ensures texts { result ≡ self.now.pairs }
         ensures held { (at : ℕ) (pair : Pair) → slice_get self.now.pairs at ≡ Some pair → (map_of self.now).held pair.0 ≡ Some pair.1 }
         ensures distinct { IsDistinct bytes_eq (keys_of self.now.pairs) }
+        ensures sound { IsSoundMap S.tables (map_of self.now) }
     {
+        self.is_sound(); // as the last clause says
         Iter {
             entries: self.entries.iter(),
         }
