@@ -1,7 +1,8 @@
 #!/usr/bin/env python3
-"""Tries what no other part of the test command tries: the pictures of docs/ are what the scripts draw of the stored figures, the number of
-checks side by side is one that the machine has processors for, a module's time is that since the one before, gate/pages/pages.py tells of a page of
-definitions that doesn't say what the sources say, and gate/quick.py, over a small crate, passes what is right and nothing else.
+"""Tries what no other part of the test command tries: the test command fails if a part of it is killed or never begins, what is kept by name is
+there, the pictures of docs/ are what the scripts draw of the stored figures, the number of checks side by side is one that the machine has processors
+for, a module's time is that since the one before, gate/pages/pages.py tells of a page of definitions that doesn't say what the sources say, and
+gate/quick.py, over a small crate, passes what is right and nothing else.
 
 usage: gate/small_test.py
 """
@@ -21,6 +22,7 @@ import machine
 import pages
 import proof_times
 import quick
+import refuser
 import repository
 import run_tests
 from repository import TOP
@@ -46,6 +48,72 @@ pub fn next(number: u8) -> u32
 }
 """
 BODY = "function: next\nfile: src/lib.rt\nold: u32::from(number) + 1\nnew: u32::from(number) + 2\n"
+
+
+class Gate(unittest.TestCase):
+    """The test command, over parts that only say that they passed."""
+
+    def setUp(self):
+        room = tempfile.TemporaryDirectory()
+        self.addCleanup(room.cleanup)
+        self.top = Path(room.name)
+        script = (TOP / "test.sh").read_text(encoding="utf-8")
+        self.part("test.sh", script)
+        paths = {f"gate/{path}" for path in re.findall(r"(?:gate/|^\w+ )(\w+(?:/\w+)?\.py)", script, re.MULTILINE)}
+        for path in {*paths, "bin/rt"}:
+            self.part(path, "#!/bin/sh\necho '2 passed, 0 failed'\n")
+        self.part("gate/machine/lanes.py", "#!/bin/sh\necho 1\n")
+
+    def part(self, path, text):
+        """Puts this in place of a part."""
+        (self.top / path).parent.mkdir(parents=True, exist_ok=True)
+        (self.top / path).write_text(text, encoding="utf-8")
+        (self.top / path).chmod(0o755)
+
+    def ran(self):
+        """The command's status, and its last line."""
+        environment = {**os.environ, "PATH": f"{self.top / 'bin'}:{os.environ['PATH']}"}
+        ran = subprocess.run([self.top / "test.sh"], stdin=subprocess.DEVNULL, capture_output=True, text=True, env=environment, check=False)
+        return ran.returncode, ran.stdout.splitlines()[-1]
+
+    def test_all_parts_that_pass_are_counted(self):
+        self.assertEqual(self.ran(), (0, "30 passed, 0 failed, 0 skipped"))
+
+    def test_a_part_that_fails_fails_all(self):
+        self.part("gate/clients/clients.py", "#!/bin/sh\necho '1 passed, 3 failed'\nexit 1\n")
+        self.assertEqual(self.ran(), (1, "29 passed, 3 failed, 0 skipped"))
+        self.part("gate/clients/clients.py", "#!/bin/sh\necho '2 passed, 0 failed'\nexit 1\n")
+        self.assertEqual(self.ran(), (1, "30 passed, 1 failed, 0 skipped"))
+
+    def test_a_part_that_is_killed_fails_all(self):
+        for path in ("gate/clients/clients.py", "bin/rt"):
+            with self.subTest(path):
+                self.setUp()
+                self.part(path, "#!/bin/sh\nkill -9 $$\n")
+                self.assertEqual(self.ran(), (1, "28 passed, 1 failed, 0 skipped"))
+
+    def test_parts_that_never_begin_fail_all(self):
+        self.part("gate/machine/idle.py", "#!/bin/sh\nkill -9 $PPID\n")
+        self.assertEqual(self.ran(), (1, "18 passed, 6 failed, 0 skipped"))
+
+    def test_an_edit_of_must_fail_that_is_bad_fails_all(self):
+        self.part("bin/rt", "#!/bin/sh\necho 'rt: note: bad must-fail edits, as told above: 1.'\necho '2 passed, 0 failed'\n")
+        self.assertEqual(self.ran(), (1, "30 passed, 1 failed, 0 skipped"))
+
+
+class Kept(unittest.TestCase):
+    def test_each_file_of_wrong_bodies_is_an_edit(self):
+        for pattern in ("crates/*/refused", "crates/*/must-fail", "crates/*/caught", "crates/*/scheduled", "gate/clients/caught"):
+            files = list(TOP.glob(f"{pattern}/*"))
+            self.assertTrue(files, pattern)
+            self.assertEqual([file for file in files if file.suffix != ".edit"], [], pattern)
+
+    def test_tests_with_own_limits_of_requests_are_there(self):
+        """`SPARED` names the beginnings of tests, too."""
+        for name in {*refuser.SPARED, *refuser.FEW, *refuser.MANY}:
+            _, module, test = name.split("::")
+            files = TOP.glob(f"crates/test_*/src/refusals/{module}.rt")
+            self.assertTrue(any(f"fn {test}" in file.read_text(encoding="utf-8") for file in files), name)
 
 
 class Pictures(unittest.TestCase):

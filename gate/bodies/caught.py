@@ -393,7 +393,7 @@ def main():
     # a worker that ended by an error of its own leaves tasks without a result
     passed = trials.results.count(True)
     print(f"{passed} passed, {expected - passed} failed")
-    return 0 if passed == expected else 1
+    return 0 if passed and passed == expected else 1
 
 
 if __name__ == "__main__":

@@ -39,11 +39,11 @@ EXPORTS = "string_cache_c"  # the crate
 ARCHIVE = TOP / "crates" / EXPORTS / "out" / f"lib{EXPORTS}.a"
 NEEDED = ("clients", "tools", "gate", "crates/example_scopes")  # what the tests of clients need
 CRATES = ("crates", "crates.txt", "HANDLES")  # what a build of the exports needs
-SECONDS = 900  # for one row
+SECONDS = 2700  # for one row, on a slow machine beside other work
 # Most of what a row in Rust takes is the optimiser's work, and here no row is about that.
 UNOPTIMISED = {"CARGO_PROFILE_RELEASE_OPT_LEVEL": "0"}
 # What is said where a program wasn't even built, which is no catch.
-NOT_BUILT = re.compile(r"WRONG: (?:cc|c\+\+|gcc|g\+\+|clang|clang\+\+) ended|could not compile|no test was run")
+NOT_BUILT = re.compile(r"WRONG: (?:bash|\S*(?:cc|\+\+|clang)\S*) ended|could not compile|no test was run|SyntaxError")
 
 
 class Skipped(Exception):
@@ -101,6 +101,8 @@ def read(path):
     """The body in a file."""
     lines = path.read_text(encoding="utf-8").splitlines()
     row, crate = (next((line.removeprefix(word) for line in lines if line.startswith(word)), "") for word in ("row: ", "crate: "))
+    if not row:
+        raise BadEdit(f"{path.name}: no row has to fail")
     try:
         return Body(path.stem, row, crate, changes_in(lines))
     except BadEdit as why:

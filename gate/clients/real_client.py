@@ -36,7 +36,7 @@ MOST_FOUND = 40  # pages
 MOST_BYTES = 2_000_000  # of those that were found
 OPERATORS = 12  # of the grammar that is made
 LEAST_LINES = 1000  # that a program writes
-SECONDS = 600
+SECONDS = 1800
 NAMES = (
     "div span p a b i em table tr td th tbody ul ol li form input select option template script style title svg math mi foreignObject "
     "linearGradient blockquote figcaption button my-own-element a-much-longer-custom-element x1 nobr frameset textarea pre h1 h6"

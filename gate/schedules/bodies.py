@@ -98,6 +98,8 @@ def try_bodies(paths, scenes, top, jobs, searched=None):
         copy = Path(room) / "copy"
         shutil.copytree(top, copy, ignore=shutil.ignore_patterns("out", ".git"))
         found = built(bodies, copy, Path(room)) if bodies else []
+        names = {path.stem for path in paths}
+        results += [tell(name, False, "no such body is kept") for name in searched or () if name not in names]
         is_searched = [searched is None or edit.path.stem in searched for edit, *_ in found]
         return results + list(workers.map(lambda body, asked: judge(body, room, asked, len(paths) == 1), found, is_searched))
 

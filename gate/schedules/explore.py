@@ -121,6 +121,8 @@ def search(program, words, arguments, given=b""):
     for part in parts:
         first, *rest = part.splitlines()
         outcomes.append(Outcome(int(first.split()[0]), (first.split() + [""])[1], rest))
+    if not outcomes and "-r" not in command:
+        return Found(error="no schedule was run")
     return Found(int(numbers["schedules"]), numbers["cut"] == "1", float(numbers["seconds"]), outcomes, lines[:-1])
 
 
