@@ -31,7 +31,7 @@ pub trait SharedSet: TextSet + ListedSet<<Self as TextSet>::Bare> {
     /// Calls `visit` once for each text that is linked, with the number of its holders as one look at its count reads it: bucket by bucket, from the
     /// first to the last, each under its lock. The set says in which order those of a bucket are visited.
     ///
-    /// A `visit` that waits for the bucket's lock, as one that interns a text may, waits forever; it may clone and drop atoms.
+    /// A `visit` that waits for a lock of the set, as one that interns a text may, can wait forever, and others with it; it may clone and drop atoms.
     fn for_each<R: Wait, F: FnMut(&str, u64)>(self, rt: &R, visit: F)
         requires { F.IsAlwaysCallable visit };
 
@@ -65,7 +65,7 @@ impl<'s, Static: StaticTables> SharedSet for &'s Set<Static> {
     }
 }
 
-/// Within a bucket the text that was linked first is visited first.
+/// In which order the texts of a bucket are visited isn't said.
 impl<'s, Static: StaticTables, N: SetName> SharedSet for &'s NamedSet<Static, N> {
     ghost bounds = { λ set. set.now.limits };
 

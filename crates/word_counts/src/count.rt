@@ -50,7 +50,8 @@ pub type WordCounts<'e, Static> = Vec<(Atom<'e, Static>, u64)>;
 /// It interns every place of every word in the set, repeated ones again, between the gate's two calls.
 ///
 /// Words are hashed under `keys` while they are counted. What is returned doesn't depend on them. If they are random, as `RandomState::new` draws
-/// them, nobody can choose a text that slows down the counting.
+/// them, nobody can choose words that collide there. In which bucket of the set a word is follows from the word alone, so whoever writes the text can
+/// have many in one, which slows down their interning.
 ///
 /// `Worker` if a worker's thread couldn't be started, and `Intern` if interning or memory was refused. If several workers are refused, the fault is
 /// that of the lowest piece. After a fault no worker is left running, and none of their atoms is held.

@@ -127,8 +127,8 @@ impl<Static: StaticTables> Set<Static> {
     /// it: bucket by bucket, from the first to the last, each under its lock, and newest first within a bucket.
     ///
     /// An entry that nobody holds any more may still be linked: its number is 0. While other threads link and unlink between one bucket and the next,
-    /// and count up and down at any time, nothing is said about what is visited. A `visit` that waits for the bucket's lock, as one that interns a
-    /// text may, waits forever; it may clone and drop atoms.
+    /// and count up and down at any time, nothing is said about what is visited. A `visit` that waits for a lock of the set, as one that interns a
+    /// text may, can wait forever, and others with it; it may clone and drop atoms.
     pub fn for_each<R: Wait, F: FnMut(&str, u64)>(&self, rt: &R, mut visit: F)
         requires { F.IsAlwaysCallable visit }
     {

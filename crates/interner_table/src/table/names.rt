@@ -106,7 +106,8 @@ impl<K, S: StaticTables, H: BuildHasher> Names<K, S, H> {
         })
     }
 
-    /// The text of a name that is held. `None` for one that was given up or belongs to another table.
+    /// The text of a name. `None` exactly if its word isn't held here: a name of another table has the text that its word has here, and an inline or
+    /// static one always has its text.
     pub fn text_of(&self, name: Name<K>) -> Option<WordText<'_>>
         ensures held { IsSome result ↔ IsHeld S.tables (map_of self.now.table) name.word }
         ensures word { IfSome result (λ lent. HasWord S.tables (map_of self.now.table) (text_in lent) name.word) }

@@ -27,8 +27,8 @@ impl<S: StaticTables, H: BuildHasher + Drop> Table<S, H> {
 }
 
 impl<S: StaticTables, H: BuildHasher> Table<S, H> {
-    /// Makes room for this many more dynamic texts: each of them then takes no memory but that of its bytes. `Memory` if there is none. What is held
-    /// stays in either case.
+    /// Makes room for this many more dynamic texts: each of them then takes no memory but that of its bytes. `Memory` if there is none, and the table
+    /// may have got a part of it then, which it keeps. What is held stays in either case.
     pub fn reserve(&mut self, more: usize) -> Result<(), Fault>
         ensures same { self.new ≡ self.old }
         ensures fault { IfErr result (λ fault. fault ≡ Memory) }

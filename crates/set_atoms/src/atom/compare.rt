@@ -66,7 +66,7 @@ impl<H: AtomKind> Ord for SetAtom<H> {
 
     ghost matches_eq = { λ a b. texts_ties a.text b.text };
 
-    /// Equal atoms are recognised first: most need no look at their bytes.
+    /// Equal atoms are recognised first: short and static ones, and those of a set with a name, without a look at their bytes.
     #[inline]
     #[tactic(auto, using(crate::proofs::Forms::equal_tied))]
     fn cmp(&self, other: &Self) -> Ordering {
