@@ -9,7 +9,8 @@ Two ints that an interner holds at one time are equal exactly if their texts are
 `release` takes one off; with the last one the text goes, and its int never comes back. A text of at most 7 bytes of UTF-8 lies in its int: it
 takes no memory, is always held, and isn't counted or listed.
 
-Threads may share an interner: a lock of its own lets one call in at a time. It isn't to be used in a child of `os.fork`.
+Threads may share an interner: a lock of its own lets one of them in at a time. Finalizers and signal handlers may call it too, also where they run in
+the middle of another call. It isn't to be used in a child of `os.fork`.
 
 An argument of another type than is said raises a TypeError that names it. An interner can be neither copied nor pickled.
 
@@ -21,7 +22,6 @@ from __future__ import annotations
 
 import ctypes
 import ctypes.util
-import itertools
 import os
 import threading
 import warnings
@@ -50,6 +50,10 @@ class Refused(Exception):
     def __init__(self, status: int) -> None:
         super().__init__(_library.sc_strerror(status).decode("ascii"))
         self.status = status
+
+    def __reduce__(self) -> tuple[type[Refused], tuple[int], dict[str, object]]:
+        """What copy and pickle ask for: it is made anew of its status, and not of its message, as other exceptions are."""
+        return type(self), (self.status,), self.__dict__
 
     @property
     def number(self) -> int:
@@ -97,7 +101,6 @@ def _loaded(path: str) -> ctypes.CDLL:
         ("sc_get", number, [table, ctypes.c_char_p, size, words]),
         ("sc_clone", number, [table, word]),
         ("sc_give", number, [table, word]),
-        ("sc_holds", ctypes.c_bool, [table, word]),
         ("sc_holders", number, [table, word, words]),
         ("sc_text", number, [table, word, ctypes.c_char_p, size, sizes]),
         ("sc_entries", size, [table]),
@@ -142,7 +145,7 @@ def _is(kind: type, name: str, value: object) -> None:
 def _encoded(text: str) -> bytes:
     """A text as C has it."""
     _is(str, "text", text)
-    return text.encode()
+    return str.encode(text)  # what the characters are, whatever a subclass has by that name
 
 
 def _word(word: int) -> int:
@@ -162,7 +165,10 @@ class Interner:
     ) -> None:
         for name, limit in (("holders", holders), ("tickets", tickets), ("bucket_bits", bucket_bits)):
             _is(int, name, limit)
-        self._lock = threading.Lock()
+        # A finalizer or a signal handler may run wherever this module makes an object or takes a step, so also while its thread has the lock: it
+        # has to get in, or it would wait for itself. It meets a whole table, since the interpreter runs nothing else during a call of the library
+        # (PyDLL). What makes several such calls under the lock is right whatever comes between them.
+        self._lock = threading.RLock()
         self._table = _Table()
         if not (0 <= holders < 1 << 64 and 0 <= tickets < 1 << 64 and 0 <= bucket_bits < 256):
             raise ValueError("a limit or the number of buckets is out of range")
@@ -198,11 +204,12 @@ class Interner:
             return self._text(word)
 
     def _text(self, word: int) -> str:
-        length, room = ctypes.c_size_t(), ctypes.create_string_buffer(ROOM)
-        number = _library.sc_text(self._table, _word(word), room, ROOM, length)
+        asked, length, room = _word(word), ctypes.c_size_t(), ctypes.create_string_buffer(ROOM)
+        number = _library.sc_text(self._table, asked, room, ROOM, length)
         if number == TOO_SMALL:
+            # The text has this length as long as there is one: what comes between can only take it away, and its word never comes back.
             room = ctypes.create_string_buffer(length.value)
-            number = _library.sc_text(self._table, _word(word), room, length.value, length)
+            number = _library.sc_text(self._table, asked, room, length.value, length)
         if number == NOT_HELD:
             raise KeyError(word)
         _check(number)
@@ -248,7 +255,7 @@ class Interner:
             _check(_library.sc_reserve(self._table, more))
 
     def text_bytes(self) -> int:
-        """How many bytes the texts of more than 7 bytes have together."""
+        """How many bytes the texts of more than 7 bytes have together. 0 once it is closed."""
         with self._lock:
             return _library.sc_text_bytes(self._table)
 
@@ -258,7 +265,7 @@ class Interner:
             return _library.sc_memory(self._table)
 
     def close(self) -> None:
-        """Frees all that is kept. Every later call raises Closed; a second close does nothing."""
+        """Frees all that is kept. A second close does nothing, `len`, `text_bytes` and `memory` give 0, and every other later call raises Closed."""
         with self._lock:
             _library.sc_close(self._table)
 
@@ -268,8 +275,12 @@ class Interner:
             return self.get(item) is not None
         if not isinstance(item, int):
             raise TypeError(f"item has to be of type str or int, and is of type {type(item).__name__}")
+        length = ctypes.c_size_t()
         with self._lock:
-            return _library.sc_holds(self._table, _word(item))
+            number = _library.sc_text(self._table, _word(item), None, 0, length)  # unlike sc_holds, it tells a closed table
+        if number not in (NOT_HELD, TOO_SMALL):
+            _check(number)
+        return number in (OK, TOO_SMALL)
 
     def __len__(self) -> int:
         """How many texts of more than 7 bytes are held. 0 once it is closed."""
@@ -283,14 +294,18 @@ class Interner:
 
     def items(self) -> Iterator[tuple[int, str]]:
         """The ints and texts in that order. What changes meanwhile may be seen or not, and there are at most as many as at the beginning."""
-        word, end = ctypes.c_uint64(), len(self)
-        for place in itertools.count():
+        word, place, end = ctypes.c_uint64(), 0, len(self)
+        while True:
             with self._lock:
                 number = _library.sc_entry(self._table, place, word, None)
                 if number == NOT_HELD or (number == OK and place == end):
                     return
                 _check(number)
-                item = word.value, self._text(word.value)
+                try:
+                    item = word.value, self._text(word.value)
+                except KeyError:
+                    continue  # it went between the two calls, and the last one stands in its place
+            place += 1
             yield item
 
     def __reduce__(self) -> NoReturn:

@@ -1,16 +1,32 @@
 """Tests of string_cache.py: `python3 -m unittest`, in this folder."""
 
+from __future__ import annotations
+
+import contextlib
 import copy
+import faulthandler
 import gc
 import pickle
+import signal
+import sys
 import threading
 import unittest
+import weakref
+from collections.abc import Callable
 from unittest import mock
 
 import string_cache
 from string_cache import VERSION, Closed, Interner, Refused
 
 SAMPLES = ["", "a", "1234567", "12345678", "x" * 100_000, "café", "naïve café ☕", "日本語の長い名前", "\0", "\0" * 9, "😀" * 70]
+SECONDS = 60  # for a test whose calls could wait for themselves
+
+
+class Coded(str):
+    """A text that says it is encoded as another one."""
+
+    def encode(self, *_: object) -> bytes:  # type: ignore[override]
+        return b"another name"
 
 
 class Interning(unittest.TestCase):
@@ -113,6 +129,12 @@ class Interning(unittest.TestCase):
         self.assertRaises(UnicodeEncodeError, self.names.intern, "half a pair: \ud800")
         self.assertEqual(len(self.names), 0)
 
+    def test_a_text_is_what_its_characters_are(self) -> None:
+        word = self.names.intern(Coded("a longer name"))
+        self.assertEqual(self.names.text(word), "a longer name")
+        self.assertEqual((self.names.get(Coded("a longer name")), self.names.get("a longer name")), (word, word))
+        self.assertNotIn("another name", self.names)
+
     def test_room_that_no_machine_has_is_refused(self) -> None:
         self.assertRaises(MemoryError, self.names.reserve, (1 << 63) - 1)
         self.assertRaises(ValueError, self.names.reserve, -1)
@@ -150,6 +172,79 @@ class Interning(unittest.TestCase):
         self.assertEqual(len(found), 8)
         self.assertTrue(all(words == found[0] for words in found))
         self.assertEqual([self.names.holders(word) for word in found[0]], [8] * 500)
+
+
+class Holder:
+    """A holder of a text that only the collector of cycles ends, wherever it runs, and which gives the text back then."""
+
+    def __init__(self, names: Interner, text: str) -> None:
+        self.itself, self.names, self.word = self, names, names.intern(text)
+
+    def __del__(self) -> None:
+        self.names.release(self.word)
+
+
+class Reentered(unittest.TestCase):
+    """Calls of an interner in the middle of its other calls, where these have its lock."""
+
+    def setUp(self) -> None:
+        faulthandler.dump_traceback_later(SECONDS, exit=True, file=sys.__stderr__)  # of a call that waits for itself
+        self.addCleanup(faulthandler.cancel_dump_traceback_later)
+        self.names = Interner()
+        self.addCleanup(self.names.close)
+        self.text = "a longer name " * 100
+        self.word = self.names.intern(self.text)
+
+    def behind(self, name: str, step: Callable[[], object]) -> contextlib.AbstractContextManager[object]:
+        """Has the next call of this function of the library followed by a step."""
+        call, steps = getattr(string_cache._library, name), [step]
+
+        def called(*arguments: object) -> object:
+            answer = call(*arguments)
+            while steps:
+                steps.pop()()
+            return answer
+
+        return mock.patch.object(string_cache._library, name, called)
+
+    def test_finalizers_call(self) -> None:
+        self.addCleanup(gc.set_threshold, *gc.get_threshold())
+        self.addCleanup(gc.unfreeze)
+        gc.freeze()  # the collector looks only at what comes now, as often as it may
+        gc.set_threshold(1)
+        for at in range(300):
+            Holder(self.names, f"name number {at}")
+            weakref.finalize(Holder(self.names, "another name"), self.names.release, self.names.intern(f"another name, number {at}"))
+            self.assertEqual((self.names.text(self.word), self.names.get(self.text)), (self.text, self.word))
+            self.assertIn((self.word, self.text), list(self.names.items()))
+        gc.collect()
+        self.assertEqual(list(self.names), [self.text])
+
+    @unittest.skipUnless(hasattr(signal, "setitimer"), "there is no timer that signals")
+    def test_signal_handlers_call(self) -> None:
+        seen = []
+        former = signal.signal(signal.SIGALRM, lambda *_: seen.append((len(self.names), self.names.text(self.word))))
+        self.addCleanup(signal.signal, signal.SIGALRM, former)
+        self.addCleanup(signal.setitimer, signal.ITIMER_REAL, 0)
+        signal.setitimer(signal.ITIMER_REAL, 0.005, 0.005)
+        while len(seen) < 50:
+            self.assertEqual(self.names.text(self.word), self.text)
+        signal.setitimer(signal.ITIMER_REAL, 0)
+        self.assertEqual(set(seen), {(1, self.text)})
+
+    def test_a_text_that_goes_while_it_is_asked_for_is_not_held(self) -> None:
+        with self.behind("sc_text", lambda: (self.names.clear(), self.names.intern("another name " * 200))):
+            self.assertRaises(KeyError, self.names.text, self.word)
+        with self.behind("sc_text", self.names.close):
+            self.assertRaises(Closed, self.names.text, self.names.intern(self.text))
+
+    def test_an_entry_that_goes_while_it_is_asked_for_is_left_out(self) -> None:
+        words = [self.names.intern(f"name number {at}") for at in range(3)]
+        with self.behind("sc_entry", lambda: self.names.release(self.word)):
+            self.assertEqual(list(self.names), ["name number 2", "name number 0", "name number 1"])
+        with self.behind("sc_entry", self.names.clear):
+            self.assertEqual(list(self.names.items()), [])
+        self.assertFalse(any(word in self.names for word in words))
 
 
 class Arguments(unittest.TestCase):
@@ -195,12 +290,15 @@ class Ending(unittest.TestCase):
     def test_a_closed_interner_refuses(self) -> None:
         with Interner() as names:
             word = names.intern("a longer name")
-        for call, argument in ((names.intern, "abc"), (names.get, "abc"), (names.text, word), (names.hold, word), (names.release, word)):
-            self.assertRaises(Closed, call, argument)
-        self.assertRaises(Closed, names.clear)
-        self.assertRaises(Closed, list, names)
-        self.assertEqual(len(names), 0)
-        self.assertNotIn(word, names)
+        of_text = (names.intern, names.get, names.__contains__)
+        of_word = (names.text, names.hold, names.release, names.holders, names.__contains__)
+        for calls, arguments in ((of_text, ("a longer name", "abc", "")), (of_word, (word, 0x63626131, 0, -1))):
+            for call in calls:
+                for argument in arguments:
+                    self.assertRaises(Closed, call, argument)
+        for call in (names.clear, lambda: names.reserve(1), lambda: list(names), lambda: list(names.items())):
+            self.assertRaises(Closed, call)
+        self.assertEqual((len(names), names.text_bytes(), names.memory()), (0, 0, 0))
         names.close()
 
     def test_limits_are_kept(self) -> None:
@@ -219,6 +317,14 @@ class Ending(unittest.TestCase):
         with self.assertWarnsRegex(DeprecationWarning, "status") as warned:
             self.assertEqual((refused.number, refused.status), (3, 3))
         self.assertEqual(warned.filename, __file__)
+
+    def test_a_refusal_is_copied_and_pickled(self) -> None:
+        for kind in (Refused, Closed):
+            refused = kind(7)
+            refused.where = ["here"]  # type: ignore[attr-defined]
+            for again in (pickle.loads(pickle.dumps(refused)), copy.copy(refused), copy.deepcopy(refused)):
+                self.assertIs(type(again), kind)
+                self.assertEqual((again.status, str(again), again.args, again.where), (7, str(refused), refused.args, ["here"]))
 
     def test_an_interner_that_is_forgotten_is_closed(self) -> None:
         names = Interner()
