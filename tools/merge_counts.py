@@ -6,7 +6,8 @@
                                             beside each other, and prints a line 'number word' for each word
 
 Each file is in the order of its words' bytes already, so `sort -m` puts them together in one pass, in memory for the number of files
-and not for that of the words, and the numbers of equal words are added up on the way.
+and not for that of the words, and the numbers of equal words are added up on the way. If the system lets fewer files be open at once, sort takes
+several passes, and room for the whole in a folder for temporary files.
 
 The status is 0 if all was merged. It is 1, with a line on standard error, if a file or the input can't be read, was cut off in a
 line, has a line that isn't a number and a word, or isn't in order, and if the output can't be written; what was printed until then is
@@ -21,6 +22,7 @@ import sys
 from pathlib import Path
 
 BUFFER = 1 << 20
+SPARE = 16  # files that may be open beside those that are merged
 MOST_DIGITS = 100  # of a number: one that `atoms count` prints has 20 at most, and sums of such have few more
 
 
@@ -81,11 +83,14 @@ def opened(stream, mode):
 
 
 def files_at_once(wanted):
-    """Lets this process, and the one it starts, have this many files open, as far as the system allows."""
+    """Lets this process, and the one it starts, have this many files open, as far as the system allows. How many of them, which is at least two."""
     soft, hard = resource.getrlimit(resource.RLIMIT_NOFILE)
-    more = wanted + 16 if hard == resource.RLIM_INFINITY else min(wanted + 16, hard)
-    if soft != resource.RLIM_INFINITY and soft < more:
+    if soft == resource.RLIM_INFINITY:
+        return max(2, wanted)
+    more = wanted + SPARE if hard == resource.RLIM_INFINITY else min(wanted + SPARE, hard)
+    if soft < more:
         resource.setrlimit(resource.RLIMIT_NOFILE, (more, hard))
+    return max(2, min(wanted, max(soft, more) - SPARE))
 
 
 def merge(paths, out):
@@ -94,8 +99,7 @@ def merge(paths, out):
         whole_lines(path)
     if not paths:
         return
-    files_at_once(len(paths))
-    command = ["sort", "-m", "-k2", f"--batch-size={max(2, len(paths))}", "--", *map(os.fspath, paths)]
+    command = ["sort", "-m", "-k2", f"--batch-size={files_at_once(len(paths))}", "--", *map(os.fspath, paths)]
     environment = {**os.environ, "LC_ALL": "C"}
     with subprocess.Popen(command, env=environment, stdout=subprocess.PIPE, bufsize=BUFFER) as sort:
         out.writelines(added(sort.stdout, counted))

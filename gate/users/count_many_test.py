@@ -19,78 +19,7 @@ import tempfile
 import time
 from pathlib import Path
 
-TOOLS = Path(__file__).resolve().parents[2] / "tools"
-ATOMS = TOOLS.parent / "crates" / "atoms" / "out" / "atoms"
-COUNT_MANY, MERGE, MAPPER, DASK = (TOOLS / name for name in ("count_many.py", "merge_counts.py", "count_mapper.sh", "count_dask.py"))
-SECONDS = 120  # for one command
-BLOCK = "20k"  # of a piece
-
-# Names with files, of which the text is what they hold one after another.
-TEXTS = {
-    "one line": [b"here is a sentence of text that will be tokenised and\n"],
-    "no line feed at all": [b"interned and interned"],
-    "no line feed at the end": [b"a b\nc a\n" * 500 + b"the last line"],
-    "a word goes on in the next file": [b"a\ninter", b"ned\nb inter", b"", b"ned"],
-    "a character goes on in the next file": ["caf\u00e9 \u05d0\n".encode()[:5], "caf\u00e9 \u05d0\n".encode()[5:], b"b\n"],
-    "empty files": [b"", b"a\n", b"", b"b a\n", b""],
-    "nothing but empty files": [b"", b""],
-    "white space beyond ASCII": ["a\u00a0b\u2028a\u3000b\u0085c\u1680\n\td\v\f\r\n".encode() * 300],
-    "one line longer than a piece": [b"x\n" + b"interned tokenised " * 2000 + b"\ny\n"],
-    "line feeds alone": [b"\n" * 5000],
-    "other bytes in words": [b"a\0b \x01 7 12 a\0b\n10 9\n" * 300],
-    "not UTF-8 in one piece": [b"a b\n" * 2000, b"c \xff\n", b"d e\n" * 2000],
-    "not UTF-8 at a file's end": [b"a b\n", b"c \xc3"],
-    "many words": [b"".join(b"word%d %d\n" % (n * n % 7919, n % 10) for n in range(20000))],
-}
-
-
-def ran(command, **how):
-    how = {"stdin": subprocess.DEVNULL, "stdout": subprocess.PIPE, "stderr": subprocess.PIPE, "timeout": SECONDS, **how}
-    return subprocess.run([os.fspath(word) for word in command], **how)
-
-
-def whole(text):
-    """What the program says of a whole text."""
-    return ran([ATOMS, "count", "1"], input=text, stdin=None)
-
-
-def counted(files, *options, atoms=ATOMS, block=BLOCK):
-    return ran([COUNT_MANY, "--atoms", atoms, "--block", block, *options, *files])
-
-
-def written(room, texts):
-    files = []
-    for text in texts:
-        files.append(room / f"text.{len(files)}")
-        files[-1].write_bytes(text)
-    return files
-
-
-def program(room, body):
-    """A program in the place of `atoms`, with the true one as $ATOMS."""
-    path = room / "program"
-    path.write_text(f'#!/bin/sh\nATOMS="{ATOMS}"\nROOM="{room}"\n{body}\n', encoding="utf-8")
-    path.chmod(0o755)
-    return path
-
-
-def same(found, wanted):
-    """What is wrong where a run should have ended as another one did; None where nothing is."""
-    if found.stdout != wanted.stdout:
-        return f"printed {found.stdout[-200:]!r} in place of {wanted.stdout[-200:]!r}; it said {found.stderr[-200:]!r}"
-    if (found.returncode == 0) != (wanted.returncode == 0):
-        return f"status {found.returncode} in place of {wanted.returncode}: {found.stderr[-200:]!r}"
-    if wanted.returncode and wanted.stderr not in found.stderr:
-        return f"it said {found.stderr[-200:]!r} in place of {wanted.stderr!r}"
-    return None
-
-
-def failed(found, why):
-    """What is wrong where a run should have failed for that reason, with nothing printed."""
-    if found.returncode == 0 or found.stdout or why.encode() not in found.stderr:
-        return f"status {found.returncode}, {len(found.stdout)} bytes printed, and it said {found.stderr[-300:]!r}, not {why!r}"
-    return None
-
+from count_many_base import ATOMS, BLOCK, COUNT_MANY, DASK, MAPPER, MERGE, SECONDS, TEXTS, counted, failed, program, ran, same, whole, written
 
 # --- the merge ---------------------------------------------------------------------------------------------------------------------
 
@@ -111,6 +40,17 @@ def merge_refuses(*texts, why):
 def merge_misses_a_file(room):
     found = ran([MERGE, *written(room, [b"1 a\n"]), room / "absent"])
     return None if found.returncode == 1 and not found.stdout and b"absent" in found.stderr else str(found)
+
+
+def merge_with_few_files_open(room):
+    """More files than may be open at once, at most 64, 20 or 12."""
+    files = written(room, [b"%d a\n1 b%03d\n" % (number, number) for number in range(200)])
+    wanted = b"%d a\n" % sum(range(200)) + b"".join(b"1 b%03d\n" % number for number in range(200))
+    for limit in (64, 20, 12):
+        found = ran(["sh", "-c", f'ulimit -n {limit}; exec "$@"', "sh", sys.executable, MERGE, *files])
+        if (found.returncode, found.stdout) != (0, wanted):
+            return f"with {limit} files: {found.returncode} {found.stdout[-200:]!r} {found.stderr!r}"
+    return None
 
 
 def merge_ends_well(redirected, *texts):
@@ -395,6 +335,7 @@ def rows():
     yield "merge: a file of something else", merge_refuses(b"one a\n", why=b"no line")
     yield "merge: a number of too many digits", merge_refuses(b"%b a\n" % (b"7" * 5000), why=b"merge_counts: a number of 5000 digits")
     yield "merge: by the script, and as a map-reduce job", merges_in_two_ways
+    yield "merge: more files than may be open", merge_with_few_files_open
     yield "merge: its output is closed", merge_ends_well(">&-", b"1 a\n")
     yield "reduce: a last line without its end", reduce_refuses(b"a\t1\nb\t12", b"cut off")
     yield "reduce: lines of something else", reduce_refuses(b"a\tone\n", b"no line")
