@@ -9,6 +9,8 @@ prints exactly what `cat FILE.. | PROGRAM count N` prints, or ends with a status
     1  the text is one that `atoms count` refuses (its own line is printed), or a piece is missing, unreadable, failed or cut short
     2  the arguments weren't understood, or the program or GNU parallel isn't here
 
+A FILE is a regular file: what a pipe or /proc gives has no length that is known beforehand, so it is refused.
+
 parallel cuts each file at line feeds into pieces of about --block bytes (--pipepart), sends each piece to a machine that has room, and
 keeps a log. A job tells how many bytes it read and wrote, and a sum of what it wrote: what is merged has to be whole and as the job left
 it, and all pieces together have to be as long as the files. A file whose last line has no line feed goes on in the next one, as under
@@ -32,6 +34,7 @@ import os
 import re
 import shlex
 import shutil
+import stat
 import subprocess
 import sys
 import tempfile
@@ -45,6 +48,9 @@ COPY = 1 << 20  # bytes that are copied at a time
 
 NOTE = "plan.json"  # of a folder: what its pieces are of
 BRACES = re.compile(r"\{.*\}", re.DOTALL)  # what parallel may put something else in the place of
+# Of a piece. parallel takes other texts too: a word for 0, and a number below 0 for how many pieces each job slot gets, by which a further run, with
+# fewer machines, would cut other pieces.
+SIZE = re.compile(r"[1-9]\d*(\.\d+)?[kKmMgGtTpP]?", re.ASCII)
 
 # What a job does with its piece, which comes on standard input: on standard output the counts, and as the last line on standard error
 # `end READ WROTE SUM`, or `refused` for a piece that isn't UTF-8, which no second try mends. The first two are in bytes; the sum is of the counts,
@@ -108,6 +114,17 @@ def sum_of(head, path, _):
         while part := file.read(COPY):
             found.update(part)
     return found.hexdigest()
+
+
+def unsized(file):
+    """Why it isn't known how long the text of a file is, which cutting it and seeing that nothing is lost stand on; None where it is."""
+    found = file.stat()
+    if not stat.S_ISREG(found.st_mode):
+        return f"{file} is no regular file"
+    with open(file, "rb") as text:
+        if not found.st_size and text.read(1):
+            return f"{file} says that it is empty, and isn't"
+    return None
 
 
 def ends_a_line(path):
@@ -180,9 +197,21 @@ def run_parallel(given, texts, folder, machines):
     command += ["--jobs", given.jobs] if given.jobs else []
     command += [word for machine in machines for word in ("--sshlogin", machine)]
     command += [word for text in texts for word in ("-a", os.fspath(text))]
-    said = None if sys.stderr.isatty() else subprocess.DEVNULL  # what a job says lies in the folder
-    subprocess.run([*command, job(given, folder, done)], stdin=subprocess.DEVNULL, stdout=subprocess.DEVNULL, stderr=said)
+    with open(run / "said", "wb") as file:  # what parallel says itself: what a job says lies in a file of its own
+        said = None if sys.stderr.isatty() else file
+        ended = subprocess.run([*command, job(given, folder, done)], stdin=subprocess.DEVNULL, stdout=subprocess.DEVNULL, stderr=said)
+    if ended.returncode and not logged(run):
+        said = (run / "said").read_text(encoding="utf-8", errors="replace").strip() or f"it ended with status {ended.returncode}"
+        raise Failed(f"count_many: parallel began no piece: {said}")
     return run
+
+
+def logged(run):
+    """The fields of each line that parallel wrote of a job."""
+    if not (run / "joblog").is_file():
+        return []
+    with open(run / "joblog", encoding="utf-8", errors="replace") as log:
+        return [line.split("\t") for line in log][1:]
 
 
 def host_of(machine):
@@ -192,9 +221,7 @@ def host_of(machine):
 
 def answering(machines, run):
     """The machines whose line didn't break in a run; all of them where every one's did."""
-    with open(run / "joblog", encoding="utf-8", errors="replace") as log:
-        jobs = [line.split("\t") for line in log][1:]
-    broken = {job[1] for job in jobs if len(job) > 6 and job[6] == BROKEN_LINE}
+    broken = {job[1] for job in logged(run) if len(job) > 6 and job[6] == BROKEN_LINE}
     return [machine for machine in machines if host_of(machine) not in broken] or machines
 
 
@@ -243,9 +270,11 @@ def begin(folder, plan, resume):
 
 def count(given, folder, out):
     """Counts the files' text with the results in the folder, and writes the merged counts."""
+    if wrong := next(filter(None, map(unsized, given.files)), None):
+        raise Failed(f"count_many: {wrong}")
     plan = plan_of(given)
     begin(folder, plan, given.resume)
-    files = [file for file in given.files if file.stat().st_size]
+    files = [file.resolve() for file in given.files if file.stat().st_size]  # parallel has a standard input of its own
     size = sum(file.stat().st_size for file in files)
     with tempfile.TemporaryDirectory(prefix="count-many-") as room:
         texts = as_one_text(files, Path(room))
@@ -274,7 +303,7 @@ def arguments():
     parser = argparse.ArgumentParser(description=__doc__, formatter_class=argparse.RawDescriptionHelpFormatter)
     parser.add_argument("--atoms", default=os.fspath(TOP / "crates/atoms/out/atoms"), metavar="PROGRAM")
     parser.add_argument("--workers", type=int, default=1, metavar="N", help="of each job, 1 to 64 (1)")
-    parser.add_argument("--block", default="64M", metavar="SIZE", help="of a piece, as parallel has it (64M)")
+    parser.add_argument("--block", default="64M", metavar="SIZE", help="of a piece: a number of bytes, as parallel has it (64M)")
     parser.add_argument("--jobs", metavar="N", help="on each machine, as parallel has it (one a processor)")
     parser.add_argument("--sshlogin", action="append", default=[], metavar="MACHINE")
     parser.add_argument("--tries", type=int, default=3, metavar="N", help="how often a piece that failed is tried in all (3)")
@@ -284,6 +313,10 @@ def arguments():
     given = parser.parse_args()
     if not 1 <= given.workers <= 64:
         parser.error("--workers is from 1 to 64")
+    if not SIZE.fullmatch(given.block):
+        parser.error(f"--block is a number of bytes, as 64M, and not {given.block}")
+    if given.tries < 1:
+        parser.error("--tries is at least 1")
     if given.resume and not given.keep:
         parser.error("--resume goes on with the results in --keep FOLDER")
     if why := wrong_program(given):

@@ -122,6 +122,41 @@ def file_is_unreadable(room):
     return failed(counted(files), "text.0")
 
 
+def file_is_a_pipe(room):
+    """What has no length that is known beforehand is refused, and not taken for an empty file; standard input from a file has one."""
+    files, start = written(room, [TEXT]), ["timeout", SECONDS, COUNT_MANY, "--atoms", ATOMS, "--keep", room / "kept"]
+    words = [str(word) for word in start]
+    os.mkfifo(room / "fifo")
+    for command, why in (
+        (f'"$@" {room}/fifo', "fifo is no regular file"),
+        (f'"$@" {files[0]} /dev/fd/3 3< <(cat {files[0]})', "/dev/fd/3 is no regular file"),
+        (f'cat {files[0]} | "$@" /dev/stdin', "/dev/stdin is no regular file"),
+        ('"$@" /proc/self/status', "/proc/self/status says that it is empty, and isn't"),
+    ):
+        if wrong := failed(ran(["bash", "-c", command, "bash", *words]), why):
+            return f"{command}: {wrong}"
+    if (room / "kept").exists() and os.listdir(room / "kept"):
+        return "the folder that is kept was begun"
+    return same(ran(["bash", "-c", f'"$@" /dev/stdin < {files[0]}', "bash", *words]), whole(TEXT))
+
+
+def option_is_wrong(room):
+    """A bad option is told as what it is: here, or in the words of parallel."""
+    files = written(room, [TEXT])
+    for size in ("abc", "0", "-1", "10kk", "1e4", ""):
+        found = ran([COUNT_MANY, "--atoms", ATOMS, f"--block={size}", *files])
+        if wrong := failed(found, "--block is a number of bytes") or (None if found.returncode == 2 else f"status {found.returncode}"):
+            return f"--block {size}: {wrong}"
+    for options, why in (
+        (["--jobs", "x"], "parallel began no piece: parallel: Error: Parsing of --jobs"),
+        (["--sshlogin", "2/"], "parallel began no piece: parallel: Error: "),
+        (["--tries", "0"], "--tries is at least 1"),
+    ):
+        if wrong := failed(counted(files, *options), why):
+            return f"{options}: {wrong}"
+    return same(counted(files, block="30.5k"), whole(TEXT))
+
+
 def job_fails(room):
     """A program that fails on one piece fails the whole; with the true one the run is resumed, and nothing else is counted again."""
     bad = program(room, 'cat > "$ROOM/$$"; grep -q word4900 "$ROOM/$$" && { echo no room >&2; exit 7; }; "$ATOMS" count 1 < "$ROOM/$$"')
@@ -349,7 +384,9 @@ def rows():
         return
     for name, texts in TEXTS.items():
         yield f"text: {name}", counts_as_the_whole(texts)
-    for row in (file_is_missing, file_is_a_folder, file_is_unreadable, job_fails, job_fails_once):
+    for row in (file_is_missing, file_is_a_folder, file_is_unreadable, file_is_a_pipe, option_is_wrong):
+        yield f"pieces: {row.__name__.replace('_', ' ')}", row
+    for row in (job_fails, job_fails_once):
         yield f"pieces: {row.__name__.replace('_', ' ')}", row
     for row in (program_is_missing, program_is_named_from_here, path_has_braces):
         yield f"pieces: {row.__name__.replace('_', ' ')}", row
