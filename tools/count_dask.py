@@ -3,10 +3,11 @@
 
     tools/count_dask.py --atoms PROGRAM [--scheduler ADDRESS] [--block BYTES] FILE..
 
-dask cuts each file at line feeds, runs the program on the pieces where it has workers, and tries a piece again where one fails. Without an
-address it starts two processes on this machine. The program and the files have to be at the same paths on each machine. Files
-are texts of their own: each has to end with a line feed, but the last. The status is 1, with a line on standard error, if a piece
-can't be counted, and 2 if the arguments weren't understood or dask isn't here; nothing is printed then.
+Each file is cut at line feeds into pieces of about --block bytes. dask has its workers read a piece and run the program on it, and tries a piece
+again where that fails; a worker has only the pieces that it counts just then. Without an address it starts two processes on this machine. The
+program and the files have to be at the same paths on each machine, and the files as long there. Files are regular ones, and texts of their own:
+each has to end with a line feed, but the last. The status is 1, with a line on standard error, if a piece can't be counted, and 2 if the arguments
+weren't understood or dask isn't here; nothing is printed then.
 """
 
 import argparse
@@ -17,11 +18,33 @@ from importlib.util import find_spec
 from pathlib import Path
 
 import merge_counts
+from count_many import unsized
 
 
-def count_piece(program, piece):
-    """The lines of `atoms count` for a piece of the text. A refusal is a ValueError, which no other worker mends."""
-    ran = subprocess.run([program, "count", "1"], input=piece, stdout=subprocess.PIPE, stderr=subprocess.PIPE)
+def line_at(text, place):
+    """Where the first line begins that doesn't begin before this place of the open file."""
+    if place:
+        text.seek(place - 1)
+        text.readline()
+        return text.tell()
+    return 0
+
+
+def lines_between(file, size, start, end):
+    """The lines of the file of this size that begin at the first of these places or behind it, and before the second one."""
+    with open(file, "rb") as text:
+        if (found := text.seek(0, 2)) != size:
+            raise ValueError(f"count_dask: {file} has {found} bytes where a piece of it is counted, and {size} where the run began")
+        first, last = line_at(text, start), line_at(text, end)
+        text.seek(first)
+        return text.read(last - first)
+
+
+def count_piece(program, *piece):
+    """The lines of `atoms count` for a piece of the file, which is read here: workers keep what a task answers as long as it may be asked for,
+    and a piece needn't be. A refusal is a ValueError, which no other worker mends."""
+    text = lines_between(*piece)
+    ran = subprocess.run([program, "count", "1"], input=text, stdout=subprocess.PIPE, stderr=subprocess.PIPE)
     if ran.returncode == 0:
         return ran.stdout
     fault = ran.stderr.decode(errors="replace").strip()
@@ -30,12 +53,11 @@ def count_piece(program, piece):
 
 def count(client, given, room):
     """Files with the counts of the pieces, as they come."""
-    from dask.bytes import read_bytes  # not before the arguments are read, which may ask for help alone
-    from distributed import as_completed
+    from distributed import as_completed  # not before the arguments are read, which may ask for help alone
 
-    _, blocks = read_bytes([str(file) for file in given.files], delimiter=b"\n", blocksize=given.block, sample=False)
-    pieces = client.compute([piece for file in blocks for piece in file])
-    counts = [client.submit(count_piece, str(given.atoms), piece, retries=2, pure=False) for piece in pieces]
+    sizes = [(str(file.absolute()), file.stat().st_size) for file in given.files]
+    pieces = [(file, size, start, start + given.block) for file, size in sizes for start in range(0, size, given.block)]
+    counts = [client.submit(count_piece, str(given.atoms), *piece, retries=2, pure=False) for piece in pieces]
     files = []
     for done in as_completed(counts):
         files.append(room / str(len(files)))
@@ -51,8 +73,10 @@ def arguments():
     parser.add_argument("--block", type=int, default=1 << 26, metavar="BYTES")
     parser.add_argument("files", nargs="+", type=Path, metavar="FILE")
     given = parser.parse_args()
-    if not find_spec("dask") or not find_spec("distributed"):
-        parser.error("dask isn't here: it needs the packages dask and distributed")
+    if given.block < 1:
+        parser.error("--block is at least 1")
+    if not find_spec("distributed"):
+        parser.error("dask isn't here: it needs the package distributed")
     return given
 
 
@@ -62,6 +86,8 @@ def main():
 
     cluster = {"address": given.scheduler} if given.scheduler else {"n_workers": 2, "threads_per_worker": 1, "dashboard_address": None}
     try:
+        if wrong := next(filter(None, map(unsized, given.files)), None):
+            raise OSError(f"count_dask: {wrong}")
         with Client(**cluster) as client, tempfile.TemporaryDirectory(prefix="count-dask-") as room:
             files = count(client, given, Path(room))
             with merge_counts.opened(sys.stdout, "wb") as out:

@@ -19,7 +19,7 @@ import tempfile
 import time
 from pathlib import Path
 
-from count_many_base import ATOMS, BLOCK, COUNT_MANY, DASK, MAPPER, MERGE, SECONDS, TEXTS, counted, failed, program, ran, same, whole, written
+from count_many_base import ATOMS, BLOCK, COUNT_MANY, DASK, MAPPER, MERGE, SECONDS, TEXTS, TOOLS, counted, failed, program, ran, same, whole, written
 
 # --- the merge ---------------------------------------------------------------------------------------------------------------------
 
@@ -348,18 +348,70 @@ def line_breaks(room):
     return None
 
 
-def dask(room):
-    for python in ("python3", "/usr/bin/python3"):
-        if shutil.which(python) and ran([python, "-c", "import dask.bytes, distributed"]).returncode == 0:
-            break
-    else:
+# --- dask ----------------------------------------------------------------------------------------------------------------------------
+
+
+def over_dask(row):
+    """A row that needs a Python with dask, which it is given."""
+
+    def tried(room):
+        for python in ("python3", "/usr/bin/python3"):
+            if shutil.which(python) and ran([python, "-c", "import distributed"]).returncode == 0:
+                return row(room, python)
         return "skipped: dask isn't here"
-    files = written(room, [TEXT])
-    found = ran([python, DASK, "--atoms", ATOMS, "--block", "20000", *files])
-    if wrong := same(found, whole(TEXT)):
+
+    return tried
+
+
+def dask(room, python):
+    texts = [text for name in ("many words", "one line longer than a piece", "empty files", "no line feed at the end") for text in TEXTS[name]]
+    found = ran([python, DASK, "--atoms", ATOMS, "--block", "4000", *written(room, texts)])
+    if wrong := same(found, whole(b"".join(texts))):
         return wrong
     bad = written(room, TEXTS["not UTF-8 in one piece"])
-    return failed(ran([python, DASK, "--atoms", ATOMS, "--block", "20000", *bad]), "atoms: input is not UTF-8")
+    if wrong := failed(ran([python, DASK, "--atoms", ATOMS, "--block", "20000", *bad]), "atoms: input is not UTF-8"):
+        return wrong
+    os.mkfifo(room / "fifo")
+    if wrong := failed(ran([python, DASK, "--atoms", ATOMS, room / "fifo"]), "fifo is no regular file"):
+        return wrong
+    grows = program(room, 'echo more >> "$ROOM/text.0"; exec "$ATOMS" count 1')
+    return failed(ran([python, DASK, "--atoms", grows, "--block", "20000", *written(room, [TEXT])]), "where a piece of it is counted")
+
+
+# Counts a file in pieces over one worker, which runs in another folder, and prints how many bytes of answers this has when the last piece's counts
+# are written.
+HELD = """
+import os
+import sys
+from argparse import Namespace
+from pathlib import Path
+
+import count_dask
+from distributed import Client
+
+def held(dask_worker):
+    return sum(len(it) for it in dask_worker.data.values() if isinstance(it, bytes))
+
+class Room:
+    def __truediv__(self, name):
+        sizes.append(sum(client.run(held).values()))
+        return room / name
+
+atoms, file, block, room = *sys.argv[1:4], Path(sys.argv[4])
+with Client(n_workers=1, threads_per_worker=1, dashboard_address=None) as client:
+    client.run(os.chdir, "/")
+    sizes = []
+    count_dask.count(client, Namespace(atoms=atoms, files=[Path(file)], block=int(block)), Room())
+    print(len(sizes), sizes[-1])
+"""
+
+
+def dask_keeps_no_text(room, python):
+    (room / "counts").mkdir()
+    text = written(room, [b"interned\n" * 20000])[0].name
+    found = ran([python, "-c", HELD, ATOMS, text, "9000", room / "counts"], env={**os.environ, "PYTHONPATH": os.fspath(TOOLS)}, cwd=room)
+    pieces, held = map(int, found.stdout.split()) if found.returncode == 0 else (0, 0)
+    return None if pieces == 20 and held < 9000 else f"{pieces} pieces, and {held} bytes are held: {found.stderr[-300:]!r}"
 
 
 def rows():
@@ -378,7 +430,8 @@ def rows():
     yield "reduce: its output is closed", merge_ends_well(">&-")
     yield "reduce: its input is closed", merge_ends_well("<&-")
     yield "mapper: fails where the program does", mapper_fails_with_the_program
-    yield "dask: two processes", dask
+    yield "dask: two processes", over_dask(dask)
+    yield "dask: no worker keeps the text", over_dask(dask_keeps_no_text)
     if not shutil.which("parallel"):
         yield "pieces: all rows", lambda room: "skipped: GNU parallel isn't here"
         return
