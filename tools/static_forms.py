@@ -205,6 +205,10 @@ fn names_are_found(rt: HostRuntime) {{
 '''
 
 
+# What a module uses, besides what it imports.
+USED = ("Eq", "HostRuntime", "None", "Option", "Ord", "PartialEq", "PartialOrd", "Self", "Some")
+
+
 @dataclass(frozen=True)
 class Module:
     """What the module is called, and what its type and the type's atoms are."""
@@ -217,6 +221,19 @@ class Module:
     def constant(self):
         """What the statics' names begin with."""
         return re.sub(r"(?<=[a-z0-9])(?=[A-Z])", "_", self.type).upper()
+
+    def refuse_taken(self, names):
+        """Refuses to call the type, or its atoms where the module has names for these, as what the module uses or defines is called."""
+        used = {*USED, *re.findall(r"\b[A-Z]\w*", self.imports(names))}
+        for taken in self.types():
+            if taken in used:
+                raise Refused(f"the module of a type {self.type} would define {taken}, and it uses another {taken}: call the type otherwise")
+        if names and self.alias in {*used, *self.types()}:
+            raise Refused(f"an atom of the type would be called {self.alias}, as something else in the module is: --alias calls it otherwise")
+
+    def types(self):
+        """What the types are called that the module defines, without the alias of the atoms."""
+        return [self.type]
 
     def words(self, names, tables, holder):
         """The alias, and the constants of the names' words."""
@@ -347,6 +364,9 @@ class Listed(Module):
             ghost_disps=listed(tables.disps), ghost_atoms=listed([f"codes {bytes_of(it)}" for it in atoms]), ghost_hashes=listed(tables.hashes),
         ) + test
 
+    def imports(self, names):
+        return self.test(names)[0]
+
     def test(self, names):
         """What the module uses, and its test: over pairs of a text and a word, as long as the checker takes these."""
         if not names:
@@ -444,12 +464,17 @@ class Packed(Module):
                 f"some {MOST_PACKED:,}, as 10,000 names of 13 bytes. Make several types of them, or leave some out"
             )
 
+    def types(self):
+        return [self.type, f"{self.type}Tables"]
+
+    def imports(self, names):
+        return LIST_IMPORTS.format(used="Atom, Packed, PackedAtomSet, PackedStrSet") if names else PACKED_IMPORTS
+
     def source(self, tables, names=()):
         """The text of the module. Without names it has the tables and the type, and no more."""
         holder = f"{self.type}Tables"
-        imports = LIST_IMPORTS.format(used="Atom, Packed, PackedAtomSet, PackedStrSet") if names else PACKED_IMPORTS
         return PACKED.format(
-            imports=imports, words=self.words(names, tables, holder) if names else "",
+            imports=self.imports(names), words=self.words(names, tables, holder) if names else "",
             type=self.type, constant=self.constant(), crate=self.crate, path=self.place.replace("/", "."), key=tables.key,
             pairs=len(tables.disps), disps=rows(tables.disps), count=len(tables.atoms), text=literal("".join(tables.atoms)),
             spans=rows(tables.spans()), hashes=rows(tables.hashes),

@@ -7,7 +7,8 @@
 That is the module crates/mine/src/names.rt, for a crate that uses `string_cache`: the static tables, the type `Names`, the alias `Name` of its
 atoms, the word of each name as a constant, as `Names::BLOCKQUOTE`, what the checker reads, and a test that each name is found and has its
 word. A name of up to 7 bytes is inline under any type, so it gets a constant and no place in the tables. Where a name makes no constant's
-name, or the same as another, one stands behind it, after a tab.
+name, or the same as another, one stands behind it, after a tab. A type or an alias that is called as something that the module uses is refused,
+as `Atom`: for a type `Atoms` --alias has to give another one.
 
 Packed tables hold all texts in one. The checker takes thousands of them, where it takes some hundreds that are listed one by one as in the
 original. A packed type's constants stand with its tables, as `NamesTables::BLOCKQUOTE`, and its crate uses `text_forms` too.
@@ -141,6 +142,7 @@ def run(given, data):
     form = Packed if given.packed else Listed
     module = form(given.type, given.alias or alias_of(given.type), crate.resolve().name, place)
     names = [] if given.tables else names_of(data)
+    module.refuse_taken(names)
     if given.tables:
         tables = read(text_of(data))
         module.refuse_many([Name(text, "") for text in tables.atoms], tables.atoms)
@@ -176,8 +178,9 @@ def main():
     parser.add_argument("--short", action="store_true", help="names of up to 7 bytes get a place in the tables too")
     parser.add_argument("--atoms", default=PROGRAM, help="the program that makes the tables")
     given = parser.parse_args()
-    if not re.fullmatch(r"[A-Z][A-Za-z0-9]*", given.type):
-        parser.error(f"{given.type} is no type's name")
+    for name in filter(None, (given.type, given.alias)):
+        if not re.fullmatch(r"[A-Z][A-Za-z0-9]*", name):
+            parser.error(f"{name} is no type's name")
     try:
         run(given, sys.stdin.buffer.read())
     except (Refused, OSError) as why:

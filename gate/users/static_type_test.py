@@ -119,6 +119,31 @@ CALLS = [
     (["--tables", "Soups"], b"key 0\n", "no table text"),
     (["--tables", "Soups"], b"key 0\ndisp 0 0\nsoup\n", "line 3 is none of a table text"),
     (["soups"], PAIR, "no type's name"),
+    (["--alias", "soup", "Soups"], PAIR, "no type's name"),
+    (["Atoms"], PAIR, "would be called Atom, as something else in the module is: --alias"),
+    (["--packed", "Atoms"], PAIR, "would be called Atom, as something else in the module is: --alias"),
+    (["--packed", "Packed"], PAIR, "would define Packed"),
+]
+
+# Forms, types, their atoms, and the part of what is said of these, with names and without.
+TAKEN = [
+    (Listed, "Soups", "Soup", "", ""),
+    (Packed, "Soups", "Soup", "", ""),
+    (Listed, "Atoms", "Atom", "--alias", ""),
+    (Packed, "Atoms", "Atom", "--alias", ""),
+    (Listed, "Atoms", "Bowl", "", ""),
+    (Listed, "Atom", "Bowl", "would define Atom,", ""),
+    (Listed, "Options", "Option", "--alias", ""),
+    (Listed, "Soups", "Soups", "--alias", ""),
+    (Packed, "Soups", "SoupsTables", "--alias", ""),
+    (Listed, "Soups", "SoupsTables", "", ""),
+    (Listed, "Soups", "PhfStrSet", "--alias", ""),
+    (Packed, "Soups", "PhfStrSet", "", ""),
+    (Listed, "StaticAtomSet", "Bowl", "would define StaticAtomSet,", "would define StaticAtomSet,"),
+    (Packed, "Packed", "Bowl", "would define Packed,", "would define Packed,"),
+    (Listed, "Packed", "Bowl", "", ""),
+    (Packed, "Static", "Bowl", "would define StaticTables,", ""),
+    (Listed, "None", "Bowl", "would define None,", "would define None,"),
 ]
 
 
@@ -158,6 +183,15 @@ def wrong_names():
     # The tag of six bytes, and the bytes behind it: 1 + 16 * 6 is 0x61.
     yield None if short[0].inline_word() == 0x65_7275_6769_6661 else f"the word of figure is {short[0].inline_word():#x}"
     yield None if [alias_of(it) for it in ("Names", "Glass", "Sheep")] == ["Name", "GlassAtom", "SheepAtom"] else "an alias is another"
+
+
+def wrong_taken():
+    """What is wrong in what a type and its atoms may be called."""
+    for form, kind, alias, *wanted in TAKEN:
+        for names, said in zip((names_of(PAIR), []), wanted):
+            found = refusal_of(form(kind, alias, "mine", "soups").refuse_taken, names)
+            is_right = said in found if said else not found
+            yield None if is_right else f"of a {form.__name__} type {kind} with atoms {alias} and {len(names)} names it says {found!r}, and not {said!r}"
 
 
 def wrong_limits():
@@ -251,7 +285,7 @@ def wrong_files():
 
 def main():
     """Says how many of these are right, and what is wrong."""
-    found = [it for rows in (wrong_files(), wrong_names(), wrong_limits(), wrong_calls()) for it in rows]
+    found = [it for rows in (wrong_files(), wrong_names(), wrong_taken(), wrong_limits(), wrong_calls()) for it in rows]
     wrong = [it for it in found if it]
     for it in wrong:
         print(f"WRONG: {it}")
