@@ -65,7 +65,7 @@ def same(found, wanted):
         return f"printed {found.stdout[-200:]!r} in place of {wanted.stdout[-200:]!r}; it said {found.stderr[-200:]!r}"
     if (found.returncode == 0) != (wanted.returncode == 0):
         return f"status {found.returncode} in place of {wanted.returncode}: {found.stderr[-200:]!r}"
-    if wanted.returncode and wanted.stderr not in found.stderr:
+    if wanted.returncode and (not wanted.stderr or wanted.stderr not in found.stderr):
         return f"it said {found.stderr[-200:]!r} in place of {wanted.stderr!r}"
     return None
 

@@ -269,7 +269,7 @@ def other_run_is_laid_in(room):
 
 def text_grows_meanwhile(room):
     slow = program(room, 'sleep 0.2; echo more >> "$ROOM/text.0"; exec "$ATOMS" count 1')
-    return failed(counted(written(room, [TEXT]), atoms=slow), "")
+    return failed(counted(written(room, [TEXT]), atoms=slow), "a file changed while it was counted")
 
 
 def prints_nothing_but_counts(room):

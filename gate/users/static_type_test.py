@@ -191,7 +191,8 @@ def wrong_taken():
         for names, said in zip((names_of(PAIR), []), wanted):
             found = refusal_of(form(kind, alias, "mine", "soups").refuse_taken, names)
             is_right = said in found if said else not found
-            yield None if is_right else f"of a {form.__name__} type {kind} with atoms {alias} and {len(names)} names it says {found!r}, and not {said!r}"
+            of = f"a {form.__name__} type {kind} with atoms {alias} and {len(names)} names"
+            yield None if is_right else f"of {of} it says {found!r}, and not {said!r}"
 
 
 def wrong_limits():
