@@ -208,15 +208,15 @@ impl Interner {
     /// Puts the text of a symbol in place of another, whose memory it takes over. Whether it is held: the text is empty where it isn't.
     pub fn text_into(&self, symbol: Symbol, text: &mut String) -> bool {
         let mut room = std::mem::take(text).into_bytes();
-        room.resize(room.capacity().max(32), 0);
-        let mut number = self.copy_text(symbol, &mut room);
-        if let Err((sys::TOO_SMALL, length)) = number {
-            room.resize(length, 0);
-            number = self.copy_text(symbol, &mut room);
+        room.clear();
+        room.reserve(32);
+        let mut copied = self.copy_text(symbol, &mut room);
+        if let Err((sys::TOO_SMALL, length)) = copied {
+            room.reserve(length);
+            copied = self.copy_text(symbol, &mut room);
         }
-        room.truncate(number.unwrap_or(0));
         *text = String::from_utf8(room).unwrap_or_default();
-        number.is_ok()
+        copied.is_ok()
     }
 
     /// The former name of [`Interner::text`].
@@ -231,13 +231,19 @@ impl Interner {
         self.text_into(symbol, name)
     }
 
-    /// Copies the text of a symbol to the front of the room. Its length, or the number of the refusal and the length.
-    fn copy_text(&self, symbol: Symbol, room: &mut [u8]) -> Result<usize, (u32, usize)> {
+    /// Makes the text of a symbol all that the room has, if its memory is enough for it. The number of the refusal and the length otherwise.
+    ///
+    /// The memory isn't filled before: where a long text was once, that would take as long for each text that comes after it.
+    fn copy_text(&self, symbol: Symbol, room: &mut Vec<u8>) -> Result<(), (u32, usize)> {
         let mut length = 0;
         let front = room.as_mut_ptr().cast::<c_char>();
-        // SAFETY: the room has so many bytes, and nobody writes the table.
-        match unsafe { sys::sc_text(&self.table, symbol.word(), front, room.len(), &mut length) } {
-            sys::OK => Ok(length),
+        // SAFETY: the room has memory for so many bytes, which the call writes and never reads, and nobody writes the table.
+        match unsafe { sys::sc_text(&self.table, symbol.word(), front, room.capacity(), &mut length) } {
+            sys::OK => {
+                // SAFETY: a call that says OK has written so many bytes to the front, and no more than there is memory for.
+                unsafe { room.set_len(length) };
+                Ok(())
+            }
             refused => Err((refused, length)),
         }
     }

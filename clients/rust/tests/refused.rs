@@ -1,16 +1,23 @@
-//! Requests for memory of the language itself, refused: a shared interner says so, and leaves nothing.
+//! Requests for memory of the language itself: where one is refused, a shared interner says so, and leaves nothing; and what is written to a block.
 
-use interned_names::{Fault, SharedInterner};
+use interned_names::{Fault, Interner, SharedInterner};
 use std::alloc::{GlobalAlloc, Layout, System};
 use std::cell::Cell;
 use std::ptr;
+use std::slice;
 
 thread_local! {
     /// Whether this thread's next request is refused.
     static IS_REFUSED: Cell<bool> = const { Cell::new(false) };
     /// How many blocks this thread has.
     static BLOCKS: Cell<isize> = const { Cell::new(0) };
+    /// How many bytes were written to the last block of [`WATCHED`] bytes that this thread gave back.
+    static WRITTEN: Cell<usize> = const { Cell::new(0) };
 }
+
+/// A block of this size, which no other has here, is full of one byte when it is given.
+const WATCHED: usize = 54_321;
+const UNTOUCHED: u8 = 0xa5;
 
 /// The system's memory, which refuses a request where it is told so.
 struct Refusing;
@@ -22,11 +29,19 @@ unsafe impl GlobalAlloc for Refusing {
             return ptr::null_mut();
         }
         BLOCKS.with(|blocks| blocks.set(blocks.get() + 1));
-        unsafe { System.alloc(layout) }
+        let block = unsafe { System.alloc(layout) };
+        if layout.size() == WATCHED && !block.is_null() {
+            unsafe { block.write_bytes(UNTOUCHED, WATCHED) };
+        }
+        block
     }
 
     unsafe fn dealloc(&self, block: *mut u8, layout: Layout) {
         BLOCKS.with(|blocks| blocks.set(blocks.get() - 1));
+        if layout.size() == WATCHED {
+            let bytes = unsafe { slice::from_raw_parts(block, WATCHED) };
+            WRITTEN.with(|written| written.set(bytes.iter().filter(|&&byte| byte != UNTOUCHED).count()));
+        }
         unsafe { System.dealloc(block, layout) }
     }
 }
@@ -62,4 +77,22 @@ fn interning_asks_for_none() {
     assert!(symbol == copy && names.try_get("a longer name").is_ok_and(|found| found.is_some()));
     drop((symbol, copy));
     assert!(names.is_empty() && IS_REFUSED.with(|is| is.replace(false)));
+}
+
+/// The memory that a long text left has the bytes of the next one, and nothing else is written to it.
+#[test]
+fn a_text_fills_no_more_than_its_own_bytes() {
+    let mut names = Interner::new().expect("an interner");
+    let (symbol, short) = (names.intern("a longer name").expect("a symbol"), names.intern("short").expect("a symbol"));
+    for (symbol, name) in [(symbol, "a longer name"), (short, "short")] {
+        let mut text = String::with_capacity(WATCHED);
+        assert!(names.text_into(symbol, &mut text) && text == name && text.capacity() == WATCHED);
+        drop(text);
+        assert_eq!(WRITTEN.with(Cell::get), name.len());
+    }
+    let mut text = String::with_capacity(WATCHED);
+    assert!(names.release(symbol) && !names.text_into(symbol, &mut text));
+    assert!(text.is_empty() && text.capacity() == WATCHED);
+    drop(text);
+    assert_eq!(WRITTEN.with(Cell::get), 0);
 }
