@@ -106,7 +106,7 @@ impl Symbol {
         self.0.get()
     }
 
-    /// The bytes of a name of at most 7, lent from the symbol in which they lie. `None` of any other symbol.
+    /// The bytes of a name of at most 7, lent from the symbol in which they lie. `None` of any other symbol, also of one that no interner gives.
     ///
     /// ```
     /// use interned_names::Interner;
@@ -120,10 +120,14 @@ impl Symbol {
     pub fn inline_bytes(&self) -> Option<&[u8]> {
         // SAFETY: a symbol is eight bytes, and any eight bytes are an array of them.
         let [head, bytes @ ..] = unsafe { &*(&self.0 as *const NonZeroU64).cast::<[u8; 8]>() };
-        match head & TAG_MASK == INLINE_TAG {
-            true => bytes.get(..usize::from(head >> LENGTH_SHIFT)),
-            false => None,
-        }
+        let name = match head & TAG_MASK == INLINE_TAG {
+            true => bytes.get(..usize::from(head >> LENGTH_SHIFT))?,
+            false => return None,
+        };
+        let behind = self.word().checked_shr(8 * (name.len() as u32 + 1)).unwrap_or(0);
+        // The word tells sooner than the name that all is ASCII, as in most names.
+        let is_text = self.word() & NOT_ASCII == 0 || std::str::from_utf8(name).is_ok();
+        (behind == 0 && is_text).then_some(name)
     }
 }
 
@@ -131,6 +135,8 @@ impl Symbol {
 const TAG_MASK: u8 = 15;
 const INLINE_TAG: u8 = 1;
 const LENGTH_SHIFT: u32 = 4;
+/// In each byte the bit that no letter of ASCII has, nor the first byte of a word of an inline text.
+const NOT_ASCII: u64 = 0x8080_8080_8080_8080;
 
 impl fmt::Debug for Symbol {
     fn fmt(&self, out: &mut fmt::Formatter<'_>) -> fmt::Result {

@@ -62,6 +62,21 @@ fn a_symbol_lends_a_short_name() {
     }
 }
 
+/// Of any word the symbol lends what an interner that holds nothing has for its text: bytes that are no text, or that stand behind one, are none.
+#[test]
+fn a_symbol_lends_nothing_where_its_word_is_none() {
+    let names = new_interner();
+    let given = ["", "a", "é", "日本", "1234567"].map(|name| names.get(name).expect("a short name").word());
+    let others = given.iter().flat_map(|word| (0..64).map(move |bit| word ^ 1 << bit));
+    // A byte of no text, the first half of a letter, a surrogate, and a letter behind one and behind none.
+    let chosen = [0xff11, 0xc311, 0x80_a0ed_31, 0x62_6111, 0x6101, 0xff00_0000_0000_0061];
+    let symbols: Vec<Symbol> = given.into_iter().chain(others).chain(chosen).filter_map(Symbol::from_word).collect();
+    for symbol in &symbols {
+        assert_eq!(symbol.inline_bytes(), names.text(*symbol).as_deref().map(str::as_bytes), "{symbol:?}");
+    }
+    assert!(chosen.iter().all(|&word| Symbol::from_word(word).is_some_and(|symbol| symbol.inline_bytes().is_none())));
+}
+
 #[test]
 fn a_name_is_found_once_it_is_interned() {
     let mut names = new_interner();

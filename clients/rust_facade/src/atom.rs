@@ -121,7 +121,7 @@ impl<Static: StaticAtomSet> Atom<Static> {
         match &self.entry {
             Some(entry) => entry.text.as_bytes(),
             None if self.is_static() => Static::get().atoms[self.static_index()].as_bytes(),
-            // Only pack_inline, which trusts its caller, can have made a longer one.
+            // Only pack_inline, which trusts its caller, can have made one of no text.
             None => self.symbol.inline_bytes().expect("an inline text"),
         }
     }
