@@ -53,7 +53,7 @@ pub struct SharedInterner<Beside = ()> {
 }
 
 impl SharedInterner {
-    /// An interner in which nothing is held, with 64 shards of 64 buckets each. [`Fault::Memory`] where it finds none.
+    /// An interner in which nothing is held, with 64 shards of 64 buckets each. [`Fault::Random`], and [`Fault::Memory`] where it finds none.
     pub fn new() -> Result<SharedInterner, Fault> {
         SharedInterner::with_limits(USUAL_SHARD_BITS, MOST_HOLDERS, MOST_TICKETS, USUAL_BUCKET_BITS)
     }
@@ -90,7 +90,7 @@ impl SharedInterner {
 
 impl<Beside: Default> SharedInterner<Beside> {
     /// An interner of 2 to the power of `shard_bits` shards. Their tables have the limits and buckets of [`Interner::with_limits`]; the two
-    /// numbers of bits have a sum of at most 14. [`Fault::NotLimits`] outside these ranges, and [`Fault::Memory`].
+    /// numbers of bits have a sum of at most 14. [`Fault::NotLimits`] outside these ranges, [`Fault::Random`], and [`Fault::Memory`].
     pub fn with_limits(shard_bits: u8, holders: u64, tickets: u64, bucket_bits: u8) -> Result<Self, Fault> {
         if shard_bits > MOST_BITS || bucket_bits > MOST_BITS - shard_bits {
             return Err(Fault::NotLimits);
@@ -288,7 +288,7 @@ impl<'a> SharedSymbol<'a> {
 
     /// How many holders the name has at this moment. `None` for one of at most 7 bytes, and if the last was [released](LockedSymbol::release).
     pub fn holders(&self) -> Option<u64> {
-        self.names.lock_symbol(self.symbol).holders()
+        is_ticket(self.symbol).then(|| self.names.lock_symbol(self.symbol).holders()).flatten()
     }
 
     /// One holder more. [`Fault::FullCount`] under limits, and [`Fault::NotHeld`] if the last was [released](LockedSymbol::release).

@@ -2,7 +2,9 @@
 
 use interned_names::{hashes_of, Fault, Interner, SharedInterner, SharedSymbol, Symbol};
 use std::collections::{HashMap, HashSet};
+use std::sync::mpsc;
 use std::thread;
+use std::time::Duration;
 
 fn new_interner() -> SharedInterner {
     SharedInterner::new().expect("an interner")
@@ -176,6 +178,24 @@ fn a_panic_under_a_lock_takes_nothing_from_the_others() {
     assert!(names.lock_symbol(held.symbol()).release());
     drop(held);
     assert!(names.is_empty());
+}
+
+/// Another thread has the lock of the only shard all the while. If a call waited for it, the thread would end once it is given back.
+#[test]
+fn calls_with_a_short_name_take_no_lock() {
+    let names = &SharedInterner::with_limits(0, 9, 9, 0).expect("an interner");
+    let locked = names.lock_name("a longer name");
+    let (answer, answers) = mpsc::channel();
+    thread::scope(|scope| {
+        scope.spawn(move || {
+            let symbol = intern(names, "short");
+            let same = names.try_get("short") == Ok(Some(symbol.clone()));
+            answer.send((symbol.text(), symbol.holders(), same)).expect("who asks");
+        });
+        let told = answers.recv_timeout(Duration::from_secs(30));
+        drop(locked);
+        assert_eq!(told, Ok(("short".into(), None, true)));
+    });
 }
 
 /// The name comes and goes, and each look-up gives a symbol that `intern` gave, or none: one that interned after another call would give a new one.
