@@ -7,9 +7,9 @@
 // which has the status, for the rest. A call that throws has changed nothing. What is never refused is noexcept.
 //
 // No symbol may be used after its interner has ended. What is const only reads the table, and threads may call it side by side: text, holders, contains,
-// size, empty, text_bytes, memory and for_each. All else that takes an interner writes it, and so does the copy and the end of a symbol: while a thread
-// does one of these, no other uses the interner or any of its symbols. So where one thread may write, all hold a lock. To move, to compare and to
-// hash a symbol reads no table.
+// size, empty, text_bytes, memory and for_each. All else that takes an interner writes it, and so do the copy, the assignment and the end of a symbol:
+// while a thread does one of these, no other uses the interner or any of its symbols. So where one thread may write, all hold a lock. To move-construct,
+// to compare and to hash a symbol reads no table. A move assignment gives back the holder of the text that was there before, so it writes.
 #ifndef STRING_CACHE_HPP
 #define STRING_CACHE_HPP
 

@@ -76,6 +76,19 @@ void a_symbol_is_assigned() {
     CHECK(name.text() == "the second name" && holders_at(names, 0) == 2);
 }
 
+// The text that was there before has a holder less at once, and not only when the symbol that was moved from ends.
+void a_move_assignment_gives_the_old_holder_back() {
+    Interner names;
+    Symbol name = names.intern("the first name"), other = names.intern("the second name"), last = names.intern("the third name");
+    const Symbol copy = name;
+    name = std::move(other);
+    CHECK(copy.holders() == 1U && name.holders() == 1U && name.text() == "the second name" && !other && names.size() == 3);
+    name = std::move(last);
+    CHECK(names.size() == 2 && !names.contains("the second name") && name.text() == "the third name" && !last);
+    last = std::move(name);
+    CHECK(last.holders() == 1U && last.text() == "the third name" && !name && names.size() == 2);
+}
+
 void a_name_is_looked_up() {
     Interner names;
     CHECK(!names.get("a longer name").has_value() && names.get("short").has_value());
@@ -238,6 +251,7 @@ const Test tests[] = {
     {"equal_texts_are_equal_symbols", equal_texts_are_equal_symbols},
     {"a_text_goes_with_its_last_symbol", a_text_goes_with_its_last_symbol},
     {"a_symbol_is_assigned", a_symbol_is_assigned},
+    {"a_move_assignment_gives_the_old_holder_back", a_move_assignment_gives_the_old_holder_back},
     {"a_name_is_looked_up", a_name_is_looked_up},
     {"a_symbol_that_was_moved_from_says_so", a_symbol_that_was_moved_from_says_so},
     {"threads_read_one_interner", threads_read_one_interner},

@@ -132,6 +132,16 @@ void a_text_goes_with_its_last_symbol() {
     CHECK(names.empty() && names.text_bytes() == 0 && !names.get("a longer name").has_value());
 }
 
+void a_move_assignment_gives_the_old_holder_back() {
+    SharedInterner names;
+    SharedSymbol name = names.intern("the first name"), other = names.intern("the second name"), last = names.intern("the third name");
+    const SharedSymbol copy = name;
+    name = std::move(other);
+    CHECK(copy.holders() == 1U && name.holders() == 1U && name.text() == "the second name" && other.word() == 0 && names.size() == 3);
+    name = std::move(last);
+    CHECK(names.size() == 2 && !names.get("the second name").has_value() && name.text() == "the third name" && last.word() == 0);
+}
+
 // As the tests of the shared interner for C and Rust have them.
 void words_are_those_of_each_language() {
     SharedInterner names;
@@ -323,6 +333,7 @@ struct Test {
 const Test tests[] = {
     {"equal_texts_are_equal_symbols", equal_texts_are_equal_symbols},
     {"a_text_goes_with_its_last_symbol", a_text_goes_with_its_last_symbol},
+    {"a_move_assignment_gives_the_old_holder_back", a_move_assignment_gives_the_old_holder_back},
     {"words_are_those_of_each_language", words_are_those_of_each_language},
     {"two_texts_never_share_a_symbol", two_texts_never_share_a_symbol},
     {"all_bits_of_symbols_are_compared", all_bits_of_symbols_are_compared},
