@@ -7,8 +7,8 @@
  *
  * Behind each function stands one in Rattle that is proved to do what is said here. Before that, string_cache.c looks at what C hands
  * over: a null pointer or an impossible length is answered by SC_BAD_ARGUMENT, and else a closed table by SC_CLOSED. Both come before any
- * other answer. Every function takes any bytes and any word. A refusal changes nothing: no table, no word, no byte behind a pointer, but the
- * length that SC_TOO_SMALL tells.
+ * other answer. Every function takes any bytes and any word. A refusal changes nothing: no text of a table, no holder, no word, no byte behind a
+ * pointer, but the length that SC_TOO_SMALL tells. Only room that a table got before it was refused memory may stay: see sc_reserve.
  *
  * What the caller owes:
  * - A pointer that isn't null leads to as many bytes as the type or the length says, and nobody else writes them meanwhile. The room of
@@ -160,7 +160,9 @@ SC_TO_BE_READ SC_EXPORT sc_status sc_entry(const sc_table *table, size_t place, 
 /* Takes all entries away; no ticket that was given comes again. SC_CLOSED, SC_BAD_ARGUMENT. */
 SC_EXPORT sc_status sc_clear(sc_table *table);
 
-/* Makes room for so many texts more. SC_NO_MEMORY, SC_CLOSED, SC_BAD_ARGUMENT. */
+/* Makes room for so many texts more. SC_NO_MEMORY, SC_CLOSED, SC_BAD_ARGUMENT.
+ * Where it finds no memory, and where sc_intern finds none while the table grows, the texts, their words and their holders are as they were. The room
+ * that the table got before it was refused may stay, for texts that come later: then sc_memory may tell more, until sc_close gives all back. */
 SC_TO_BE_READ SC_EXPORT sc_status sc_reserve(sc_table *table, size_t more);
 
 /* The word of a text of at most 7 bytes, which needs no table. SC_NOT_UTF8, else SC_NOT_A_WORD above 7 bytes; SC_BAD_ARGUMENT. */

@@ -4,7 +4,8 @@
 // text goes with its last symbol. Symbols of one interner are equal exactly if their texts are, and comparing them reads two numbers.
 //
 // What is refused is thrown: std::bad_alloc where there is no memory, std::invalid_argument where bytes aren't UTF-8, and string_cache::Refused,
-// which has the status, for the rest. A call that throws has changed nothing. What is never refused is noexcept.
+// which has the status, for the rest. A call that throws has changed nothing, but that an interner may keep room (see reserve). What is never refused is
+// noexcept.
 //
 // No symbol may be used after its interner has ended. What is const only reads the table, and threads may call it side by side: text, holders, contains,
 // size, empty, text_bytes, memory and for_each. All else that takes an interner writes it, and so do the copy, the assignment and the end of a symbol:
@@ -179,7 +180,8 @@ public:
         return true;
     }
 
-    // Makes room for so many texts more.
+    // Makes room for so many texts more. Where it throws std::bad_alloc, or intern does while the table grows, all texts are as they were, and room that
+    // was got before may stay: memory() may tell more then.
     void reserve(std::size_t more) { detail::throw_unless_ok(sc_reserve(table_.get(), more)); }
 
     // How many texts of more than 7 bytes are held, and how many bytes they have.

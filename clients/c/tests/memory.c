@@ -5,7 +5,7 @@
 #include "string_cache.h"
 #include "texts.h"
 
-enum { TEXTS = 200, MOST = 2000 };
+enum { TEXTS = 200, MOST = 2000, HELD = 36 }; /* one text more than the last makes each map of a table grow */
 
 /* Opens a table, again where memory was refused. How often it was. */
 static int open_again(sc_table *table) {
@@ -66,6 +66,78 @@ static void a_request_for_room_is_refused(void) {
     sc_close(&table);
 }
 
+/* A table of HELD texts, of which the first has two holders, and the word of one that went before them. */
+static sc_table filled(uint64_t *words, uint64_t *stale) {
+    sc_table table = opened();
+    char text[32];
+    *stale = word_of(&table, "a text that goes");
+    CHECK(sc_give(&table, *stale) == SC_OK);
+    for (int at = 0; at < HELD; at++) {
+        snprintf(text, sizeof text, "text number %d", at);
+        words[at] = word_of(&table, text);
+    }
+    CHECK(sc_clone(&table, words[0]) == SC_OK);
+    return table;
+}
+
+/* Whether the table says of all texts what one says that was just filled. */
+static bool is_as_filled(const sc_table *table, const uint64_t *words, uint64_t stale) {
+    bool is = sc_entries(table) == HELD && !sc_holds(table, stale);
+    for (int at = 0; at < HELD; at++) {
+        char text[32];
+        uint64_t found = 0, entry = 0, holders = 0;
+        snprintf(text, sizeof text, "text number %d", at);
+        is = is && has_text(table, words[at], text) && sc_get(table, text, strlen(text), &found) == SC_OK && found == words[at];
+        is = is && sc_entry(table, (size_t)at, &entry, &holders) == SC_OK && entry == words[at] && holders == (at == 0 ? 2 : 1);
+    }
+    return is;
+}
+
+/* A call that makes a table grow that was just filled. */
+typedef sc_status growing_call(sc_table *table);
+
+static sc_status make_room(sc_table *table) {
+    return sc_reserve(table, 5000);
+}
+
+static sc_status take_one_more(sc_table *table) {
+    uint64_t word = 0;
+    return intern(table, "a text that comes later", &word);
+}
+
+/* Each request of a call refused in turn. How often the table has more memory than before. */
+static int refused_growths_that_kept_room(growing_call *call, uint64_t later) {
+    uint64_t words[HELD], stale = 0;
+    int kept = 0;
+    long at = 0;
+    for (sc_status status = SC_NO_MEMORY; status == SC_NO_MEMORY && at < MOST; at++) {
+        sc_table table = filled(words, &stale);
+        const uint64_t memory = sc_memory(&table);
+        before_refusal = at;
+        status = call(&table);
+        before_refusal = -1;
+        if (status != SC_OK) {
+            CHECK(status == SC_NO_MEMORY && is_as_filled(&table, words, stale) && sc_memory(&table) >= memory);
+            kept += sc_memory(&table) > memory;
+        }
+        CHECK(word_of(&table, "a text that comes later") == later);
+        sc_close(&table);
+        CHECK(bytes_given == 0 && blocks_given == 0);
+    }
+    /* Each of two maps asks more than once. */
+    CHECK(at > 4 && at < MOST);
+    return kept;
+}
+
+static void room_that_a_refused_call_got_stays_and_tells_nothing(void) {
+    uint64_t words[HELD], stale = 0;
+    sc_table table = filled(words, &stale);
+    const uint64_t later = word_of(&table, "a text that comes later");
+    sc_close(&table);
+    CHECK(refused_growths_that_kept_room(make_room, later) > 0);
+    CHECK(refused_growths_that_kept_room(take_one_more, later) > 0);
+}
+
 static void tables_are_checked_without_memory(void) {
     static const char tables[] = "key 0\ndisp 0 0\natom 1122334455667788 sentence\n";
     long at = 0;
@@ -98,6 +170,7 @@ static void the_rest_asks_for_none(void) {
 static const test tests[] = {
     {"each_request_of_interning_is_refused", each_request_of_interning_is_refused},
     {"a_request_for_room_is_refused", a_request_for_room_is_refused},
+    {"room_that_a_refused_call_got_stays_and_tells_nothing", room_that_a_refused_call_got_stays_and_tells_nothing},
     {"tables_are_checked_without_memory", tables_are_checked_without_memory},
     {"the_rest_asks_for_none", the_rest_asks_for_none},
 };

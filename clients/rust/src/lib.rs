@@ -30,7 +30,7 @@ use std::fmt;
 use std::iter::FusedIterator;
 use std::num::NonZeroU64;
 
-/// Why a call was refused. It has changed nothing then.
+/// Why a call was refused. It has changed nothing then, but that a table may keep room: see [`Interner::reserve`].
 #[derive(Clone, Copy, Debug, PartialEq, Eq, Hash)]
 #[non_exhaustive]
 pub enum Fault {
@@ -307,7 +307,8 @@ impl Interner {
         unsafe { sys::sc_clear(&mut self.table) };
     }
 
-    /// Makes room for so many names more. [`Fault::Memory`].
+    /// Makes room for so many names more. [`Fault::Memory`]: the names are as they were then, and so they are if [`Interner::intern`] finds no memory
+    /// while the table grows. The room that it got before it was refused may stay for later names, and [`Interner::memory`] may tell more.
     pub fn reserve(&mut self, more: usize) -> Result<(), Fault> {
         done(unsafe { sys::sc_reserve(&mut self.table, more) })
     }
