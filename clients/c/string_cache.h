@@ -161,7 +161,7 @@ SC_TO_BE_READ SC_EXPORT sc_status sc_entry(const sc_table *table, size_t place, 
 SC_EXPORT sc_status sc_clear(sc_table *table);
 
 /* Makes room for so many texts more. SC_NO_MEMORY, SC_CLOSED, SC_BAD_ARGUMENT.
- * Where it finds no memory, and where sc_intern finds none while the table grows, the texts, their words and their holders are as they were. The room
+ * If it finds no memory, or sc_intern finds none while the table grows, the texts, their words and their holders are as they were. The room
  * that the table got before it was refused may stay, for texts that come later: then sc_memory may tell more, until sc_close gives all back. */
 SC_TO_BE_READ SC_EXPORT sc_status sc_reserve(sc_table *table, size_t more);
 

@@ -180,7 +180,7 @@ public:
         return true;
     }
 
-    // Makes room for so many texts more. Where it throws std::bad_alloc, or intern does while the table grows, all texts are as they were, and room that
+    // Makes room for so many texts more. If it throws std::bad_alloc, or intern does while the table grows, all texts are as they were, and room that
     // was got before may stay: memory() may tell more then.
     void reserve(std::size_t more) { detail::throw_unless_ok(sc_reserve(table_.get(), more)); }
 

@@ -9,7 +9,7 @@ Two ints that an interner holds at one time are equal exactly if their texts are
 `release` takes one off; with the last one the text goes, and its int never comes back. A text of at most 7 bytes of UTF-8 lies in its int: it
 takes no memory, is always held, and isn't counted or listed.
 
-Threads may share an interner: a lock of its own lets one of them in at a time. Finalizers and signal handlers may call it too, also where they run in
+Threads may share an interner: a lock of its own lets one of them in at a time. Finalizers and signal handlers may call it too, also if they run in
 the middle of another call. It isn't to be used in a child of `os.fork`.
 
 An argument of another type than is said raises a TypeError that names it. An interner can be neither copied nor pickled.

@@ -106,18 +106,24 @@ impl Symbol {
         self.0.get()
     }
 
-    /// The bytes of a name of at most 7, lent from the symbol in which they lie. `None` of any other symbol, also of one that no interner gives.
+    /// The bytes of a name of at most 7, as `inline_text` lends it.
+    #[inline]
+    pub fn inline_bytes(&self) -> Option<&[u8]> {
+        self.inline_text().map(str::as_bytes)
+    }
+
+    /// A name of at most 7 bytes, lent from the symbol in which it lies. `None` of any other symbol, also of one that no interner gives.
     ///
     /// ```
     /// use interned_names::Interner;
     ///
     /// let mut names = Interner::new()?;
-    /// assert_eq!(names.intern("short")?.inline_bytes(), Some("short".as_bytes()));
-    /// assert_eq!(names.intern("a longer name")?.inline_bytes(), None);
+    /// assert_eq!(names.intern("short")?.inline_text(), Some("short"));
+    /// assert_eq!(names.intern("a longer name")?.inline_text(), None);
     /// # Ok::<(), interned_names::Fault>(())
     /// ```
     #[inline]
-    pub fn inline_bytes(&self) -> Option<&[u8]> {
+    pub fn inline_text(&self) -> Option<&str> {
         // SAFETY: a symbol is eight bytes, and any eight bytes are an array of them.
         let [head, bytes @ ..] = unsafe { &*(&self.0 as *const NonZeroU64).cast::<[u8; 8]>() };
         let name = match head & TAG_MASK == INLINE_TAG {
@@ -127,7 +133,8 @@ impl Symbol {
         let behind = self.word().checked_shr(8 * (name.len() as u32 + 1)).unwrap_or(0);
         // The word tells sooner than the name that all is ASCII, as in most names.
         let is_text = self.word() & NOT_ASCII == 0 || std::str::from_utf8(name).is_ok();
-        (behind == 0 && is_text).then_some(name)
+        // SAFETY: the bytes are UTF-8, as was just seen.
+        (behind == 0 && is_text).then(|| unsafe { std::str::from_utf8_unchecked(name) })
     }
 }
 
@@ -239,7 +246,7 @@ impl Interner {
 
     /// Makes the text of a symbol all that the room has, if its memory is enough for it. The number of the refusal and the length otherwise.
     ///
-    /// The memory isn't filled before: where a long text was once, that would take as long for each text that comes after it.
+    /// The memory isn't filled before: if a long text was once there, that would take as long for each text that comes after it.
     fn copy_text(&self, symbol: Symbol, room: &mut Vec<u8>) -> Result<(), (u32, usize)> {
         let mut length = 0;
         let front = room.as_mut_ptr().cast::<c_char>();

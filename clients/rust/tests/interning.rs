@@ -72,7 +72,8 @@ fn a_symbol_lends_nothing_where_its_word_is_none() {
     let chosen = [0xff11, 0xc311, 0x80_a0ed_31, 0x62_6111, 0x6101, 0xff00_0000_0000_0061];
     let symbols: Vec<Symbol> = given.into_iter().chain(others).chain(chosen).filter_map(Symbol::from_word).collect();
     for symbol in &symbols {
-        assert_eq!(symbol.inline_bytes(), names.text(*symbol).as_deref().map(str::as_bytes), "{symbol:?}");
+        assert_eq!(symbol.inline_text(), names.text(*symbol).as_deref(), "{symbol:?}");
+        assert_eq!(symbol.inline_bytes(), symbol.inline_text().map(str::as_bytes), "{symbol:?}");
     }
     assert!(chosen.iter().all(|&word| Symbol::from_word(word).is_some_and(|symbol| symbol.inline_bytes().is_none())));
 }

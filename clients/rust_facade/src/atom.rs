@@ -187,7 +187,7 @@ impl<Static: StaticAtomSet> Deref for Atom<Static> {
             Some(entry) => &entry.text,
             None if self.is_static() => Static::get().atoms[self.static_index()],
             // Only pack_inline, which trusts its caller, can have made another.
-            None => std::str::from_utf8(self.as_bytes()).expect("an inline text"),
+            None => self.symbol.inline_text().expect("an inline text"),
         }
     }
 }
