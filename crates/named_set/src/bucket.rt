@@ -25,6 +25,9 @@ use text_forms::Fault;
 use text_forms::static_sets::StaticTables;
 use text_forms::word::{Limits, ticket_word};
 
+/// So many places are looked at by a call, if several were left.
+const SOME: usize = 16;
+
 /// What one lock of a set holds: the cells that are linked, and the log of all that ever were, which takes no memory. A share may be added
 /// to each cell by a grant of the last type.
 #[derive(Drop)]
@@ -229,7 +232,11 @@ impl<Static: StaticTables, N: SetName, G: Grant> Bucket<Static, N, G> {
     fn look_at_some(&mut self)
         ensures { self.new.number ≡ self.old.number }
     {
-        let (first, end) = self.owners.next_unseen();
+        let (first, end) = self.owners.next_unseen(SOME);
+        self.prune(first, end);
+        // Behind the first place the last ones are next.
+        let rest = SOME.saturating_sub(end.saturating_sub(first));
+        let (first, end) = self.owners.next_unseen(rest);
         self.prune(first, end);
     }
 

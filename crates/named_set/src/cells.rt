@@ -81,13 +81,13 @@ impl Cells {
         self.look.has_unseen()
     }
 
-    /// The next places of those that are still to be looked at: where they begin, and where they end.
-    pub(crate) fn next_unseen(&mut self) -> (usize, usize)
+    /// The next places of those that are still to be looked at, and no more than so many: where they begin, and where they end.
+    pub(crate) fn next_unseen(&mut self, most: usize) -> (usize, usize)
         ensures same { self.new ≡ self.old }
         ensures within { result.1 ≤ length self.old }
     {
         let places = self.places();
-        self.look.next(places)
+        self.look.next(places, most)
     }
 
     /// All were seen.

@@ -2,15 +2,13 @@
 
 ghost use Rattle.std.specs.Prelude.{◌≤◌};
 
-/// So many places are looked at by a call.
-const SOME: usize = 16;
-
-/// Which places are still to be looked at, by blocks of some of them: so many blocks, down from one, and behind the first from the last on.
-/// A look that begins goes on where the one before it was, so that each block has its turn, however often looks begin.
+/// Which places are still to be looked at: so many, down from one, and behind the first from the last on. A look that begins goes on where the
+/// one before it was, so that each place has its turn, however often looks begin. Both numbers count steps of one place, or of more if there are
+/// more than a `u32` counts.
 #[derive(Drop)]
 pub(crate) struct Look {
-    unseen: u32, // or all blocks, if they are fewer
-    below: u32, // the next one stands below this one
+    unseen: u32, // or all places, if they are fewer
+    below: u32, // the next one stands below this place
 }
 
 impl Look {
@@ -45,27 +43,31 @@ impl Look {
         self.unseen > 0
     }
 
-    /// The next of so many places: where they begin, and where they end.
-    pub(crate) fn next(&mut self, places: usize) -> (usize, usize)
+    /// The next of so many places, and no more than `most`: where they begin, and where they end.
+    pub(crate) fn next(&mut self, places: usize, most: usize) -> (usize, usize)
         ensures { result.1 ≤ places }
     {
-        let size = block_size(places);
-        let blocks = places.div_ceil(size).min(u32::MAX as usize) as u32;
-        let above = if self.below == 0 {
-            blocks
+        let step = (places >> 32).saturating_add(1);
+        let all = steps(places, step);
+        let end = if self.below == 0 {
+            all
         } else {
-            self.below.min(blocks)
+            self.below.min(all)
         };
-        self.unseen = self.unseen.min(blocks).saturating_sub(1);
-        self.below = above.saturating_sub(1);
-        let first = size.saturating_mul(self.below as usize);
-        (first, first.saturating_add(size).min(places))
+        let unseen = self.unseen.min(all);
+        let first = end.saturating_sub(unseen.min(steps(most, step)));
+        self.unseen = unseen.saturating_sub(end - first);
+        self.below = first;
+        (
+            step.saturating_mul(first as usize),
+            step.saturating_mul(end as usize).min(places),
+        )
     }
 }
 
-// So many places make a block: some, or more where there would be more blocks than a `u32` counts.
-fn block_size(places: usize) -> usize
-    ensures { 1 ≤ result }
+// How many steps so many places are.
+fn steps(places: usize, step: usize) -> u32
+    requires { 1 ≤ step }
 {
-    SOME.max((places >> 32).saturating_add(1))
+    places.div_ceil(step).min(u32::MAX as usize) as u32
 }

@@ -153,7 +153,7 @@ fn hold_five<'s, N: SetName, R: Wait + Abort>(rt: &R, set: &'s Named<N>) -> Word
 }
 
 /// With one more than 2,900 texts an index of 3,314 places is laid out over 5,802, while a call has looked at sixteen. Those behind it look at all
-/// of these, in 363 blocks of sixteen.
+/// of these: 363 have sixteen each.
 pub fn are_left_as_it_grows<N: SetName, R: Wait + Abort>(rt: &R, set: &Named<N>) -> bool {
     let mut words = hold(rt, set, 2_900);
     leave(rt, set, &mut words, Order::First, 2_700);
