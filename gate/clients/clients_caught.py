@@ -43,7 +43,8 @@ SECONDS = 2700  # for one row, on a slow machine beside other work
 # Most of what a row in Rust takes is the optimiser's work, and here no row is about that.
 UNOPTIMISED = {"CARGO_PROFILE_RELEASE_OPT_LEVEL": "0"}
 # What is said where a program wasn't even built, which is no catch.
-NOT_BUILT = re.compile(r"WRONG: (?:bash|\S*(?:cc|\+\+|clang)\S*) ended|could not compile|no test was run|SyntaxError")
+COMPILER = r"(?:[\w.]+-)*(?:g?cc|[cg]\+\+|clang(?:\+\+)?)(?:-[\d.]+)?"
+NOT_BUILT = re.compile(rf"WRONG: (?:bash|{COMPILER}) ended|could not compile|no test was run|SyntaxError")
 
 
 class Skipped(Exception):
