@@ -10,7 +10,7 @@ from repository import TOP
 
 CLIENTS = TOP / "clients"
 C = CLIENTS / "c"
-SECONDS = 1800  # for one command, on a slow machine beside other work
+SECONDS = int(os.environ.get("CLIENT_SECONDS", "1800"))  # for one command, on a slow machine beside other work
 WARNINGS = ["-Wall", "-Wextra", "-Wpedantic", "-Wshadow", "-Werror"]
 AS_C = ["-std=c11", *WARNINGS]
 

@@ -40,8 +40,8 @@ ARCHIVE = TOP / "crates" / EXPORTS / "out" / f"lib{EXPORTS}.a"
 NEEDED = ("clients", "tools", "gate", "crates/example_scopes")  # what the tests of clients need
 CRATES = ("crates", "crates.txt", "HANDLES")  # what a build of the exports needs
 SECONDS = 2700  # for one row, on a slow machine beside other work
-# Most of what a row in Rust takes is the optimiser's work, and here no row is about that.
-UNOPTIMISED = {"CARGO_PROFILE_RELEASE_OPT_LEVEL": "0"}
+# Most of what a row in Rust takes is the optimiser's work, and here no row is about that. What hangs is waited for no longer than it has to be.
+ENVIRONMENT = {"CARGO_PROFILE_RELEASE_OPT_LEVEL": "0", "CLIENT_SECONDS": "600"}
 # What is said where a program wasn't even built, which is no catch.
 COMPILER = r"(?:[\w.]+-)*(?:g?cc|[cg]\+\+|clang(?:\+\+)?)(?:-[\d.]+)?"
 NOT_BUILT = re.compile(rf"WRONG: (?:bash|{COMPILER}) ended|could not compile|no test was run|SyntaxError")
@@ -86,7 +86,8 @@ def copied(folder, names):
 
 def passes(copy, archive, row):
     """Whether the row passes over a copy. BadEdit where a program wasn't built, and Skipped where a tool isn't there."""
-    how = {"stdin": subprocess.DEVNULL, "stdout": subprocess.PIPE, "stderr": subprocess.STDOUT, "timeout": SECONDS, "env": {**os.environ, **UNOPTIMISED}}
+    how = {"stdin": subprocess.DEVNULL, "stdout": subprocess.PIPE, "stderr": subprocess.STDOUT, "timeout": SECONDS}
+    how["env"] = {**os.environ, **ENVIRONMENT}
     library = copy / "library"
     subprocess.run([copy / "tools" / "c_library.sh", library, archive], check=True, **how)
     ran = subprocess.run([copy / "gate" / "clients" / "clients.py", "--library", library, "--jobs", "1", row], check=False, **how)
