@@ -14,8 +14,8 @@ const END_OF_TEXT: u8 = 255;
 /// A 128-bit key of SipHash-1-3, under which a map hashes texts or any other keys. Those who don't know it can't choose keys of the map that collide,
 /// except by chance.
 ///
-/// It does what `RandomState` does, and is faster on texts: it takes in the last bytes of a text at once, and hashes no end mark, since the length is
-/// hashed. Each number is hashed with the length of its bytes, too.
+/// It does what `RandomState` does, and is faster on texts: it takes in the last bytes of a text at once, and hashes no end mark behind a text of two
+/// bytes or more, or of none, since the length is hashed. Each number is hashed with the length of its bytes, too.
 #[repr(C)]
 #[derive(Clone, Copy, Drop)]
 pub struct SipKey {
