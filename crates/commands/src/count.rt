@@ -9,18 +9,21 @@ ghost use Rattle.text_streams.specs.Streams.{AppendsBeginning};
 ghost use Rattle.commands.specs.Told.{Tells};
 ghost use Rattle.word_counts.specs.WordCounts.{counted_texts};
 
-use crate::buckets::buckets_for;
+use crate::set_names::name_under;
 use std::alloc::{AllocError, Global};
 use std::hash::RandomState;
+use std::marker::Brand;
 use std::sync::Wait;
 use std::thread::{Threads, for_each_mut};
-use string_cache::dynamic_set::Set;
 use string_cache::word::Limits;
-use string_cache::{Atom, EmptyStaticAtomSet, StaticTables};
+use string_cache::{EmptyStaticAtomSet, FreshName, NamedAtom, NamedSet, SetName};
 use text_streams::faults::AppFault;
 use text_streams::streams::{Sink, Source, read_text, write_full, write_whole};
 use word_counts::count::MANY;
-pub use word_counts::count::{Gate, Open, WordCounts, count};
+pub use word_counts::count::{Gate, Open, WordCounts, count, count_named};
+
+/// An atom of a word, of the set with this name, and how often the word occurred.
+type Counted<'s, N> = (NamedAtom<'s, EmptyStaticAtomSet, N>, u64);
 
 /// Appends the line of a word and its number.
 fn append_count(out: &mut String, word: &str, n: u64) -> Result<(), AllocError>
@@ -30,9 +33,9 @@ fn append_count(out: &mut String, word: &str, n: u64) -> Result<(), AllocError>
 }
 
 /// Writes a line for each word, in order.
-fn write_lines<Static: StaticTables, K: Sink>(
+fn write_lines<N: SetName, K: Sink>(
     alloc: Global,
-    counts: &[(Atom<'_, Static>, u64)],
+    counts: &[Counted<'_, N>],
     writer: &mut K,
 ) -> Result<(), AppFault>
     requires { K.has_failed writer.old ≡ false }
@@ -50,9 +53,9 @@ fn write_lines<Static: StaticTables, K: Sink>(
 }
 
 /// Lets the atoms go, in at most `threads` threads if they are many: each is the last of its text, and so asks its bucket.
-fn let_go<R: Threads + Sync, Static: StaticTables + Send + Sync>(
+fn let_go<R: Threads + Sync, N: SetName + Send + Sync>(
     rt: &R,
-    counts: &mut [(Atom<'_, Static>, u64)],
+    counts: &mut [Counted<'_, N>],
     threads: u32,
 )
     requires { 1 ≤ threads }
@@ -64,15 +67,15 @@ fn let_go<R: Threads + Sync, Static: StaticTables + Send + Sync>(
         rt,
         counts,
         threads as usize,
-        &|_, pair| { pair.0 = Atom::default() },
+        &|_, pair| { pair.0 = NamedAtom::default() },
     );
 }
 
 /// Writes a line for each word, in order, and lets the atoms go, in at most `threads` threads if they are many.
-fn write_all<R: Threads + Sync, Static: StaticTables + Send + Sync, K: Sink>(
+fn write_all<R: Threads + Sync, N: SetName + Send + Sync, K: Sink>(
     rt: &R,
     alloc: Global,
-    counts: &mut [(Atom<'_, Static>, u64)],
+    counts: &mut [Counted<'_, N>],
     threads: u32,
     writer: &mut K,
 ) -> Result<(), AppFault>
@@ -88,11 +91,10 @@ fn write_all<R: Threads + Sync, Static: StaticTables + Send + Sync, K: Sink>(
     outcome
 }
 
-/// Counts the words of the text by `n` workers, and writes a line for each distinct one. They are interned in this call's own set, whose number of
-/// buckets fits the text.
-fn write_counts<R: Threads + Wait + Sync, K: Sink>(
+/// Counts the words of the text by `n` workers in the set, and writes a line for each distinct one.
+fn write_counts_in<N: SetName + Send + Sync, R: Threads + Wait + Sync, K: Sink>(
     rt: &R,
-    alloc: Global,
+    set: &NamedSet<EmptyStaticAtomSet, N>,
     keys: RandomState,
     n: u32,
     text: &str,
@@ -106,15 +108,57 @@ fn write_counts<R: Threads + Wait + Sync, K: Sink>(
     ensures fault { IfErr result IsWritingCountsFault }
     ensures failed { (result ≡ Err AppFault.Write) ↔ (K.has_failed writer.new ≡ true) }
 {
-    let buckets = buckets_for(text.len());
-    let set = Set::<EmptyStaticAtomSet>::with_buckets(alloc, Limits::greatest(), buckets)?;
-    let mut counts = count(rt, &set, keys, text, n, &Open)?;
-    write_all(rt, alloc, &mut counts, n, writer)
+    let mut counts = count_named(rt, set, keys, text, n, &Open)?;
+    write_all(rt, set.allocator(), &mut counts, n, writer)
+}
+
+/// The same in the set with this name. (It can't be picked at a call with a `&str`.)
+fn write_counts_named<N: SetName + Send + Sync, R: Threads + Wait + Sync, K: Sink>(
+    rt: &R,
+    alloc: Global,
+    name: FreshName,
+    keys: RandomState,
+    n: u32,
+    text: &String,
+    writer: &mut K,
+) -> Result<(), AppFault>
+    requires name { N.logs ≡ name.logs }
+    requires low { 1 ≤ n }
+    requires high { n ≤ 64 }
+    requires writer { K.has_failed writer.old ≡ false }
+    ensures ok { OnOk result (Appends (K.contents writer.old) (K.contents writer.new) (count_lines (string_bytes text.now))) }
+    ensures err { OnErr result (AppendsBeginning (K.contents writer.old) (K.contents writer.new) (count_lines (string_bytes text.now))) }
+    ensures fault { IfErr result IsWritingCountsFault }
+    ensures failed { (result ≡ Err AppFault.Write) ↔ (K.has_failed writer.new ≡ true) }
+{
+    let set = NamedSet::new(alloc, name, Limits::greatest())?;
+    write_counts_in::<N, R, K>(rt, &set, keys, n, text.as_str(), writer)
+}
+
+/// The same in this call's own set, which finds its texts under these keys.
+fn write_counts<R: Threads + Wait + Sync, K: Sink>(
+    rt: &R,
+    alloc: Global,
+    keys: RandomState,
+    n: u32,
+    text: &String,
+    writer: &mut K,
+) -> Result<(), AppFault>
+    requires low { 1 ≤ n }
+    requires high { n ≤ 64 }
+    requires writer { K.has_failed writer.old ≡ false }
+    ensures ok { OnOk result (Appends (K.contents writer.old) (K.contents writer.new) (count_lines (string_bytes text.now))) }
+    ensures err { OnErr result (AppendsBeginning (K.contents writer.old) (K.contents writer.new) (count_lines (string_bytes text.now))) }
+    ensures fault { IfErr result IsWritingCountsFault }
+    ensures failed { (result ≡ Err AppFault.Write) ↔ (K.has_failed writer.new ≡ true) }
+{
+    let name = name_under(alloc, keys, text.len())?;
+    write_counts_named::<Brand, R, K>(rt, alloc, name, keys, n, text, writer)
 }
 
 /// Reads all the input, counts its words by `n` workers, and writes a line for each distinct one. They are interned in this call's own set, whose
-/// number of buckets fits the input. While they are counted, words are hashed under these keys, which affect only the time that it takes: under
-/// random ones nobody can choose words that collide there.
+/// number of buckets fits the input. Words are hashed under these keys, in the set too, which affect only the time that it takes: under random ones
+/// nobody can choose words that collide.
 ///
 /// `Read` and `Text` (the input isn't UTF-8) are returned before anything is written, and so is `Intern(Memory)` while the input is read. After
 /// another fault, a beginning of the lines may have been written.

@@ -3,11 +3,11 @@
 //! `word_counts` are here as well, and what makes and checks static tables in `generate`.
 #![tactic(auto)]
 
-pub mod buckets;
 pub mod count;
 pub mod generate;
 pub mod program;
 pub mod replay;
+pub mod set_names;
 pub mod words;
 
 pub use text_streams::{faults, streams};

@@ -11,15 +11,18 @@ ghost use Rattle.commands.specs.Told.{Tells};
 ghost use Rattle.commands.specs.Faults.{IsUnwrittenFault, IsWordsFault, IsWritingFault};
 ghost use Rattle.commands.specs.WordLines.{AreWordLines, seen_line, word_lines};
 
-use crate::buckets::buckets_for;
+use crate::set_names::name_under;
 use std::alloc::{AllocError, Global};
 use std::collections::HashMap;
 use std::hash::RandomState;
+use std::marker::Brand;
 use std::sync::Wait;
 use string_cache::dynamic_set::Set;
 use string_cache::table::Table;
 use string_cache::word::{InlineText, Limits};
-use string_cache::{AtomList, EmptyStaticAtomSet, Fault, StaticTables};
+use string_cache::{
+    AtomList, EmptyStaticAtomSet, Fault, FreshName, NamedAtomList, NamedSet, SetName, StaticTables,
+};
 use text_streams::faults::AppFault;
 use text_streams::streams::{Sink, Source, read_text, write_full, write_whole};
 
@@ -36,28 +39,30 @@ impl Interner for Table<EmptyStaticAtomSet> {
     }
 }
 
-/// Interns words in a set, and holds the atom of each place of a word. That of an inline word would hold nothing of the set, so it isn't kept.
+/// Interns words in a set, and holds the atom of each place of a word in a list. That of an inline word would hold nothing of the set, so it isn't
+/// kept.
 #[derive(Drop)]
-struct Holder<'r, 's, R: Wait, Static: StaticTables> {
+struct Holder<'r, R: Wait, Atoms> {
     rt: &'r R,
-    atoms: AtomList<'s, Static>,
+    atoms: Atoms,
 }
 
-impl<'r, 's, R: Wait, Static: StaticTables> Holder<'r, 's, R, Static> {
-    fn new(rt: &'r R, set: &'s Set<Static>) -> Self {
-        Holder {
-            rt,
-            atoms: AtomList::new(set),
-        }
-    }
-}
-
-impl<R: Wait, Static: StaticTables> Interner for Holder<'_, '_, R, Static> {
+impl<R: Wait, Static: StaticTables> Interner for Holder<'_, R, AtomList<'_, Static>> {
     fn intern(&mut self, word: &str) -> Result<(), Fault> {
         if InlineText::new(word).is_none() {
             self.atoms.push_str(self.rt, word)?;
         }
         Ok(())
+    }
+}
+
+impl<R: Wait, Static: StaticTables, N: SetName> Interner
+    for Holder<'_, R, NamedAtomList<'_, Static, N>> {
+    fn intern(&mut self, word: &str) -> Result<(), Fault> {
+        if InlineText::new(word).is_some() {
+            return Ok(());
+        }
+        self.atoms.push_str(self.rt, word)
     }
 }
 
@@ -169,10 +174,75 @@ pub fn words<R: Wait, Static: StaticTables, S: Source, K: Sink>(
     ensures { Tells S.Source K.Sink AreWordLines IsUnwrittenFault IsWordsFault reader.old reader.new writer.old writer.new result }
 {
     let alloc = set.allocator();
-    list_words(alloc, keys, &mut Holder::new(rt, set), reader, writer)
+    let atoms = AtomList::new(set);
+    list_words(alloc, keys, &mut Holder { rt, atoms }, reader, writer)
 }
 
-/// As `words`, over this call's own set, whose number of buckets fits the input.
+/// As `words`, in a set with a name. If its name has a random key as well (`FreshName::under`), nobody can choose words that slow it down.
+pub fn words_named<R: Wait, Static: StaticTables, N: SetName, S: Source, K: Sink>(
+    rt: &R,
+    set: &NamedSet<Static, N>,
+    keys: RandomState,
+    reader: &mut S,
+    writer: &mut K,
+) -> Result<(), AppFault>
+    requires reader { S.has_failed reader.old ≡ false }
+    requires writer { K.has_failed writer.old ≡ false }
+    ensures { Tells S.Source K.Sink AreWordLines IsUnwrittenFault IsWordsFault reader.old reader.new writer.old writer.new result }
+{
+    let atoms = NamedAtomList::new(set);
+    let mut holder = Holder { rt, atoms };
+    list_words(set.allocator(), keys, &mut holder, reader, writer)
+}
+
+/// Interns the words of the text in the set with this name, in order, and writes a line for each once it is interned. (The name can't be picked at a
+/// call with a `&str`.)
+fn write_words_named<N: SetName, R: Wait, K: Sink>(
+    rt: &R,
+    alloc: Global,
+    name: FreshName,
+    keys: RandomState,
+    text: &String,
+    writer: &mut K,
+) -> Result<(), AppFault>
+    requires name { N.logs ≡ name.logs }
+    requires writer { K.has_failed writer.old ≡ false }
+    ensures ok { OnOk result (Appends (K.contents writer.old) (K.contents writer.new) (word_lines (string_bytes text.now))) }
+    ensures err { OnErr result (AppendsBeginning (K.contents writer.old) (K.contents writer.new) (word_lines (string_bytes text.now))) }
+    ensures fault { IfErr result IsWritingFault }
+    ensures failed { (result ≡ Err AppFault.Write) ↔ (K.has_failed writer.new ≡ true) }
+{
+    let set = NamedSet::<EmptyStaticAtomSet, N>::new(alloc, name, Limits::greatest())?;
+    let atoms = NamedAtomList::new(&set);
+    write_words(
+        alloc,
+        keys,
+        &mut Holder { rt, atoms },
+        text.as_str(),
+        writer,
+    )
+}
+
+/// The same in this call's own set, which finds its texts under these keys.
+fn write_words_under<R: Wait, K: Sink>(
+    rt: &R,
+    alloc: Global,
+    keys: RandomState,
+    text: &String,
+    writer: &mut K,
+) -> Result<(), AppFault>
+    requires { K.has_failed writer.old ≡ false }
+    ensures ok { OnOk result (Appends (K.contents writer.old) (K.contents writer.new) (word_lines (string_bytes text.now))) }
+    ensures err { OnErr result (AppendsBeginning (K.contents writer.old) (K.contents writer.new) (word_lines (string_bytes text.now))) }
+    ensures fault { IfErr result IsWritingFault }
+    ensures failed { (result ≡ Err AppFault.Write) ↔ (K.has_failed writer.new ≡ true) }
+{
+    let name = name_under(alloc, keys, text.len())?;
+    write_words_named::<Brand, R, K>(rt, alloc, name, keys, text, writer)
+}
+
+/// As `words`, in this call's own set, whose number of buckets fits the input. It finds words under these keys, too, so that nobody can choose words
+/// that slow it down if they are random.
 pub fn words_command<R: Wait, S: Source, K: Sink>(
     rt: &R,
     alloc: Global,
@@ -185,9 +255,7 @@ pub fn words_command<R: Wait, S: Source, K: Sink>(
     ensures { Tells S.Source K.Sink AreWordLines IsUnwrittenFault IsWordsFault reader.old reader.new writer.old writer.new result }
 {
     let text = read_text(alloc, reader)?;
-    let buckets = buckets_for(text.len());
-    let set = Set::<EmptyStaticAtomSet>::with_buckets(alloc, Limits::greatest(), buckets)?;
-    write_words(alloc, keys, &mut Holder::new(rt, &set), &text, writer)
+    write_words_under(rt, alloc, keys, &text, writer)
 }
 
 /// The same lines and faults as those of `words`. The words are interned in this call's own table, which ends with it, so that no lock is taken.

@@ -27,7 +27,7 @@ pub fn counted<'s, R: Threads + Wait + Sync, G: Gate>(
     text: &'s str,
     n: u32,
     gate: &'s G,
-) -> Result<WordCounts<'s, EmptyStaticAtomSet>, AppFault>
+) -> Result<WordCounts<DefaultAtom<'s>>, AppFault>
     requires low { 1 ≤ n }
     requires high { n ≤ 64 }
 {

@@ -4,8 +4,6 @@
 ghost use Rattle.std.specs.Prelude.{IsTrue};
 
 #[cfg(test)]
-mod buckets;
-#[cfg(test)]
 mod counting;
 #[cfg(test)]
 mod failures;
@@ -16,6 +14,8 @@ mod generate;
 #[cfg(test)]
 mod memory;
 #[cfg(test)]
+mod named;
+#[cfg(test)]
 mod packed;
 #[cfg(test)]
 mod pieces;
@@ -25,6 +25,8 @@ mod program;
 mod refusals;
 #[cfg(test)]
 mod replay;
+#[cfg(test)]
+mod set_names;
 #[cfg(test)]
 mod under_keys;
 #[cfg(test)]

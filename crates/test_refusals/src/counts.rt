@@ -1,10 +1,10 @@
 //! What tests ask of counts.
 
-use string_cache::StaticTables;
+use string_cache::{AtomKind, SetAtom};
 use word_counts::count::WordCounts;
 
 /// Whether these are the words and numbers of the counts.
-pub fn are<Static: StaticTables>(counts: &WordCounts<'_, Static>, wanted: &[(&str, u64)]) -> bool {
+pub fn are<H: AtomKind>(counts: &WordCounts<SetAtom<H>>, wanted: &[(&str, u64)]) -> bool {
     if counts.len() != wanted.len() {
         return false;
     }

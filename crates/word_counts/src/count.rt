@@ -6,6 +6,7 @@ ghost use Rattle.word_counts.specs.WordCounts.{AreWordCounts, counted_texts, wor
 ghost use Rattle.word_counts.specs.Words.{words};
 
 mod merge;
+mod named_workers;
 mod parts;
 mod tally;
 mod workers;
@@ -19,7 +20,7 @@ use std::sync::Wait;
 use std::thread;
 use std::thread::Threads;
 use string_cache::dynamic_set::Set;
-use string_cache::{Atom, StaticTables};
+use string_cache::{Atom, NamedAtom, NamedSet, SetName, StaticTables};
 use text_streams::faults::AppFault;
 use workers::counts_in;
 
@@ -42,7 +43,7 @@ impl Gate for Open {
 }
 
 /// An atom of each word and how often the word occurred, in the order of texts.
-pub type WordCounts<'e, Static> = Vec<(Atom<'e, Static>, u64)>;
+pub type WordCounts<A> = Vec<(A, u64)>;
 
 /// Each distinct word of the text once, in the order of bytes, with the number of its places.
 ///
@@ -51,7 +52,7 @@ pub type WordCounts<'e, Static> = Vec<(Atom<'e, Static>, u64)>;
 ///
 /// Words are hashed under `keys` while they are counted. What is returned doesn't depend on them. If they are random, as `RandomState::new` draws
 /// them, nobody can choose words that collide there. In which bucket of the set a word is follows from the word alone, so whoever writes the text can
-/// have many in one, which slows down their interning.
+/// have many in one, which slows down their interning; `count_named` finds them under the key of the set's name.
 ///
 /// `Worker` if a worker's thread couldn't be started, and `Intern` if interning or memory was refused. If several workers are refused, the fault is
 /// that of the lowest piece. After a fault no worker is left running, and none of their atoms is held.
@@ -62,7 +63,7 @@ pub fn count<'s, R: Threads + Wait + Sync, Static: StaticTables + Send + Sync, G
     text: &'s str,
     n: u32,
     gate: &'s G,
-) -> Result<Vec<(Atom<'s, Static>, u64)>, AppFault>
+) -> Result<WordCounts<Atom<'s, Static>>, AppFault>
     requires low { 1 ≤ n }
     requires high { n ≤ 64 }
     ensures counts { IfOk result (λ counts. counted_texts counts.items ≡ word_counts (words text.now)) }
@@ -72,10 +73,42 @@ pub fn count<'s, R: Threads + Wait + Sync, Static: StaticTables + Send + Sync, G
     thread::scope(
         thread::scope_env::<'s>(),
         rt,
-        move |scope| -> Result<WordCounts<'_, Static>, AppFault>
+        move |scope| -> Result<WordCounts<Atom<'_, Static>>, AppFault>
             requires { 1 ≤ n }
             ensures counts { IfOk result (λ counts. counted_texts counts.items ≡ word_counts (words text.entry.now)) }
             ensures fault { IfErr result IsCountFault }
         { counts_in(scope, rt, set, keys, gate, text, n) },
+    )
+}
+
+/// As `count`, in a set with a name. If its name has a random key as well (`FreshName::under`), nobody can choose words that slow it down.
+pub fn count_named<
+    's,
+    R: Threads + Wait + Sync,
+    Static: StaticTables + Send + Sync,
+    N: SetName + Send + Sync,
+    G: Gate,
+>(
+    rt: &'s R,
+    set: &'s NamedSet<Static, N>,
+    keys: RandomState,
+    text: &'s str,
+    n: u32,
+    gate: &'s G,
+) -> Result<WordCounts<NamedAtom<'s, Static, N>>, AppFault>
+    requires low { 1 ≤ n }
+    requires high { n ≤ 64 }
+    ensures counts { IfOk result (λ counts. counted_texts counts.items ≡ word_counts (words text.now)) }
+    ensures law { IfOk result (λ counts. AreWordCounts (words text.now) (counted_texts counts.items)) }
+    ensures fault { IfErr result IsCountFault }
+{
+    thread::scope(
+        thread::scope_env::<'s>(),
+        rt,
+        move |scope| -> Result<WordCounts<NamedAtom<'_, Static, N>>, AppFault>
+            requires { 1 ≤ n }
+            ensures counts { IfOk result (λ counts. counted_texts counts.items ≡ word_counts (words text.entry.now)) }
+            ensures fault { IfErr result IsCountFault }
+        { named_workers::counts_in(scope, rt, set, keys, gate, text, n) },
     )
 }

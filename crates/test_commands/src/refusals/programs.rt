@@ -16,8 +16,8 @@ use std::process::Abort;
 use std::str;
 use std::sync::Wait;
 use std::thread::Threads;
-use string_cache::EmptyStaticAtomSet;
 use string_cache::dynamic_set::Set;
+use string_cache::{DefaultAtom, EmptyStaticAtomSet};
 use test_refusals::{End, are, at_last, begin, finish};
 use test_samples::{EXAMPLE, EXAMPLE_COUNTS};
 use text_streams::faults::AppFault;
@@ -198,7 +198,7 @@ fn text_of_many<R: Abort>(rt: &R, alloc: Global) -> String {
 }
 
 /// Whether these are the counts of that text.
-fn are_many(counts: &WordCounts<'_, EmptyStaticAtomSet>) -> bool {
+fn are_many(counts: &WordCounts<DefaultAtom<'_>>) -> bool {
     match counts.last() {
         Some((atom, n)) => counts.len() == 1_025 && *n == 3_072 && atom.eq_str("a"),
         None => false,

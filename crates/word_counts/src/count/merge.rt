@@ -11,16 +11,13 @@ use std::alloc::{AllocError, Global};
 use std::cmp::Ordering;
 use std::collections::VecDeque;
 use std::thread::{Threads, join};
-use string_cache::{Atom, StaticTables};
+use string_cache::{Atom, AtomKind, SetAtom, StaticTables};
 
 /// What is left of counts that are being merged.
-type Rest<'e, Static> = VecDeque<(Atom<'e, Static>, u64)>;
+type Rest<H> = VecDeque<(SetAtom<H>, u64)>;
 
 /// How the first words of the two compare. If a list has none, the other's comes first.
-fn order_of_first<Static: StaticTables>(
-    front: &Rest<'_, Static>,
-    back: &Rest<'_, Static>,
-) -> Ordering
+fn order_of_first<H: AtomKind>(front: &Rest<H>, back: &Rest<H>) -> Ordering
     ensures { result ≡ first_order (counted_texts front.now.items) (counted_texts back.now.items) }
 {
     match (front.front(), back.front()) {
@@ -31,23 +28,17 @@ fn order_of_first<Static: StaticTables>(
 }
 
 /// The pair with this many more places of its word.
-fn with_more<'e, Static: StaticTables>(
-    pair: (Atom<'e, Static>, u64),
-    more: u64,
-) -> (Atom<'e, Static>, u64)
+fn with_more<H: AtomKind>(pair: (SetAtom<H>, u64), more: u64) -> (SetAtom<H>, u64)
     requires pair { pair.1 < 2 ^ 63 }
     requires more { more < 2 ^ 63 }
-    ensures { result ≡ (pair.entry.0, pair.entry.1 + more) }
+    ensures { result ≡ (pair.0, pair.1 + more) }
 {
     let (atom, n) = pair;
     (atom, n + more)
 }
 
 /// Takes the pair of the lowest word off the list that has it, or off both as one pair.
-fn take_lowest<'e, Static: StaticTables>(
-    front: &mut Rest<'e, Static>,
-    back: &mut Rest<'e, Static>,
-) -> Option<(Atom<'e, Static>, u64)>
+fn take_lowest<H: AtomKind>(front: &mut Rest<H>, back: &mut Rest<H>) -> Option<(SetAtom<H>, u64)>
     requires front { All (λ pair. pair.1 < 2 ^ 63) (counted_texts front.old.items) }
     requires back { All (λ pair. pair.1 < 2 ^ 63) (counted_texts back.old.items) }
     ensures front { All (λ pair. pair.1 < 2 ^ 63) (counted_texts front.new.items) }
@@ -70,14 +61,14 @@ fn take_lowest<'e, Static: StaticTables>(
 }
 
 /// The counts of both lists of words together.
-fn merge<'e, Static: StaticTables>(
+fn merge<H: AtomKind>(
     alloc: Global,
-    front: WordCounts<'e, Static>,
-    back: WordCounts<'e, Static>,
-) -> Result<WordCounts<'e, Static>, AllocError>
+    front: WordCounts<SetAtom<H>>,
+    back: WordCounts<SetAtom<H>>,
+) -> Result<WordCounts<SetAtom<H>>, AllocError>
     requires front { All (λ pair. pair.1 < 2 ^ 63) (counted_texts front.items) }
     requires back { All (λ pair. pair.1 < 2 ^ 63) (counted_texts back.items) }
-    ensures { IfOk result (λ counts. counted_texts counts.items ≡ merged (counted_texts front.entry.items) (counted_texts back.entry.items)) }
+    ensures { IfOk result (λ counts. counted_texts counts.items ≡ merged (counted_texts front.items) (counted_texts back.items)) }
 {
     let mut front = VecDeque::from_vec(front);
     let mut back = VecDeque::from_vec(back);
@@ -89,14 +80,14 @@ fn merge<'e, Static: StaticTables>(
 }
 
 /// The lists merged in pairs: the first with the second, the third with the fourth, and so on. The last of an odd number stays.
-fn merge_pairs<'e, Static: StaticTables>(
+fn merge_pairs<H: AtomKind>(
     alloc: Global,
-    lists: VecDeque<WordCounts<'e, Static>>,
-) -> Result<VecDeque<WordCounts<'e, Static>>, AllocError>
+    lists: VecDeque<WordCounts<SetAtom<H>>>,
+) -> Result<VecDeque<WordCounts<SetAtom<H>>>, AllocError>
     requires { AreCountsOfFew (all_counted_texts lists.items) }
-    ensures counts { (words : List (List ℕ)) → AreCountsOf words (all_counted_texts lists.entry.items)
+    ensures counts { (words : List (List ℕ)) → AreCountsOf words (all_counted_texts lists.items)
         → IfOk result (λ merged. AreCountsOf words (all_counted_texts merged.items)) }
-    ensures fewer { IfOk result (λ merged. 2 * deque_len merged ≤ deque_len lists.entry + 1) }
+    ensures fewer { IfOk result (λ merged. 2 * deque_len merged ≤ deque_len lists + 1) }
 {
     let mut lists = lists;
     let mut merged = VecDeque::new(alloc);
@@ -111,12 +102,12 @@ fn merge_pairs<'e, Static: StaticTables>(
 }
 
 /// The counts of the words of all lists together, merged in this thread: in pairs, again and again, until one list is left.
-fn merge_here<'e, Static: StaticTables>(
+pub fn merge_here<H: AtomKind>(
     alloc: Global,
-    lists: VecDeque<WordCounts<'e, Static>>,
-) -> Result<WordCounts<'e, Static>, AllocError>
+    lists: VecDeque<WordCounts<SetAtom<H>>>,
+) -> Result<WordCounts<SetAtom<H>>, AllocError>
     requires { AreCountsOfFew (all_counted_texts lists.items) }
-    ensures { IfOk result (λ counts. AreMerged lists.entry.items counts) }
+    ensures { IfOk result (λ counts. AreMerged lists.items counts) }
 {
     let mut lists = lists;
     while lists.len() > 1 {
@@ -130,8 +121,8 @@ fn merge_here<'e, Static: StaticTables>(
 fn merge_halves<'e, R: Threads, Static: StaticTables + Send + Sync>(
     rt: &R,
     alloc: Global,
-    lists: VecDeque<WordCounts<'e, Static>>,
-) -> Result<WordCounts<'e, Static>, AllocError>
+    lists: VecDeque<WordCounts<Atom<'e, Static>>>,
+) -> Result<WordCounts<Atom<'e, Static>>, AllocError>
     requires { AreCountsOfFew (all_counted_texts lists.items) }
     ensures { IfOk result (λ counts. AreMerged lists.entry.items counts) }
 {
@@ -139,11 +130,11 @@ fn merge_halves<'e, R: Threads, Static: StaticTables + Send + Sync>(
     let upper = lower.split_off(lower.len() / 2)?;
     let (front, back) = join(
         rt,
-        move || -> Result<WordCounts<'_, Static>, AllocError>
+        move || -> Result<WordCounts<Atom<'_, Static>>, AllocError>
             requires { AreCountsOfFew (all_counted_texts lower.items) }
             ensures { IfOk result (λ counts. AreMerged lower.entry.items counts) }
         { merge_here(alloc, lower) },
-        move || -> Result<WordCounts<'_, Static>, AllocError>
+        move || -> Result<WordCounts<Atom<'_, Static>>, AllocError>
             requires { AreCountsOfFew (all_counted_texts upper.items) }
             ensures { IfOk result (λ counts. AreMerged upper.entry.items counts) }
         { merge_here(alloc, upper) },
@@ -157,7 +148,7 @@ fn merge_halves<'e, R: Threads, Static: StaticTables + Send + Sync>(
 pub const MANY: usize = 1 << 10;
 
 /// Whether none of the lists is worth a thread.
-fn are_short<Static: StaticTables>(lists: &VecDeque<WordCounts<'_, Static>>) -> bool {
+fn are_short<H: AtomKind>(lists: &VecDeque<WordCounts<SetAtom<H>>>) -> bool {
     lists.iter().all(|list| list.len() < MANY)
 }
 
@@ -166,8 +157,8 @@ fn are_short<Static: StaticTables>(lists: &VecDeque<WordCounts<'_, Static>>) -> 
 pub fn merge_all<'e, R: Threads, Static: StaticTables + Send + Sync>(
     rt: &R,
     alloc: Global,
-    lists: VecDeque<WordCounts<'e, Static>>,
-) -> Result<WordCounts<'e, Static>, AllocError>
+    lists: VecDeque<WordCounts<Atom<'e, Static>>>,
+) -> Result<WordCounts<Atom<'e, Static>>, AllocError>
     requires { AreCountsOfFew (all_counted_texts lists.items) }
     ensures { IfOk result (λ counts. AreMerged lists.entry.items counts) }
 {

@@ -10,30 +10,30 @@ ghost use Rattle.word_counts.specs.Words.{words};
 
 use super::merge::merge_all;
 use super::parts::{Part, parts};
-use super::tally::{Tally, add, into_pairs, of_no_words};
+use super::tally::{Tally, count_again, count_first, into_pairs, of_no_words};
 use super::{Gate, WordCounts};
 use std::collections::VecDeque;
 use std::hash::RandomState;
 use std::sync::Wait;
 use std::thread::{Promise, Scope, Threads};
 use string_cache::dynamic_set::Set;
-use string_cache::{Atom, Fault, StaticTables};
+use string_cache::{Atom, AtomKind, Fault, SetAtom, SetList, SharedSet, StaticTables};
 use text_streams::faults::AppFault;
 
 /// A worker promises the counts of the words of its part, unless it is refused.
-impl<'e, Static: StaticTables> Promise<Result<WordCounts<'e, Static>, Fault>> for Part<'e> {
+impl<'e, H: AtomKind> Promise<Result<WordCounts<SetAtom<H>>, Fault>> for Part<'e> {
     ghost kept_by = { λ part result.
         IfOk result (λ counts. counted_texts counts.items ≡ word_counts (words_of_part part)) × IfErr result IsInternFault };
 }
 
 /// Interns a place of a word and counts it. The atom of a further place is held in addition to those of the tally if it is dynamic: others hold
 /// nothing of the set.
-fn intern_place<'e, R: Wait, Static: StaticTables>(
+fn intern_place<'e, R: Wait, S: SharedSet>(
     rt: &R,
-    set: &'e Set<Static>,
+    set: S,
     word: &'e str,
-    tally: &mut Tally<'e, Static>,
-    further: &mut Vec<Atom<'e, Static>>,
+    tally: &mut Tally<'e, S::Held>,
+    further: &mut SetList<S>,
 ) -> Result<(), Fault>
     requires fits { number_of tally.old word.now + 1 < 2 ^ 64 }
     requires labelled { IsLabelled tally.old }
@@ -41,22 +41,24 @@ fn intern_place<'e, R: Wait, Static: StaticTables>(
     ensures labelled { OnOk result (IsLabelled tally.new) }
     ensures refused { IfErr result IsInternFault }
 {
-    let atom = Atom::from_str_in(rt, set, word)?;
-    if let Some(held) = add(tally, word, atom)? {
-        if held.is_dynamic() {
-            further.push(held)?;
+    if let Some(is_dynamic) = count_again(tally, word) {
+        if is_dynamic {
+            further.push_str(rt, word)?;
         }
+        return Ok(());
     }
+    let atom = SetAtom::from_str_in(rt, set, word)?;
+    count_first(tally, word, atom)?;
     Ok(())
 }
 
 /// Interns the words of the part in order and counts them. The atoms of further places are held in addition to those of the tally.
-fn intern_words<'e, R: Wait, Static: StaticTables>(
+fn intern_words<'e, R: Wait, S: SharedSet>(
     rt: &R,
-    set: &'e Set<Static>,
+    set: S,
     part: Part<'e>,
-    tally: &mut Tally<'e, Static>,
-    further: &mut Vec<Atom<'e, Static>>,
+    tally: &mut Tally<'e, S::Held>,
+    further: &mut SetList<S>,
 ) -> Result<(), Fault>
     requires { IsTallyOf [] tally.old }
     ensures tally { OnOk result (IsTallyOf (words_of_part part.entry) tally.new) }
@@ -77,19 +79,19 @@ fn intern_words<'e, R: Wait, Static: StaticTables>(
 
 /// What a worker does: it interns its words between the gate's two calls, and holds, beyond both, an atom of each word and of each place of a dynamic
 /// one.
-fn count_part<'e, R: Wait, Static: StaticTables, G: Gate>(
+pub fn count_part<'e, R: Wait, S: SharedSet, G: Gate>(
     rt: &R,
-    set: &'e Set<Static>,
+    set: S,
     keys: RandomState,
     gate: &G,
     part: Part<'e>,
     piece: u32,
-) -> Result<WordCounts<'e, Static>, Fault>
+) -> Result<WordCounts<SetAtom<S::Held>>, Fault>
     ensures counts { IfOk result (λ counts. counted_texts counts.items ≡ word_counts (words_of_part part.entry)) }
     ensures refused { IfErr result IsInternFault }
 {
     let mut tally = of_no_words(set.allocator(), keys);
-    let mut further = Vec::new(set.allocator());
+    let mut further = SetList::<S>::new(set);
     gate.enter(rt, piece);
     let outcome = intern_words(rt, set, part, &mut tally, &mut further);
     gate.leave(rt, piece);
@@ -99,8 +101,8 @@ fn count_part<'e, R: Wait, Static: StaticTables, G: Gate>(
 }
 
 /// The fault if a worker couldn't be started: that of the pieces below it takes precedence over its own.
-fn fault_above<Static: StaticTables>(
-    below: Result<VecDeque<WordCounts<'_, Static>>, AppFault>,
+pub fn fault_above<H: AtomKind>(
+    below: Result<VecDeque<WordCounts<SetAtom<H>>>, AppFault>,
 ) -> AppFault
     requires { IfErr below IsCountFault }
     ensures { IsCountFault result }
@@ -109,13 +111,13 @@ fn fault_above<Static: StaticTables>(
 }
 
 /// The lists with another one after them. Their fault takes precedence over its own.
-fn with_last<'e, Static: StaticTables>(
-    lists: Result<VecDeque<WordCounts<'e, Static>>, AppFault>,
-    last: Result<WordCounts<'e, Static>, Fault>,
-) -> Result<VecDeque<WordCounts<'e, Static>>, AppFault>
+pub fn with_last<H: AtomKind>(
+    lists: Result<VecDeque<WordCounts<SetAtom<H>>>, AppFault>,
+    last: Result<WordCounts<SetAtom<H>>, Fault>,
+) -> Result<VecDeque<WordCounts<SetAtom<H>>>, AppFault>
     requires lists { IfErr lists IsCountFault }
     requires last { IfErr last IsInternFault }
-    ensures lists { IfOk result (λ all. IsOkAnd lists.entry (λ lists. IsOkAnd last.entry (λ counts. all.items ≡ lists.items ++ (counts ∷ [])))) }
+    ensures lists { IfOk result (λ all. IsOkAnd lists (λ lists. IsOkAnd last (λ counts. all.items ≡ lists.items ++ (counts ∷ [])))) }
     ensures fault { IfErr result IsCountFault }
 {
     let mut lists = lists?;
@@ -138,7 +140,7 @@ fn counts_of_each<
     keys: RandomState,
     gate: &'e G,
     parts: &[Part<'e>],
-) -> Result<VecDeque<WordCounts<'e, Static>>, AppFault>
+) -> Result<VecDeque<WordCounts<Atom<'e, Static>>>, AppFault>
     requires { length parts.now < 2 ^ 32 }
     ensures counts { IfOk result (λ lists. map (λ list. counted_texts list.items) lists.items ≡ map (λ part. word_counts (words_of_part part)) parts.now) }
     ensures fault { IfErr result IsCountFault }
@@ -168,7 +170,7 @@ pub fn counts_in<'x, 'e: 'x, R: Threads + Wait + Sync, Static: StaticTables + Se
     gate: &'e G,
     text: &'e str,
     n: u32,
-) -> Result<WordCounts<'e, Static>, AppFault>
+) -> Result<WordCounts<Atom<'e, Static>>, AppFault>
     requires { 1 ≤ n }
     ensures counts { IfOk result (λ counts. counted_texts counts.items ≡ word_counts (words text.now)) }
     ensures fault { IfErr result IsCountFault }

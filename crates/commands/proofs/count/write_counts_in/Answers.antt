@@ -3,7 +3,11 @@ use Rattle.std.specs.List.{flat_map}
 use Rattle.commands.specs.CountLines.{count_line}
 use Rattle.text_streams.specs.Streams.{AppendsBeginning}
 use Rattle.word_counts.specs.WordCounts.{counted_texts}
-use Rattle.commands.proofs.count.write_counts.Goals as goal
+use Rattle.text_streams.proofs.StreamLemmas.{on_err, beginning_nothing, keeps_same}
+use Rattle.commands.proofs.count.write_counts_in.Goals as goal
+
+pub returns-in_err-counts-clause-err : goal.returns-in_err-counts-clause-err
+returns-in_err-counts-clause-err g c = on_err _ (beginning_nothing _ _ _ (keeps_same _))
 
 pub returns-clause-err : goal.returns-clause-err
 returns-clause-err g c = subst (λ (counts : List (List ℕ × ℕ)). OnErr c.write_all.result
