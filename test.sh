@@ -14,8 +14,18 @@ if [[ ${1:-} == quick ]]; then
     exec gate/quick.py "$@"
 fi
 
+# Ends a process, and what it started.
+end() {
+    local child children
+    children=$(cat "/proc/$1/task/"*/children 2> /dev/null)
+    kill "$1" 2> /dev/null
+    for child in $children; do
+        end "$child"
+    done
+}
+
 said=$(mktemp -d)
-trap 'kill $(jobs -p) 2>/dev/null; rm -rf "$said"' EXIT
+trap 'for part in $(jobs -p); do end "$part"; done; rm -rf "$said"' EXIT
 passed=0
 failed=0
 skipped=0 # rows whose tools aren't there

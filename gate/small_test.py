@@ -1,8 +1,8 @@
 #!/usr/bin/env python3
-"""Tries what no other part of the test command tries: the test command fails if a part of it is killed or never begins, what is kept by name is
-there, the pictures of docs/ are what the scripts draw of the stored figures, the number of checks side by side is one that the machine has processors
-for, a module's time is that since the one before, gate/pages/pages.py tells of a page of definitions that doesn't say what the sources say, and
-gate/quick.py, over a small crate, passes what is right and nothing else.
+"""Tries what no other part of the test command tries: the test command fails if a part of it is killed or never begins, and ends what a part started
+if it is ended itself, what is kept by name is there, the pictures of docs/ are what the scripts draw of the stored figures, the number of checks
+side by side is one that the machine has processors for, a module's time is that since the one before, gate/pages/pages.py tells of a page of
+definitions that doesn't say what the sources say, and gate/quick.py, over a small crate, passes what is right and nothing else.
 
 usage: gate/small_test.py
 """
@@ -12,6 +12,7 @@ import re
 import subprocess
 import sys
 import tempfile
+import time
 import unittest
 from pathlib import Path
 from unittest import mock
@@ -70,11 +71,16 @@ class Gate(unittest.TestCase):
         (self.top / path).write_text(text, encoding="utf-8")
         (self.top / path).chmod(0o755)
 
+    def begun(self):
+        """The command, which goes on."""
+        environment = {**os.environ, "PATH": f"{self.top / 'bin'}:{os.environ['PATH']}"}
+        return subprocess.Popen([self.top / "test.sh"], stdout=subprocess.PIPE, stderr=subprocess.STDOUT, text=True, env=environment)
+
     def ran(self):
         """The command's status, and its last line."""
-        environment = {**os.environ, "PATH": f"{self.top / 'bin'}:{os.environ['PATH']}"}
-        ran = subprocess.run([self.top / "test.sh"], stdin=subprocess.DEVNULL, capture_output=True, text=True, env=environment, check=False)
-        return ran.returncode, ran.stdout.splitlines()[-1]
+        with self.begun() as command:
+            said = command.communicate()[0]
+        return command.returncode, said.splitlines()[-1]
 
     def test_all_parts_that_pass_are_counted(self):
         self.assertEqual(self.ran(), (0, "30 passed, 0 failed, 0 skipped"))
@@ -95,6 +101,20 @@ class Gate(unittest.TestCase):
     def test_parts_that_never_begin_fail_all(self):
         self.part("gate/machine/idle.py", "#!/bin/sh\nkill -9 $PPID\n")
         self.assertEqual(self.ran(), (1, "18 passed, 6 failed, 0 skipped"))
+
+    def test_what_a_part_started_ends_with_the_command(self):
+        started = self.top / "started"
+        self.part("bin/rt", f"#!/bin/sh\nsleep 1000 &\necho $! > {started}.new\nmv {started}.new {started}\nwait\n")
+        with self.begun() as command:
+            while not started.exists():
+                time.sleep(0.05)
+            command.terminate()
+        path = Path("/proc") / started.read_text(encoding="ascii").strip() / "cmdline"
+        for _ in range(200):
+            if not path.exists() or not path.read_bytes():  # gone, or it only waits to be asked how it ended
+                return
+            time.sleep(0.05)
+        self.fail("it still runs")
 
     def test_an_edit_of_must_fail_that_is_bad_fails_all(self):
         self.part("bin/rt", "#!/bin/sh\necho 'rt: note: bad must-fail edits, as told above: 1.'\necho '2 passed, 0 failed'\n")
