@@ -1,5 +1,5 @@
 -- What a call of a table leaves: old is the table before the call, new the one after it.
-use Rattle.std.specs.Prelude.{◌≡◌, ◌≢◌, ℕ, ◌<◌, ◌≤◌, ◌⊎◌, ◌↔◌, Bool, IsTrue, List, ◌∷◌, ◌++◌, length, Option, Result, IfOk, IfSome, IsSome}
+use Rattle.std.specs.Prelude.{◌≡◌, ◌≢◌, ℕ, ◌<◌, ◌≤◌, ◌⊎◌, ◌↔◌, Bool, false, IsTrue, List, ◌∷◌, ◌++◌, length, Option, None, Result, Ok, IfErr, IfOk, IfSome, IsSome}
 use Rattle.interner_table.specs.Kept.{Kept, map_of, tickets_of}
 use Rattle.interner_table.specs.Order.{ComesLast, GoesFrom}
 use Rattle.interner_table.specs.Table.{AreHeld, ClonesIfHeld, GivesIfHeld, GivesOnce, HasOneTextEach, HasWord, Interns, IsHeld, IsTextOf, KeepsWord}
@@ -38,6 +38,10 @@ pub record Cloned (t : Tables) (old : Kept) (word : ℕ) (reply : Result (Option
   pub limits : new.limits ≡ old.limits
   -- Unless the call is refused, a word is returned exactly if it was held.
   pub held : IfOk reply (λ clone. IsSome clone ↔ IsHeld t (map_of old) word)
+  -- Only a word that is held is refused.
+  pub refused : IfErr reply (λ _. IsHeld t (map_of old) word)
+  -- A word that isn't held changes nothing.
+  pub unheld : reply ≡ Ok None → new ≡ old
   -- It is the map's call, or nothing changes.
   pub clones : ClonesIfHeld t old.limits (map_of old) word reply (map_of new)
   -- The word that is returned is the same.
@@ -57,6 +61,8 @@ pub record Given (t : Tables) (old : Kept) (word : ℕ) (given : Bool) (new : Ke
   pub limits : new.limits ≡ old.limits
   -- The word is given exactly if it was held.
   pub held : IsTrue given ↔ IsHeld t (map_of old) word
+  -- A word that isn't held changes nothing.
+  pub unheld : given ≡ false → new ≡ old
   -- It is the map's call, or nothing changes.
   pub gives : GivesIfHeld t old.limits (map_of old) word given (map_of new)
   -- A caller may still give what it listed, but this word once less.

@@ -35,31 +35,29 @@ impl NumberedTable {
         }
     }
 
-    /// As `Table::clone_word`.
+    /// As `Table::clone_held`.
     pub fn clone_word(&mut self, word: u64) -> u32
         ensures cloned { ClonesWord self.old.table word result self.new.table }
         ensures number { (result ≡ 0) ⊎ (result ≡ 2) ⊎ (result ≡ not_held) }
         ensures err { result ≢ 0 → self.new ≡ self.old }
     {
-        if !self.table.holds(word) {
-            return NOT_HELD;
-        }
-        match self.table.clone_word(word) {
-            Ok(_) => 0,
+        match self.table.clone_held(word) {
+            Ok(Some(_)) => 0,
+            Ok(None) => NOT_HELD,
             Err(fault) => u32::from(fault.number()),
         }
     }
 
-    /// As `Table::give`, for a word that is held.
+    /// As `Table::release`.
     pub fn give(&mut self, word: u64) -> u32
         ensures given { GivesWord self.old.table word result self.new.table }
         ensures number { (result ≡ 0) ⊎ (result ≡ not_held) }
         ensures err { result ≢ 0 → self.new ≡ self.old }
     {
-        if !self.table.holds(word) {
-            return NOT_HELD;
+        if self.table.release(word) {
+            0
+        } else {
+            NOT_HELD
         }
-        self.table.give(word);
-        0
     }
 }

@@ -1,5 +1,5 @@
 -- Calls by a word that may or may not be held.
-use Rattle.std.proofs.Common.{◌≡◌, ◌∙◌, sym, subst, refl, ℕ, inl, inr, Bool, true, false, List, Option, None, Some, Result, Ok, Err}
+use Rattle.std.proofs.Common.{◌≡◌, ◌∙◌, sym, subst, refl, ℕ, inl, inr, Bool, false, List, Option, None, Some, Result, Ok, Err}
 use Rattle.std.proofs.Common.{IsTrue}
 use Rattle.std.specs.Prelude.{◌↔◌}
 use Rattle.std.proofs.lemmas.Bool.{false≢true}
@@ -10,16 +10,15 @@ use Rattle.text_forms.specs.declared.static_sets.TextForm.{TextForm}
 use Rattle.text_forms.specs.declared.static_sets.TextForm.TheVariants.{Dynamic}
 use Rattle.interner_table.specs.Kept.{IsSoundMap}
 use Rattle.text_forms.specs.Map.{Holding, InternMap, IsHeldTicket}
-use Rattle.interner_table.specs.Table.{Clones, ClonesIfHeld, GivesIfHeld, HasWord, HasWordBy, IsFixedWord, in_some}
+use Rattle.interner_table.specs.Table.{Clones, ClonesIfHeld, HasWord, HasWordBy, IsFixedWord, IsHeld, in_some}
 use Rattle.text_forms.specs.Tables.{Tables, fixed_word, form_of_text}
 use Rattle.interner_table.proofs.calls.HeldWords.{fixed-unless-ticket}
 
-module _ (t : Tables) (limits : Bounds) (m : InternMap) (word : ℕ) where
-  -- a word that is no ticket is given exactly if a text's form fixes it
-  pub given-unless-ticket : ¬ (IsHeldTicket m word) → (given : Bool) → (IsTrue given ↔ IsFixedWord t word) → GivesIfHeld t limits m word given m
-  given-unless-ticket none true exactly = inl (inl (exactly.0 refl, refl), refl)
-  given-unless-ticket none false exactly = inr ((λ held. false≢true (exactly.1 (fixed-unless-ticket t m word held none))), refl, refl)
+-- a word that no text's form fixes, and that is no ticket, isn't held
+pub unheld : (t : Tables) (m : InternMap) (word : ℕ) (fixed : Bool) → (IsTrue fixed ↔ IsFixedWord t word) → fixed ≡ false → ¬ (IsHeldTicket m word) → ¬ (IsHeld t m word)
+unheld t m word fixed exactly is none held = false≢true (sym is ∙ exactly.1 (fixed-unless-ticket t m word held none))
 
+module _ (t : Tables) (limits : Bounds) (m : InternMap) (word : ℕ) where
   -- a word that was cloned was cloned as one that is held
   pub cloned-some : (new : InternMap) (clone : ℕ) → ClonesIfHeld t limits m word (Ok (Some clone)) new → Clones t limits m word (Ok clone) new
   cloned-some new clone (inl x) = by x.0 x.1 x.2

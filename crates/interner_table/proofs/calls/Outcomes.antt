@@ -1,6 +1,6 @@
 -- What a call of a table leaves, from the call of its map.
-use Rattle.std.proofs.Common.{◌≡◌, ◌≢◌, ◌∙◌, refl, sym, ◌⊎◌, ℕ, ◌<◌, ◌≤◌, inl, inr, Bool, List, length, ◌∷◌, ◌++◌, IsTrue, None, Result, Ok, Err}
-use Rattle.std.specs.Prelude.{◌↔◌, IfOk, IfSome, IsSome}
+use Rattle.std.proofs.Common.{◌≡◌, ◌≢◌, ◌∙◌, refl, sym, ◌⊎◌, ℕ, ◌<◌, ◌≤◌, inl, inr, Bool, false, List, length, ◌∷◌, ◌++◌, IsTrue, None, Result, Ok, Err}
+use Rattle.std.specs.Prelude.{◌↔◌, IfErr, IfOk, IfSome, IsSome}
 use Rattle.std.specs.Str.{IsUtf8}
 use Rattle.std.proofs.lemmas.Bool.{false≢true}
 use Rattle.text_forms.specs.Bounds.{Bounds}
@@ -77,15 +77,23 @@ module _ (t : Tables) (old : Kept) (text : List ℕ) (new : Kept) (utf8 : IsUtf8
 
 -- ---- cloning
 
-clones-held : (t : Tables) (limits : Bounds) (m : InternMap) (word own : ℕ) (new : InternMap) → Clones t limits m word (Ok own) new → IsHeld t m word
+clones-held : (t : Tables) (limits : Bounds) (m : InternMap) (word : ℕ) (outcome : Result ℕ Fault) (new : InternMap) → Clones t limits m word outcome new → IsHeld t m word
 unfolding IsHeld
-clones-held t limits m word own new (inl x) = inl x.0
-clones-held t limits m word own new (inr x) = inr x.1.0
+clones-held t limits m word outcome new (inl x) = inl x.0
+clones-held t limits m word outcome new (inr x) = inr x.1.0
 
 module _ (t : Tables) (old : Kept) (word : ℕ) (new : Kept) (sound : IsSoundMap t (map_of old)) where
   some-held : (outcome : Result ℕ Fault) → Clones t old.limits (map_of old) word outcome (map_of new) → IfOk (in_some outcome) (λ clone. IsSome clone ↔ IsHeld t (map_of old) word)
-  some-held (Ok own) h = (λ _. clones-held t old.limits (map_of old) word own (map_of new) h, λ _. refl)
+  some-held (Ok own) h = (λ _. clones-held t old.limits (map_of old) word (Ok own) (map_of new) h, λ _. refl)
   some-held (Err fault) h = tt
+
+  some-refused : (outcome : Result ℕ Fault) → Clones t old.limits (map_of old) word outcome (map_of new) → IfErr (in_some outcome) (λ _. IsHeld t (map_of old) word)
+  some-refused (Ok own) h = tt
+  some-refused (Err fault) h = clones-held t old.limits (map_of old) word (Err fault) (map_of new) h
+
+  some-there : (outcome : Result ℕ Fault) → in_some outcome ≡ Ok None → new ≡ old
+  some-there (Ok own) none = cc
+  some-there (Err fault) none = cc
 
   some-same : (outcome : Result ℕ Fault) → Clones t old.limits (map_of old) word outcome (map_of new) → IfOk (in_some outcome) (λ clone. IfSome clone (λ own. own ≡ word))
   some-same (Ok own) h = cloned-word t old.limits (map_of old) (map_of new) word (Ok own) h
@@ -102,6 +110,8 @@ module _ (t : Tables) (old : Kept) (word : ℕ) (new : Kept) (sound : IsSoundMap
   cloned-done now outcome limits clones order = record {
     limits = limits;
     held = some-held outcome clones;
+    refused = some-refused outcome clones;
+    unheld = some-there outcome;
     clones = inl (outcome, clones, refl);
     same = some-same outcome clones;
     listed = some-listed outcome clones;
@@ -115,6 +125,8 @@ pub cloned-none : (t : Tables) (old : Kept) (word : ℕ) → IsSoundMap t (map_o
 cloned-none t old word sound not = record {
   limits = refl;
   held = (λ some. absurd (false≢true some), λ held. absurd (not held));
+  refused = tt;
+  unheld = λ _. refl;
   clones = inr (not, refl, refl);
   same = tt;
   listed = λ words all. tt;
@@ -145,10 +157,12 @@ module _ (t : Tables) (old : Kept) (word : ℕ) (new : Kept) (sound : IsSoundMap
   given-held given (inr x) = (λ yes. absurd (false≢true (sym x.1 ∙ yes)), λ held. absurd (x.0 held))
 
   -- what the map's call leaves
-  pub given-done : IsSoundMap t (map_of new) → (given : Bool) → new.limits ≡ old.limits → GivesIfHeld t old.limits (map_of old) word given (map_of new) → GoesFrom old word new → Given t old word given new
-  given-done now given limits gives order = record {
+  pub given-done : IsSoundMap t (map_of new) → (given : Bool) → new.limits ≡ old.limits → (given ≡ false → new ≡ old) → GivesIfHeld t old.limits (map_of old) word given (map_of new) → GoesFrom old word new
+      → Given t old word given new
+  given-done now given limits unheld gives order = record {
     limits = limits;
     held = given-held given gives;
+    unheld = unheld;
     gives = gives;
     listed = given-listed given gives;
     keeps = given-keeps given gives;

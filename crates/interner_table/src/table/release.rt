@@ -37,7 +37,7 @@ impl<S: StaticTables, H: BuildHasher> Table<S, H> {
 
     /// Adds a holder to a word if it is held, as `clone_word` does. For any other number, returns `None` and changes nothing.
     ///
-    /// `FullCount` if the ticket's text has as many holders as the limits allow. A refusal changes nothing.
+    /// `FullCount` if it is held, and its text has as many holders as the limits allow. A refusal changes nothing.
     #[tactic(auto, unfolding(crate::specs::Table::IsHeld))]
     pub fn clone_held(&mut self, word: u64) -> Result<Option<u64>, Fault>
         ensures cloned { Cloned S.tables self.old word result self.new }
@@ -45,12 +45,11 @@ impl<S: StaticTables, H: BuildHasher> Table<S, H> {
         ensures err { OnErr result (self.new ≡ self.old) }
     {
         self.is_sound(); // before and after, as `listed` and `apart` say
+        if is_fixed::<S>(word) {
+            return Ok(Some(word));
+        }
         let Some(at) = self.place_of(word) else {
-            return Ok(if is_fixed::<S>(word) {
-                Some(word)
-            } else {
-                None
-            });
+            return Ok(None);
         };
         let outcome = self.add_holder(at);
         self.is_sound();
@@ -77,8 +76,11 @@ impl<S: StaticTables, H: BuildHasher> Table<S, H> {
         ensures { Given S.tables self.old word result self.new }
     {
         self.is_sound(); // before and after, as `keeps` and `apart` say
+        if is_fixed::<S>(word) {
+            return true;
+        }
         let Some(at) = self.place_of(word) else {
-            return is_fixed::<S>(word);
+            return false;
         };
         self.give_at(at);
         self.is_sound();

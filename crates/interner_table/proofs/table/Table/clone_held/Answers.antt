@@ -1,10 +1,9 @@
-use Rattle.std.proofs.Common.{◌∙◌, inl, refl, sym, subst, ℕ, Ok, Result}
-use Rattle.std.proofs.lemmas.Bool.{false≢true}
+use Rattle.std.proofs.Common.{inl, refl, subst, ℕ, Ok, Result}
 use Rattle.text_forms.specs.declared.faults.Fault.{Fault}
 use Rattle.interner_table.specs.Kept.{map_of}
 use Rattle.interner_table.specs.Outcomes.{Cloned}
 use Rattle.interner_table.specs.Table.{in_some}
-use Rattle.interner_table.proofs.calls.HeldWords.{fixed-unless-ticket}
+use Rattle.interner_table.proofs.calls.IfHeld.{unheld}
 use Rattle.interner_table.proofs.calls.Outcomes.{cloned-done, cloned-none}
 use Rattle.interner_table.proofs.calls.Replies.{as_held, cloned-ticket}
 use Rattle.interner_table.proofs.table.Table.clone_held.Goals as goal
@@ -14,10 +13,10 @@ returns-then-is_fixed-clause-cloned g c =
     cloned-done g.S.StaticTables.tables c.args.self.now c.args.word c.args.self.now c.is_sound.ensures c.is_sound.ensures
     (Ok c.args.word) refl (inl (c.is_fixed.ensures.0 c.if-is_fixed.true, refl, refl)) refl
 
-pub returns-else-is_fixed-clause-cloned : goal.returns-else-is_fixed-clause-cloned
-returns-else-is_fixed-clause-cloned g c =
+pub returns-in_default-clause-cloned : goal.returns-in_default-clause-cloned
+returns-in_default-clause-cloned g c =
     cloned-none g.S.StaticTables.tables c.args.self.now c.args.word c.is_sound.ensures
-    (λ held. false≢true (sym c.if-is_fixed.false ∙ c.is_fixed.ensures.1 (fixed-unless-ticket g.S.StaticTables.tables (map_of c.args.self.now) c.args.word held c.in_default.ensures)))
+    (unheld g.S.StaticTables.tables (map_of c.args.self.now) c.args.word c.is_fixed.result c.is_fixed.ensures c.if-is_fixed.false c.in_default.ensures)
 
 pub returns-in-Err-clause-cloned : goal.returns-in-Err-clause-cloned
 returns-in-Err-clause-cloned g c =
