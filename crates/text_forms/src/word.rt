@@ -1,6 +1,7 @@
 //! The word of an atom: an inline text, an index into static tables, or a ticket.
 
-ghost use Rattle.std.specs.Prelude.{◌≡◌, ℕ, ◌-◌, ◌%◌, ◌^◌, ◌<◌, ◌≤◌, ◌↔◌, length, IsSome, IfSome};
+ghost use Rattle.std.specs.Prelude.{◌≡◌, ℕ, ◌-◌, ◌%◌, ◌^◌, ◌<◌, ◌≤◌, ◌↔◌, length, IsSome, IsTrue, IfSome};
+ghost use Rattle.std.specs.Str.{IsAscii};
 ghost use Rattle.text_forms.specs.Bounds.{AreBounds};
 ghost use Rattle.text_forms.specs.Form.{IsFormOf};
 ghost use Rattle.text_forms.specs.Layout.{holder_bound, most_bits, most_buckets, serial_bound, usual_bits};
@@ -116,6 +117,16 @@ pub fn pack_inline_word(text: &str) -> Option<u64>
     Some(inline.word())
 }
 
+/// Whether all eight bytes are ASCII. No branch depends on one of them, so this is sooner done than reading UTF-8.
+#[inline]
+fn are_ascii(bytes: &[u8; 8]) -> bool
+    ensures { IsTrue result → IsAscii bytes.now }
+{
+    let low = bytes[0] | bytes[1] | bytes[2] | bytes[3];
+    let high = bytes[4] | bytes[5] | bytes[6] | bytes[7];
+    low | high < 128
+}
+
 /// The text of an inline word. `None` for any other word.
 pub fn unpack_inline(word: u64) -> Option<InlineText>
     ensures inline { IsSome result ↔ IsInlineWord word }
@@ -129,6 +140,9 @@ pub fn unpack_inline(word: u64) -> Option<InlineText>
     let (text, behind) = bytes[1..].split_at(len as usize);
     if !behind.iter().all(|&byte| byte == 0) {
         return None;
+    }
+    if are_ascii(&bytes) {
+        return Some(InlineText { align: [], bytes });
     }
     match str::from_utf8(text) {
         Ok(_) => Some(InlineText { align: [], bytes }),

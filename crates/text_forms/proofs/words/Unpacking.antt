@@ -8,12 +8,58 @@ use Rattle.std.proofs.Math.Seq.{take-append_seam, drop-append_seam}
 use Rattle.std.specs.List.{list_all}
 use Rattle.std.proofs.lemmas.Bool.{eqb-true}
 use Rattle.std.proofs.Common.{eqb}
+use Rattle.std.specs.Int.Bits.{bit_or}
+use Rattle.std.proofs.lemmas.Nat.{le_or_l, le_or_r}
+use Rattle.std.specs.Str.{IsAscii}
+use Rattle.std.proofs.lemmas.Str.{IsAscii-drop, IsAscii-take, IsUtf8-from_ascii}
+use Rattle.std.proofs.lemmas.Str.Ascii.{IsAscii-from_reads}
 use Rattle.std.specs.Int.{w64, from_le_bytes, to_le_bytes}
 use Rattle.std.proofs.lemmas.Nat.{from_le_bytes-to_le_bytes_8, le_bytes_8}
 use Rattle.text_forms.specs.Word.{inline_word, IsInlineText, IsInlineWord}
 use Rattle.text_forms.specs.InlineText.{word_bytes}
 use Rattle.text_forms.proofs.words.BytesValue.{bytes_value-cons, bytes_value-append_zeros, from_le_bytes-bytes_value}
 use Rattle.text_forms.proofs.words.TextBytes.{both, AllBytes, AllBytes-get_or, AllBytes-append, AllBytes-IsUtf8}
+
+-- four bytes are at most their `|`
+at_most : (a b c d all : ℕ) → all ≡ bit_or (bit_or (bit_or a b) c) d → (a ≤ all) × (b ≤ all) × (c ≤ all) × (d ≤ all)
+at_most a b c d all is =
+    let two = bit_or a b in
+    let three = bit_or two c in
+    let last : three ≤ bit_or three d = le_or_l three d in
+    let behind : two ≤ three = le_or_l two c in
+    (omega (arith, is, le_or_l a b, behind, last), omega (arith, is, le_or_r a b, behind, last), omega (arith, is, le_or_r two c, last), omega (arith, is, le_or_r three d))
+
+-- eight bytes whose `|` is ASCII are
+pub ascii-bytes : (bs : List ℕ) (low high : ℕ) → length bs ≡ 8 → low ≡ bit_or (bit_or (bit_or (get_or bs 0 0) (get_or bs 1 0)) (get_or bs 2 0)) (get_or bs 3 0)
+    → high ≡ bit_or (bit_or (bit_or (get_or bs 4 0) (get_or bs 5 0)) (get_or bs 6 0)) (get_or bs 7 0) → bit_or low high < 128 → IsAscii bs
+ascii-bytes bs low high size front back below = IsAscii-from_reads bs 8 (omega (arith, size)) reads
+  where
+    first : (get_or bs 0 0 ≤ low) × (get_or bs 1 0 ≤ low) × (get_or bs 2 0 ≤ low) × (get_or bs 3 0 ≤ low)
+    first = at_most (get_or bs 0 0) (get_or bs 1 0) (get_or bs 2 0) (get_or bs 3 0) low front
+
+    second : (get_or bs 4 0 ≤ high) × (get_or bs 5 0 ≤ high) × (get_or bs 6 0 ≤ high) × (get_or bs 7 0 ≤ high)
+    second = at_most (get_or bs 4 0) (get_or bs 5 0) (get_or bs 6 0) (get_or bs 7 0) high back
+
+    lower : low < 128
+    lower = omega (arith, le_or_l low high, below)
+
+    upper : high < 128
+    upper = omega (arith, le_or_r low high, below)
+
+    reads : (k : ℕ) → k < 8 → get_or bs k 0 < 128
+    reads zero there = omega (arith, first.0, lower)
+    reads (suc zero) there = omega (arith, first.1, lower)
+    reads (suc (suc zero)) there = omega (arith, first.2, lower)
+    reads (suc (suc (suc zero))) there = omega (arith, first.3, lower)
+    reads (suc (suc (suc (suc zero)))) there = omega (arith, second.0, upper)
+    reads (suc (suc (suc (suc (suc zero))))) there = omega (arith, second.1, upper)
+    reads (suc (suc (suc (suc (suc (suc zero)))))) there = omega (arith, second.2, upper)
+    reads (suc (suc (suc (suc (suc (suc (suc zero))))))) there = omega (arith, second.3, upper)
+    reads (suc (suc (suc (suc (suc (suc (suc (suc k)))))))) there = absurd (omega (arith, there))
+
+-- any bytes of ASCII behind the lowest are UTF-8
+pub ascii-utf8 : (le : List ℕ) (n : ℕ) → IsAscii le → IsUtf8 (take n (drop 1 le))
+ascii-utf8 le n ascii = IsUtf8-from_ascii (take n (drop 1 le)) (IsAscii-take (drop 1 le) n (IsAscii-drop le 1 ascii))
 
 AllBytes-zeros : (n : ℕ) → AllBytes (replicate n 0)
 AllBytes-zeros zero = tt
