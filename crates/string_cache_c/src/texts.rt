@@ -138,12 +138,15 @@ pub fn text_of(bytes: &[u8]) -> Option<&str>
     }
 }
 
-/// Whether these are 8 to 32 bytes of ASCII: four words, which may overlap, have all of them. Any others are left to `from_utf8`.
+/// Whether these are at most 32 bytes of ASCII: from 8 bytes on four words, which may overlap, have all of them. More are left to `from_utf8`.
 #[inline(always)]
 fn is_short_ascii(bytes: &[u8]) -> bool
     ensures { IsTrue result → IsAscii bytes.now }
 {
-    if bytes.len() < 8 || 32 < bytes.len() {
+    if bytes.len() < 8 {
+        return bytes.iter().all(|&byte| byte < 128);
+    }
+    if 32 < bytes.len() {
         return false;
     }
     let last = bytes.len() - 8;
