@@ -23,6 +23,7 @@ SPARED = {
     "refusals::programs::counts_by_three": 6,
     "refusals::programs::counts_by_sixty_four": 40,
     "refusals::programs::counts_of_many_by_four": 8,
+    "refusals::programs::program_counts_words": 4,
     "refusals::starts::counts_of_many_by_four": 1,
 }
 

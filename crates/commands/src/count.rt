@@ -157,8 +157,8 @@ fn write_counts<R: Threads + Wait + Sync, K: Sink>(
 }
 
 /// Reads all the input, counts its words by `n` workers, and writes a line for each distinct one. They are interned in this call's own set, whose
-/// number of buckets fits the input. Words are hashed under these keys, in the set too, which affect only the time that it takes: under random ones
-/// nobody can choose words that collide.
+/// number of buckets fits the input. Words are hashed under these keys, in the set too, which affect only the time that it takes: under random ones,
+/// words that were chosen for one bucket are found as fast as others are.
 ///
 /// `Read` and `Text` (the input isn't UTF-8) are returned before anything is written, and so is `Intern(Memory)` while the input is read. After
 /// another fault, a beginning of the lines may have been written.

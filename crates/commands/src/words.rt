@@ -178,7 +178,8 @@ pub fn words<R: Wait, Static: StaticTables, S: Source, K: Sink>(
     list_words(alloc, keys, &mut Holder { rt, atoms }, reader, writer)
 }
 
-/// As `words`, in a set with a name. If its name has a random key as well (`FreshName::under`), nobody can choose words that slow it down.
+/// As `words`, in a set with a name. If its name has a random key as well (`FreshName::under`), words that were chosen for one bucket are found there
+/// as fast as others are. Words that have one 64-bit hash are still walked.
 pub fn words_named<R: Wait, Static: StaticTables, N: SetName, S: Source, K: Sink>(
     rt: &R,
     set: &NamedSet<Static, N>,
@@ -241,8 +242,8 @@ fn write_words_under<R: Wait, K: Sink>(
     write_words_named::<Brand, R, K>(rt, alloc, name, keys, text, writer)
 }
 
-/// As `words`, in this call's own set, whose number of buckets fits the input. It finds words under these keys, too, so that nobody can choose words
-/// that slow it down if they are random.
+/// As `words`, in this call's own set, whose number of buckets fits the input. It finds words under these keys, too: if they are random, words that
+/// were chosen for one bucket are found as fast as others are.
 pub fn words_command<R: Wait, S: Source, K: Sink>(
     rt: &R,
     alloc: Global,

@@ -173,7 +173,13 @@ fn repeated_word_goes_with_its_counts(rt: HostRuntime) {
 }
 
 /// This many different words, each of `long` letters or more and followed by this white space.
-fn words_before<R: Abort>(rt: &R, alloc: Global, count: u32, long: usize, white: char) -> String {
+pub fn words_before<R: Abort>(
+    rt: &R,
+    alloc: Global,
+    count: u32,
+    long: usize,
+    white: char,
+) -> String {
     let letters = "a".repeat(alloc, long).expect(rt, "room");
     let mut text = String::new(alloc);
     for n in 0..count {

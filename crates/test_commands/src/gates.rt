@@ -3,8 +3,8 @@
 use std::sync::Wait;
 use std::sync::atomic::{AtomicU64, Ordering};
 use std::thread::yield_now;
-use string_cache::EmptyStaticAtomSet;
 use string_cache::dynamic_set::Set;
+use string_cache::{EmptyStaticAtomSet, NamedSet, SetName};
 use word_counts::count::Gate;
 
 /// How often a worker that waits for the other looks again, yielding each time.
@@ -120,19 +120,16 @@ impl Gate for Together {
 /// Lets the pieces in one after another, in order, and notes if the entries that are linked as one leaves aren't as many as wanted: its words and
 /// those of the pieces before it, all of which are still held.
 #[derive(Drop)]
-pub struct InTurn<'s> {
-    set: &'s Set<EmptyStaticAtomSet>,
+struct Order<'s> {
     wanted: &'s [u64],
     left: AtomicU64,
     missed: AtomicU64,
     others: AtomicU64,
 }
 
-impl<'s> InTurn<'s> {
-    /// With the number that is wanted as each piece leaves.
-    pub fn new(set: &'s Set<EmptyStaticAtomSet>, wanted: &'s [u64]) -> InTurn<'s> {
-        InTurn {
-            set,
+impl<'s> Order<'s> {
+    fn new(wanted: &'s [u64]) -> Order<'s> {
+        Order {
             wanted,
             left: AtomicU64::new(0),
             missed: AtomicU64::new(0),
@@ -140,17 +137,8 @@ impl<'s> InTurn<'s> {
         }
     }
 
-    /// The number of pieces that left, each after those before it, with as many entries linked as are wanted.
-    pub fn right(&self) -> Option<u64> {
-        if self.missed.load(Ordering::SeqCst) > 0 || self.others.load(Ordering::SeqCst) > 0 {
-            return None;
-        }
-        Some(self.left.load(Ordering::SeqCst))
-    }
-}
-
-impl Gate for InTurn<'_> {
-    fn enter<R: Wait>(&self, _rt: &R, piece: u32) {
+    /// Lets a piece in once those before it have left.
+    fn enter(&self, piece: u32) {
         for _ in 0..TURNS {
             if self.left.load(Ordering::SeqCst).saturating_add(1) == u64::from(piece) {
                 return;
@@ -160,14 +148,85 @@ impl Gate for InTurn<'_> {
         self.missed.fetch_add(1, Ordering::SeqCst);
     }
 
-    fn leave<R: Wait>(&self, rt: &R, piece: u32) {
+    /// Notes that a piece leaves with so many entries linked.
+    fn leave(&self, piece: u32, linked: u64) {
         let wanted = piece
             .checked_sub(1)
             .and_then(|i| self.wanted.get(i as usize));
-        if wanted != Some(&linked(rt, self.set)) {
+        if wanted != Some(&linked) {
             self.others.fetch_add(1, Ordering::SeqCst);
         }
         self.left.fetch_add(1, Ordering::SeqCst);
+    }
+
+    /// The number of pieces that left, each after those before it, with as many entries linked as are wanted.
+    fn right(&self) -> Option<u64> {
+        if self.missed.load(Ordering::SeqCst) > 0 || self.others.load(Ordering::SeqCst) > 0 {
+            return None;
+        }
+        Some(self.left.load(Ordering::SeqCst))
+    }
+}
+
+/// The pieces in order, over a set.
+#[derive(Drop)]
+pub struct InTurn<'s> {
+    set: &'s Set<EmptyStaticAtomSet>,
+    order: Order<'s>,
+}
+
+impl<'s> InTurn<'s> {
+    /// With the number that is wanted as each piece leaves.
+    pub fn new(set: &'s Set<EmptyStaticAtomSet>, wanted: &'s [u64]) -> InTurn<'s> {
+        InTurn {
+            set,
+            order: Order::new(wanted),
+        }
+    }
+
+    pub fn right(&self) -> Option<u64> {
+        self.order.right()
+    }
+}
+
+impl Gate for InTurn<'_> {
+    fn enter<R: Wait>(&self, _rt: &R, piece: u32) {
+        self.order.enter(piece);
+    }
+
+    fn leave<R: Wait>(&self, rt: &R, piece: u32) {
+        self.order.leave(piece, linked(rt, self.set));
+    }
+}
+
+/// The same over a set with a name.
+#[derive(Drop)]
+pub struct NamedInTurn<'s, N: SetName + Send + Sync> {
+    set: &'s NamedSet<EmptyStaticAtomSet, N>,
+    order: Order<'s>,
+}
+
+impl<'s, N: SetName + Send + Sync> NamedInTurn<'s, N> {
+    pub fn new(set: &'s NamedSet<EmptyStaticAtomSet, N>, wanted: &'s [u64]) -> NamedInTurn<'s, N> {
+        NamedInTurn {
+            set,
+            order: Order::new(wanted),
+        }
+    }
+
+    pub fn right(&self) -> Option<u64> {
+        self.order.right()
+    }
+}
+
+impl<N: SetName + Send + Sync> Gate for NamedInTurn<'_, N> {
+    fn enter<R: Wait>(&self, _rt: &R, piece: u32) {
+        self.order.enter(piece);
+    }
+
+    fn leave<R: Wait>(&self, rt: &R, piece: u32) {
+        let linked = u64::try_from(self.set.linked(rt)).unwrap_or(u64::MAX);
+        self.order.leave(piece, linked);
     }
 }
 

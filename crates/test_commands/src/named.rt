@@ -2,7 +2,8 @@
 
 ghost use Rattle.std.specs.Prelude.{◌≡◌, ◌≤◌};
 
-use crate::gates::Together;
+use crate::counting::words_before;
+use crate::gates::{NamedInTurn, Together};
 use crate::memory::{Outcome, Streams};
 use crate::{assert_for, assert_that};
 use commands::words::words_named;
@@ -132,6 +133,40 @@ fn workers_run_at_once_in_a_set_with_a_name(rt: HostRuntime) {
     for n in [2, 64] {
         assert_for(&rt, meet_by(&rt, rt.alloc(), n), &n);
     }
+}
+
+/// Of 20 words, piece i of 8 ends at word 20 * i / 8.
+const ENDS: [u64; 8] = [2, 5, 7, 10, 12, 15, 17, 20];
+
+/// Whether eight workers count 20 words in the set with this name, so many of which are linked as each piece ends.
+fn end_at<N: SetName + Send + Sync, R: Threads + Wait + Sync + Abort>(
+    rt: &R,
+    alloc: Global,
+    name: FreshName,
+    text: &String,
+) -> bool
+    requires name { N.logs ≡ name.logs }
+{
+    let set = NamedSet::<EmptyStaticAtomSet, N>::new(alloc, name, Limits::greatest());
+    let set = set.expect(rt, "a set");
+    let gate = NamedInTurn::new(&set, &ENDS);
+    let keys = keys(1).expect(rt, "keys");
+    match count_named(rt, &set, keys, text.as_str(), 8, &gate) {
+        Ok(counts) => counts.len() == 20 && gate.right() == Some(8),
+        Err(_) => false,
+    }
+}
+
+/// The same in a set of its own.
+fn end_in_turn<R: Threads + Wait + Sync + Abort>(rt: &R, alloc: Global, text: &String) -> bool {
+    let name = FreshName::usual(alloc).expect(rt, "a name");
+    end_at::<Brand, R>(rt, alloc, name, text)
+}
+
+#[test]
+fn pieces_in_a_set_with_a_name(rt: HostRuntime) {
+    let text = words_before(&rt, rt.alloc(), 20, 8, ' ');
+    assert_that(&rt, end_in_turn(&rt, rt.alloc(), &text));
 }
 
 /// What two workers are refused for, of whom the first meets a word that is held as often as may be, and the second one whose bucket has given its

@@ -81,7 +81,8 @@ pub fn count<'s, R: Threads + Wait + Sync, Static: StaticTables + Send + Sync, G
     )
 }
 
-/// As `count`, in a set with a name. If its name has a random key as well (`FreshName::under`), nobody can choose words that slow it down.
+/// As `count`, in a set with a name. If its name has a random key as well (`FreshName::under`), words that were chosen for one bucket are found there
+/// as fast as others are, though all workers then meet at one lock. Words that have one 64-bit hash are still walked.
 pub fn count_named<
     's,
     R: Threads + Wait + Sync,

@@ -2,14 +2,15 @@
 
 ghost use Rattle.std.specs.Prelude.{◌≤◌};
 
-use crate::assert_that;
 use crate::counting::counted;
 use crate::memory::{Lost, Outcome, Streams};
 use crate::program::{
-    Answer, COUNT_LINE, COUNT_WORDS, NO_MEMORY, answer_of, are_words, arguments_of, words_of_line,
+    Answer, COUNT_LINE, COUNT_WORDS, NO_MEMORY, NO_WORKER, answer_of, are_words, arguments_of,
+    words_of_line,
 };
 use crate::replay::{DYING_ENTRY, LIMITS, NO_ROOM, replayed};
 use crate::words::{EXAMPLE_LINES, new_set, tell_alone, told_alone, told_in};
+use crate::{assert_that, program};
 use std::alloc::Global;
 use std::io::Print;
 use std::process::Abort;
@@ -254,10 +255,10 @@ fn counts_of_many_by_four(rt: HostRuntime) {
     let _ = many_are_counted(&rt, rt.alloc(), 4);
 }
 
-/// Whether the program wrote its output or, if it was refused, this line of a fault and a beginning of the output.
-fn is_answer(answer: &Answer, output: &[u8], refusal: &[u8]) -> bool {
+/// Whether the program wrote its output or, if it was refused, a line of these faults and a beginning of the output.
+fn is_answer(answer: &Answer, output: &[u8], refusals: &[&[u8]]) -> bool {
     if answer.status == 1 {
-        answer.faults.written() == refusal && output.starts_with(answer.output.written())
+        refusals.contains(&answer.faults.written()) && output.starts_with(answer.output.written())
     } else {
         answer.is(0, output, b"")
     }
@@ -278,25 +279,25 @@ fn is_answered<R: Threads + Wait + Sync + Print>(
     alloc: Global,
     args: Vec<String>,
     (input, output): (&[u8], &[u8]),
-    refusal: &[u8],
+    refusals: &[&[u8]],
 ) -> bool {
     let streams = Streams::ample(input);
     begin(rt);
     let answer = answer_of(rt, alloc, args, &streams);
     finish(rt, end_of(&answer));
-    is_answer(&answer, output, refusal)
+    is_answer(&answer, output, refusals)
 }
 
-/// The whole program over a line of arguments, an input and the output that it has. If it is refused, this line reports the fault.
+/// The whole program over a line of arguments, an input and the output that it has. If it is refused, one of these lines reports the fault.
 pub fn line_is_run<R: Threads + Wait + Sync + Print + Abort>(
     rt: &R,
     alloc: Global,
     line: &str,
     texts: (&[u8], &[u8]),
-    refusal: &[u8],
+    refusals: &[&[u8]],
 ) {
     let args = words_of_line(rt, alloc, line);
-    assert_that(rt, is_answered(rt, alloc, args, texts, refusal));
+    assert_that(rt, is_answered(rt, alloc, args, texts, refusals));
 }
 
 #[test]
@@ -306,7 +307,18 @@ fn program_lists_words(rt: HostRuntime) {
         rt.alloc(),
         "words",
         (EXAMPLE, EXAMPLE_LINES),
-        NO_MEMORY,
+        &[NO_MEMORY],
+    );
+}
+
+#[test]
+fn program_counts_words(rt: HostRuntime) {
+    line_is_run(
+        &rt,
+        rt.alloc(),
+        "count 2",
+        (EXAMPLE, program::EXAMPLE_COUNTS),
+        &[NO_MEMORY, NO_WORKER],
     );
 }
 
@@ -320,13 +332,19 @@ fn program_makes_tables(rt: HostRuntime) {
         rt.alloc(),
         "generate 0 1",
         (b"sentence\n", TABLE_TEXT),
-        NO_MEMORY,
+        &[NO_MEMORY],
     );
 }
 
 #[test]
 fn program_checks_tables(rt: HostRuntime) {
-    line_is_run(&rt, rt.alloc(), "check", (TABLE_TEXT, b"yes\n"), NO_MEMORY);
+    line_is_run(
+        &rt,
+        rt.alloc(),
+        "check",
+        (TABLE_TEXT, b"yes\n"),
+        &[NO_MEMORY],
+    );
 }
 
 /// Whether the arguments of a line are finally given.

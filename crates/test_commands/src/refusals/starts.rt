@@ -2,21 +2,27 @@
 //! thread for each piece, from the last piece down, and no other; for one of many words, from four pieces on, another for half of the lists, which it
 //! can do without. With every start granted these pass as any test does.
 
+ghost use Rattle.std.specs.Prelude.{◌≡◌};
+
 use super::programs::{example_is_counted, line_is_run, many_are_counted};
 use crate::assert_that;
 use crate::counting::counted;
 use crate::program::{EXAMPLE_COUNTS, NO_WORKER};
 use crate::words::{intern, set_with};
+use std::alloc::Global;
 use std::io::Print;
+use std::marker::Brand;
+use std::process::Abort;
 use std::sync::Wait;
 use std::sync::atomic::{AtomicU64, Ordering};
 use std::thread::Threads;
 use string_cache::dynamic_set::Set;
-use string_cache::{DefaultAtom, EmptyStaticAtomSet, Fault};
+use string_cache::word::Limits;
+use string_cache::{DefaultAtom, EmptyStaticAtomSet, Fault, FreshName, NamedSet, SetName};
 use test_refusals::{End, begin, finish};
-use test_samples::EXAMPLE;
+use test_samples::{EXAMPLE, keys};
 use text_streams::faults::AppFault;
-use word_counts::count::Gate;
+use word_counts::count::{Gate, count_named};
 
 /// Counts how often the first worker and the second enter.
 #[derive(Drop)]
@@ -39,6 +45,24 @@ impl Entries {
             self.first.load(Ordering::SeqCst),
             self.second.load(Ordering::SeqCst),
         )
+    }
+
+    /// How a call ended, of which both would have to be started.
+    fn end(&self) -> End {
+        if self.counts() == (1, 1) {
+            End::Given
+        } else {
+            End::Refused
+        }
+    }
+
+    /// The fault of two workers, the first of which is refused a holder if it is started.
+    fn fault(&self) -> AppFault {
+        if self.counts().0 == 1 {
+            AppFault::Intern(Fault::FullCount)
+        } else {
+            AppFault::Worker
+        }
     }
 }
 
@@ -93,7 +117,7 @@ fn program_counts(rt: HostRuntime) {
         rt.alloc(),
         "count 2",
         (EXAMPLE, EXAMPLE_COUNTS),
-        NO_WORKER,
+        &[NO_WORKER],
     );
 }
 
@@ -114,22 +138,8 @@ fn is_lower_fault<R: Threads + Wait + Sync + Print>(
 ) -> bool {
     begin(rt);
     let fault = fault_of_two(rt, set, gate);
-    let (first, second) = gate.counts();
-    let are_started = first == 1 && second == 1;
-    finish(
-        rt,
-        if are_started {
-            End::Given
-        } else {
-            End::Refused
-        },
-    );
-    let wanted = if first == 1 {
-        AppFault::Intern(Fault::FullCount)
-    } else {
-        AppFault::Worker
-    };
-    fault == Some(wanted)
+    finish(rt, gate.end());
+    fault == Some(gate.fault())
 }
 
 /// Whether that is so, and only the atom of "interned" stays linked.
@@ -149,4 +159,45 @@ fn lower_fault_is_answered(rt: HostRuntime) {
         &rt,
         lower_fault_is_told(&rt, &set, &intern(&rt, &set, "interned")),
     );
+}
+
+/// The fault of two workers in a set with a name.
+fn named_fault_of_two<N: SetName + Send + Sync, R: Threads + Wait + Sync + Abort>(
+    rt: &R,
+    set: &NamedSet<EmptyStaticAtomSet, N>,
+    gate: &Entries,
+) -> Option<AppFault> {
+    let keys = keys(1).expect(rt, "keys");
+    count_named(rt, set, keys, "interned tokenised", 2, gate).err()
+}
+
+/// Whether the fault is right in the set with this name, in which a text may have one holder.
+fn is_lower_in<N: SetName + Send + Sync, R: Threads + Wait + Sync + Print + Abort>(
+    rt: &R,
+    alloc: Global,
+    name: FreshName,
+) -> bool
+    requires { N.logs ≡ name.logs }
+{
+    let limits = Limits::new(1, 9).expect(rt, "limits");
+    let set = NamedSet::<EmptyStaticAtomSet, N>::new(alloc, name, limits).expect(rt, "a set");
+    let held = set.intern(rt, "interned").ok();
+    drop(set.intern(rt, "tokenised").ok()); // so that its bucket has room for it
+    let gate = Entries::new();
+    begin(rt);
+    let fault = named_fault_of_two(rt, &set, &gate);
+    finish(rt, gate.end());
+    drop(held);
+    fault == Some(gate.fault()) && set.linked(rt) == 0
+}
+
+/// The same in a set of its own.
+fn is_lower_by_name<R: Threads + Wait + Sync + Print + Abort>(rt: &R, alloc: Global) -> bool {
+    let name = FreshName::usual(alloc).expect(rt, "a name");
+    is_lower_in::<Brand, R>(rt, alloc, name)
+}
+
+#[test]
+fn lower_fault_in_a_set_with_a_name(rt: HostRuntime) {
+    assert_that(&rt, is_lower_by_name(&rt, rt.alloc()));
 }
