@@ -1,5 +1,5 @@
 //! Small programs over `string_cache` and the crates that it builds on, as their users write them. Each has a contract that is proved only from the
-//! contracts of the libraries. The tests that run them are `test_example_sets`.
+//! contracts of the libraries. The tests that run them are in `test_examples`.
 #![tactic(auto)]
 
 ghost use Rattle.std.specs.Prelude.{◌≡◌, ◌≢◌, ◌↔◌, codes, IfOk, IsTrue, None, Some};

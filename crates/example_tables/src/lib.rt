@@ -1,5 +1,5 @@
 //! Small programs over `Table`, as its users write them. Each has a contract that is proved only from the contracts of the library. The tests that
-//! run them are `test_example_tables`.
+//! run them are in `test_examples`.
 #![tactic(auto)]
 
 mod calls;

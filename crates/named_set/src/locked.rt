@@ -1,7 +1,7 @@
 //! A bucket with its lock, and beside the lock a note of the cells that couldn't be taken out while another had it.
 //!
 //! Calls behind the lock are stated for every grant, so none can add a share but the one that it gives. A bucket is asked for its number
-//! first. It has always the one that it is asked by, but no type tells which value lies behind which lock.
+//! first. It always has the number by which it is asked, but no type tells which value lies behind which lock.
 
 ghost use Rattle.std.specs.Prelude.{◌≡◌, length, IfErr, IfOk};
 ghost use Rattle.text_forms.specs.Faults.{IsInternFault};

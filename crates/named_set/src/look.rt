@@ -2,9 +2,9 @@
 
 ghost use Rattle.std.specs.Prelude.{◌≤◌};
 
-/// Which places are still to be looked at: so many, down from one, and behind the first from the last on. A look that begins goes on where the
-/// one before it was, so that each place has its turn, however often looks begin. Both numbers count steps of one place, or of more if there are
-/// more than a `u32` counts.
+/// Which places are still to be looked at: a number of them, going down from one, and after the lowest on from the highest. A look that begins goes
+/// on where the one before it was, so that each place has its turn, however often looks begin. Both numbers count steps of one place, or of more if
+/// there are more than a `u32` counts.
 #[derive(Drop)]
 pub(crate) struct Look {
     unseen: u32, // or all places, if they are fewer

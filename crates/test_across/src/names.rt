@@ -59,15 +59,17 @@ fn kind_of_text(text: &str) -> Option<Kind> {
     Some(kind_of(&static_atom::<Names>(text)?))
 }
 
+static KINDS: [(&str, Option<Kind>); 5] = [
+    ("blockquote", Some(Kind::Element)),
+    ("figcaption", Some(Kind::Element)),
+    ("continue", Some(Kind::Keyword)),
+    ("background-color", Some(Kind::Other)),
+    ("blockquotes", None),
+];
+
 #[test]
 fn words_tell_names_apart(rt: HostRuntime) {
-    for (text, kind) in &[
-        ("blockquote", Some(Kind::Element)),
-        ("figcaption", Some(Kind::Element)),
-        ("continue", Some(Kind::Keyword)),
-        ("background-color", Some(Kind::Other)),
-        ("blockquotes", None),
-    ] {
+    for (text, kind) in &KINDS {
         assert_for(&rt, kind_of_text(text) == *kind, text);
     }
 }

@@ -73,7 +73,7 @@ impl Vector {
 
 /// The words are the layout's, and a ticket's bucket is the low 12 bits of the hash. The hashes of dynamic texts, g and f1, are from OpenSSL's
 /// SipHash.
-const VECTORS: [Vector; 11] = [
+static VECTORS: [Vector; 11] = [
     Vector {
         tables: Tables::Empty,
         text: "",

@@ -12,7 +12,7 @@ use test_calls::{DefaultSet, has_text};
 use test_samples::One;
 
 /// Texts that are inline, and their words.
-const INLINE: [Step; 7] = [
+static INLINE: [Step; 7] = [
     Step::Word("", 0x01),
     Step::Word("a", 0x6111),
     Step::Word("foo", 0x6f6f_6631),
@@ -29,7 +29,7 @@ fn inline_atoms(rt: HostRuntime) {
 
 /// Texts that are dynamic, and their words: the low 12 bits of f1, which is 0x86f9a2c5, 0x06a47210 and 0xb9737e77, are the bucket. The first one is
 /// held until the end, so that it is found again.
-const DYNAMIC: [Step; 5] = [
+static DYNAMIC: [Step; 5] = [
     Step::Intern("abcdefgh"),
     Step::Word("abcdefgh", 0x1_0b14),
     Step::Word("interned", 0x1_0840),

@@ -53,7 +53,7 @@ fn check_place<R: Wait + Abort>(rt: &R, alloc: Global, bits: u8, number: usize, 
 }
 
 /// Bits, how many buckets these are, the text's bucket, and the first word.
-const WORDS: [(u8, usize, usize, u64); 15] = [
+static WORDS: [(u8, usize, usize, u64); 15] = [
     (0, 1, 0, 0x1_0000),
     (1, 2, 0, 0x1_0000),
     (2, 4, 0, 0x1_0000),
@@ -84,7 +84,7 @@ fn words_have_the_bits_of_their_set(rt: HostRuntime) {
     }
 }
 
-const TICKETS: [Step; 5] = [
+static TICKETS: [Step; 5] = [
     Step::Intern("interned"),
     Step::Intern("tokenised"),
     Step::Is(0, "interned", 0x1_0000),

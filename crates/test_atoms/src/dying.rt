@@ -5,14 +5,14 @@ use crate::scenes::{Call, Step};
 use crate::sets::{ONE_BUCKET, USUAL, play};
 
 /// A text's atom goes while its bucket's lock is held: it stays linked.
-const LET_DIE: [Step; 4] = [
+static LET_DIE: [Step; 4] = [
     Step::Intern("interned"),
     Step::Is(0, "interned", 0x1_0840),
     Step::Die("interned"),
     Step::Linked(1),
 ];
 
-const SWEPT: [Step; 2] = [Step::Sweep, Step::Linked(0)];
+static SWEPT: [Step; 2] = [Step::Sweep, Step::Linked(0)];
 
 #[test]
 fn dying_text_is_swept(rt: HostRuntime) {
@@ -20,14 +20,14 @@ fn dying_text_is_swept(rt: HostRuntime) {
 }
 
 /// What is looked up takes the dying text out, and finds nothing.
-const LOOKED_UP: [Step; 2] = [Step::Absent("interned"), Step::Linked(0)];
+static LOOKED_UP: [Step; 2] = [Step::Absent("interned"), Step::Linked(0)];
 
 #[test]
 fn text_of_a_dying_entry_is_not_found(rt: HostRuntime) {
     play(&rt, rt.alloc(), USUAL, &[&LET_DIE, &LOOKED_UP]);
 }
 
-const INTERNED_ANEW: [Step; 3] = [
+static INTERNED_ANEW: [Step; 3] = [
     Step::Intern("interned"),
     Step::Is(1, "interned", 0x2_0840),
     Step::Linked(1),
@@ -44,7 +44,7 @@ const FORGOTTEN: u64 = 0x1_1cbc;
 const MAGNITUDE: u64 = 0x2_1cbc;
 
 /// Both held texts are interned again, and swept: neither goes.
-const HELD_STAY: [Step; 15] = [
+static HELD_STAY: [Step; 15] = [
     Step::Intern("forgotten"),
     Step::Intern("magnitude"),
     Step::Is(0, "forgotten", FORGOTTEN),
@@ -69,7 +69,7 @@ fn held_texts_stay_linked(rt: HostRuntime) {
 }
 
 /// The texts are in the first bucket, in the last one, and two in one between.
-const SWEEP_EACH: [Step; 12] = [
+static SWEEP_EACH: [Step; 12] = [
     Step::Intern("afterwards"),
     Step::Intern("geometric"),
     Step::Intern("forgotten"),
@@ -90,7 +90,7 @@ fn sweep_reaches_each_bucket(rt: HostRuntime) {
     play(&rt, rt.alloc(), USUAL, &[&SWEEP_EACH]);
 }
 
-const ONE_OF_TWO_SHARES: [Step; 8] = [
+static ONE_OF_TWO_SHARES: [Step; 8] = [
     Step::Intern("forgotten"),
     Step::Intern("magnitude"),
     Step::Make(Call::Clone(1)),
@@ -102,7 +102,7 @@ const ONE_OF_TWO_SHARES: [Step; 8] = [
 ];
 
 /// The same for a text whose hash is even: that of "interned", in a set of one bucket.
-const ONE_OF_TWO_EVEN: [Step; 8] = [
+static ONE_OF_TWO_EVEN: [Step; 8] = [
     Step::Intern("tokenised"),
     Step::Intern("interned"),
     Step::Make(Call::Clone(1)),
@@ -119,7 +119,7 @@ fn drop_of_one_of_two_shares_takes_out_nothing(rt: HostRuntime) {
     play(&rt, rt.alloc(), ONE_BUCKET, &[&ONE_OF_TWO_EVEN]);
 }
 
-const BESIDE_DYING: [Step; 8] = [
+static BESIDE_DYING: [Step; 8] = [
     Step::Intern("interned"),
     Step::Intern("afterwards"),
     Step::Intern("geometric"),
@@ -137,7 +137,7 @@ fn last_drop_prunes_its_own_bucket_alone(rt: HostRuntime) {
 }
 
 /// Of five texts of one bucket the first, one between and the last die.
-const THREE_DIE: [Step; 9] = [
+static THREE_DIE: [Step; 9] = [
     Step::Intern("interned"),
     Step::Intern("tokenised"),
     Step::Intern("document"),
@@ -150,14 +150,14 @@ const THREE_DIE: [Step; 9] = [
 ];
 
 /// What a sweep leaves, and what a pass for another text and the end of a living text's last atom do.
-const TWO_STAY: [Step; 4] = [
+static TWO_STAY: [Step; 4] = [
     Step::Sweep,
     Step::Visits("repeated 1;tokenised 1;", "repeated 1;tokenised 1;"),
     Step::Drop(3),
     Step::Visits("tokenised 1;", "tokenised 1;"),
 ];
 
-const NEW_ONE: [Step; 2] = [
+static NEW_ONE: [Step; 2] = [
     Step::Intern("magnitude"),
     Step::Visits(
         "magnitude 1;repeated 1;tokenised 1;",
@@ -165,17 +165,17 @@ const NEW_ONE: [Step; 2] = [
     ),
 ];
 
-const HELD_ONE: [Step; 2] = [
+static HELD_ONE: [Step; 2] = [
     Step::Intern("tokenised"),
     Step::Visits("repeated 1;tokenised 2;", "repeated 1;tokenised 2;"),
 ];
 
-const NONE_FOUND: [Step; 2] = [
+static NONE_FOUND: [Step; 2] = [
     Step::Absent("magnitude"),
     Step::Visits("repeated 1;tokenised 1;", "repeated 1;tokenised 1;"),
 ];
 
-const LAST_GOES: [Step; 2] = [Step::Drop(1), Step::Visits("repeated 1;", "repeated 1;")];
+static LAST_GOES: [Step; 2] = [Step::Drop(1), Step::Visits("repeated 1;", "repeated 1;")];
 
 /// Each call that goes over a bucket takes out all that are dying, and no others.
 #[test]

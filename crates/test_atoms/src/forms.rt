@@ -13,7 +13,7 @@ use string_cache::{SetAtom, SharedSet};
 use test_calls::{has_text, links, look_up};
 
 /// Texts: a short one, one of NUL and others, one of more than a line that JSON escapes, and two beyond ASCII.
-const TEXTS: [&str; 5] = [
+static TEXTS: [&str; 5] = [
     "tokenised",
     "a text\0with NUL",
     "a \"text\"\nof two\\lines",

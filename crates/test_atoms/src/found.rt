@@ -6,7 +6,7 @@ use crate::sets::{ONE_BUCKET, USUAL, play, within};
 use string_cache::Fault;
 
 /// Texts that are inline or static, and their words.
-const FIXED: [Step; 9] = [
+static FIXED: [Step; 9] = [
     Step::Make(Call::Find("")),
     Step::Is(0, "", 1),
     Step::Make(Call::Find("\0")),
@@ -25,7 +25,7 @@ fn fixed_texts_are_found(rt: HostRuntime) {
 
 /// "forgotten" has an atom, but another text of its bucket and one of another bucket have none. What is found holds its text after the atom that it
 /// was found by has gone, and no longer than it lives itself.
-const HELD: [Step; 11] = [
+static HELD: [Step; 11] = [
     Step::Intern("forgotten"),
     Step::Absent("magnitude"),
     Step::Absent("interned"),
@@ -45,7 +45,7 @@ fn held_texts_alone_are_found(rt: HostRuntime) {
 }
 
 /// Each of five texts of one bucket, which are in two nodes of a set without a name.
-const OF_A_BUCKET: [Step; 18] = [
+static OF_A_BUCKET: [Step; 18] = [
     Step::Intern("interned"),
     Step::Intern("tokenised"),
     Step::Intern("document"),
@@ -72,7 +72,7 @@ fn each_text_of_a_bucket_is_found(rt: HostRuntime) {
 }
 
 /// The only ticket of "interned" is left after it was looked up, and then none.
-const WITHOUT_TICKETS: [Step; 8] = [
+static WITHOUT_TICKETS: [Step; 8] = [
     Step::Absent("interned"),
     Step::Linked(0),
     Step::Absent("interned"),
@@ -89,7 +89,7 @@ fn look_up_spends_no_ticket(rt: HostRuntime) {
 }
 
 /// What is found is a holder, of which there may be two, and gives its share back.
-const HOLDERS: [Step; 18] = [
+static HOLDERS: [Step; 18] = [
     Step::Intern("interned"),
     Step::Make(Call::Find("interned")),
     Step::One(0, 1),

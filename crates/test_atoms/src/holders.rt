@@ -7,7 +7,7 @@ use string_cache::Fault;
 
 /// Two atoms of a text are all that there may be, for each call that would make one more. When one of them goes, both calls make an atom of the same
 /// word, one after the other.
-const TWO_HOLDERS: [Step; 20] = [
+static TWO_HOLDERS: [Step; 20] = [
     Step::Intern("interned"),
     Step::Intern("interned"),
     Step::Is(0, "interned", 0x1_0840),
@@ -35,7 +35,7 @@ fn two_holders(rt: HostRuntime) {
     play(&rt, rt.alloc(), within(2, 9), &[&TWO_HOLDERS]);
 }
 
-const ONE_SERIAL: [Step; 3] = [
+static ONE_SERIAL: [Step; 3] = [
     Step::Word("interned", 0x1_0840),
     Step::Refused(Call::Intern("interned"), Fault::TicketsSpent),
     Step::Word("abc", 0x6362_6131),
@@ -47,7 +47,7 @@ fn one_serial(rt: HostRuntime) {
 }
 
 /// A text of two thousand and one holders, interned and cloned in turn, of which the first is left.
-const MANY: [Step; 9] = [
+static MANY: [Step; 9] = [
     Step::Intern("interned"),
     Step::Repeat(&[Call::Intern("interned"), Call::Clone(0)], 1000),
     Step::AllAre(0x1_0840),
@@ -66,7 +66,7 @@ fn two_thousand_holders(rt: HostRuntime) {
 
 /// While the text has one more holder, which is made in lower case from an atom in upper case, there can't be a third. No serial is left, and once
 /// the two holders have gone, nobody can hold it.
-const NO_SHARE_STAYS: [Step; 26] = [
+static NO_SHARE_STAYS: [Step; 26] = [
     Step::Intern("interned"),
     Step::Make(Call::Upper(0)),
     Step::Make(Call::Lower(1)),
@@ -108,7 +108,7 @@ const NARROW: Size = Size {
 };
 
 /// Each call that would add a holder to what has two holders is refused for that, even if another text is put into lower case.
-const FULL: [Step; 13] = [
+static FULL: [Step; 13] = [
     Step::Intern("größenordnung"),
     Step::Intern("größenordnung"),
     Step::Refused(Call::Intern("größenordnung"), Fault::FullCount),
@@ -126,7 +126,7 @@ const FULL: [Step; 13] = [
 
 /// Once both tickets are given, each call that would link another text is refused for that, even if a static one is put into upper case. The text
 /// that has one holder can be held once more by each call.
-const SPENT: [Step; 20] = [
+static SPENT: [Step; 20] = [
     Step::Refused(Call::Intern("tokenised"), Fault::TicketsSpent),
     Step::Refused(Call::Own("tokenised"), Fault::TicketsSpent),
     Step::Refused(Call::Cow("tokenised"), Fault::TicketsSpent),
@@ -154,7 +154,7 @@ const SMALL: &str =
     "the letters of this text, which has more than sixty-four bytes, are small: größer";
 
 /// The same of a text that is put into another case by way of memory.
-const LONG: [Step; 9] = [
+static LONG: [Step; 9] = [
     Step::Intern(SMALL),
     Step::Make(Call::Upper(0)),
     Step::Make(Call::Lower(1)),
@@ -173,7 +173,7 @@ fn limits_refuse_calls(rt: HostRuntime) {
 }
 
 /// Nobody holds inline and static texts: the set has none of them.
-const FIXED: [Step; 7] = [
+static FIXED: [Step; 7] = [
     Step::Intern(""),
     Step::Intern("été"),
     Step::Intern("sentence"),
@@ -199,7 +199,7 @@ fn fixed_texts_are_not_linked(rt: HostRuntime) {
 }
 
 /// Each call that links a text takes one ticket, and one that finds it takes none. By OpenSSL's SipHash the bucket of "INTERNED" isn't 0x210.
-const TICKETS: [Step; 16] = [
+static TICKETS: [Step; 16] = [
     Step::Make(Call::Own("interned")),
     Step::Is(0, "interned", 0x1_0840),
     Step::Drop(0),

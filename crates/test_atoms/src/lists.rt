@@ -14,7 +14,7 @@ use std::time::Clock;
 use string_cache::dynamic_set::Set;
 use string_cache::word::ticket_word;
 use string_cache::{AtomList, Fault, ListOf, SetAtom, SetList, SharedSet};
-use test_calls::{are_one, cloned_at, has_text, is_of, links, pop, push};
+use test_calls::{are_one, cloned, cloned_at, has_text, is_of, links, pop, push};
 use test_samples::One;
 
 /// What is done with a new set.
@@ -31,6 +31,7 @@ pub enum Scene {
     Tickets,
     EndsUnderLock,
     FixedUnderLock,
+    FullUnderLock,
     TwoThreads,
 }
 
@@ -52,6 +53,7 @@ fn act<S: SharedSet + Together + Send + Sync, R: Threads + Wait + Abort + Sync>(
         Scene::Tickets => take_tickets(rt, set),
         Scene::EndsUnderLock => end_under_lock(rt, set),
         Scene::FixedUnderLock => fill_under_lock(rt, set),
+        Scene::FullUnderLock => refuse_under_lock(rt, set),
         Scene::TwoThreads => fill_in_two(rt, set),
     }
 }
@@ -150,7 +152,7 @@ fn lends_none<S: SharedSet, R: Wait + Abort>(rt: &R, list: &SetList<S>, at: usiz
 }
 
 /// An inline text, a static one, and two that are dynamic, one of them not ASCII.
-const FORMS: [&str; 5] = ["é", "sentence", "interned", "", "Überfluß"];
+static FORMS: [&str; 5] = ["é", "sentence", "interned", "", "Überfluß"];
 
 /// A list of each form lends the atoms of its texts, and none after them.
 fn lend_each_form<S: SharedSet, R: Wait + Abort>(rt: &R, set: S, list: &SetList<S>) {
@@ -201,7 +203,7 @@ fn has_last<S: SharedSet>(list: &mut SetList<S>) -> bool {
 }
 
 /// Four texts, two of which are the same.
-const FOUR: [&str; 4] = ["interned", "a", "interned", "geometric"];
+static FOUR: [&str; 4] = ["interned", "a", "interned", "geometric"];
 
 /// Takes and cuts off the places of a list of the four, until it has none.
 fn take_places<S: SharedSet, R: Wait + Abort>(rt: &R, set: S, list: &mut SetList<S>) {
@@ -227,7 +229,7 @@ fn places_go_from_the_last_on(rt: HostRuntime) {
 }
 
 /// Two texts that are dynamic, and one that is inline.
-const THREE: [&str; 3] = ["interned", "Überfluß", "ab"];
+static THREE: [&str; 3] = ["interned", "Überfluß", "ab"];
 
 fn fill_again<S: SharedSet, R: Wait + Abort>(rt: &R, set: S, list: &mut SetList<S>) {
     list.clear();
@@ -242,7 +244,7 @@ fn cleared_list_is_filled_again(rt: HostRuntime) {
 }
 
 /// One text, two times.
-const TWICE: [&str; 2] = ["interned", "interned"];
+static TWICE: [&str; 2] = ["interned", "interned"];
 
 /// Whether the list's every way to one more holder of "interned" is refused, and leaves it as it was.
 fn is_full<S: SharedSet, R: Wait>(rt: &R, list: &mut SetList<S>) -> bool {
@@ -266,7 +268,7 @@ fn full_text_gets_no_place(rt: HostRuntime) {
 }
 
 /// Texts that are dynamic: one with NUL, one with a line feed, one beyond ASCII and without letters, and those of many bytes.
-const TEXTS: [&str; 4] = ["with\0NUL", "with\na line feed", "長さ、大きさ", "Überfluß"];
+static TEXTS: [&str; 4] = ["with\0NUL", "with\na line feed", "長さ、大きさ", "Überfluß"];
 
 /// Whether a clone of the place has the text once the place has gone.
 fn outlives_its_place<S: SharedSet, R: Wait + Abort>(
@@ -384,6 +386,31 @@ fn fill_under_lock<S: SharedSet, R: Wait + Abort>(rt: &R, set: S) {
 #[test]
 fn fixed_texts_have_places_under_a_held_lock(rt: HostRuntime) {
     play_both(&rt, rt.alloc(), ONE_BUCKET, Scene::FixedUnderLock);
+}
+
+/// Whether a clone of the atom is refused, and so is one of the list's place.
+fn are_refused<S: SharedSet, R: Wait>(rt: &R, list: &SetList<S>, atom: &SetAtom<S::Held>) -> bool {
+    let full = Some(Fault::FullCount);
+    cloned(rt, atom).err() == full && cloned_at(rt, list, 0).err() == full
+}
+
+/// Does so while a visit has the lock of the only bucket.
+fn refuse_under_lock<S: SharedSet, R: Wait + Abort>(rt: &R, set: S) {
+    let list = list_of(rt, set, &["interned"]);
+    let atom = intern(rt, set, "interned");
+    let mut is_refused = false;
+    set.for_each(rt, |_, _| is_refused = are_refused(rt, &list, &atom));
+    assert_that(rt, is_refused);
+}
+
+/// A clone that is refused takes no lock either.
+#[test]
+fn full_clones_are_refused_under_a_held_lock(rt: HostRuntime) {
+    let size = Size {
+        bits: 0,
+        limits: Some((2, 9)),
+    };
+    play_both(&rt, rt.alloc(), size, Scene::FullUnderLock);
 }
 
 /// Pushes four texts in turn.

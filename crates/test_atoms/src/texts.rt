@@ -66,7 +66,7 @@ fn hash_of_text<S: SharedSet, R: Wait + Abort>(rt: &R, set: S, text: &str) -> u6
 }
 
 /// Texts, and the numbers that their atoms hash as. The last is g and f1 of the text, as OpenSSL's SipHash gives them.
-const HASHES: [(&str, u64); 4] = [
+static HASHES: [(&str, u64); 4] = [
     ("", 1),
     ("foo", 0x6f6f_6631),
     ("sentence", 0x1122_3344_5566_7788),
@@ -91,7 +91,7 @@ fn order<S: SharedSet, R: Wait + Abort>(rt: &R, set: S, left: &str, right: &str)
 }
 
 /// Two texts, and the order of their atoms. By their words "b" would come before "aa", and "sentence" before "interned".
-const ORDERS: [(&str, &str, Ordering); 6] = [
+static ORDERS: [(&str, &str, Ordering); 6] = [
     ("é", "z", Ordering::Greater),
     ("aa", "b", Ordering::Less),
     ("", "\0", Ordering::Less),
@@ -134,7 +134,7 @@ fn equals_text<H: AtomKind>(
 }
 
 /// Two texts, and whether they are equal: as they are, and without case.
-const EQUALITIES: [(&str, &str, bool, bool); 5] = [
+static EQUALITIES: [(&str, &str, bool, bool); 5] = [
     ("FOO", "foo", false, true),
     ("É", "é", false, false),
     ("Interned", "iNTERNED", false, true),
@@ -157,7 +157,7 @@ fn without_case(rt: HostRuntime) {
 }
 
 /// Texts, and whether the atom of "Foo" equals them: as they are, and without case.
-const EQUAL_TEXTS: [(&str, bool, bool); 4] = [
+static EQUAL_TEXTS: [(&str, bool, bool); 4] = [
     ("Foo", true, true),
     ("fOO", false, true),
     ("foo", false, true),
@@ -190,7 +190,7 @@ pub fn is_cloned<S: SharedSet, R: Wait + Abort>(rt: &R, set: S, text: &str) -> b
 }
 
 /// Texts that are inline, static and dynamic.
-const CLONED: [&str; 3] = ["foo", "sentence", "interned"];
+static CLONED: [&str; 3] = ["foo", "sentence", "interned"];
 
 fn check_clones<S: SharedSet, R: Wait + Abort>(rt: &R, set: S) {
     for text in &CLONED {
@@ -297,7 +297,7 @@ fn has_long_cases<S: SharedSet, R: Wait + Abort>(rt: &R, set: S, letters: usize)
 }
 
 /// Texts, in upper case and in lower case.
-const CASES: [(&str, &str, &str); 5] = [
+static CASES: [(&str, &str, &str); 5] = [
     ("é", "é", "é"),
     ("École", "ÉCOLE", "École"),
     ("Interned", "INTERNED", "interned"),

@@ -18,7 +18,7 @@ use test_calls::{are_one, has_text, has_word};
 type Row = (&'static str, u32, &'static str, &'static str);
 
 /// Texts that are inline, static and dynamic. The last two hashes are of the texts' entries, as OpenSSL's SipHash gives them.
-const ROWS: [Row; 6] = [
+static ROWS: [Row; 6] = [
     ("", 1, ", Atom('' type=inline)", "\"\""),
     (
         "foo",
@@ -120,10 +120,10 @@ fn is_not_packed<H: AtomKind>(n: u64, len: u8) -> bool {
 }
 
 /// Numbers and lengths that make atoms, and their texts.
-const PACKED: [(u64, u8, &str); 3] = [(0xa9_c300, 2, "é"), (0, 1, "\0"), (0, 0, "")];
+static PACKED: [(u64, u8, &str); 3] = [(0xa9_c300, 2, "é"), (0, 1, "\0"), (0, 0, "")];
 
 /// Numbers and lengths that make none.
-const NOT_PACKED: [(u64, u8); 6] = [
+static NOT_PACKED: [(u64, u8); 6] = [
     (0xc300, 1),
     (0x62_6100, 1),
     (0, 8),

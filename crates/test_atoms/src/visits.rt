@@ -9,7 +9,7 @@ const EACH_PLAIN: &str = "afterwards 1;magnitude 1;forgotten 2;geometric 1;";
 
 const EACH_NAMED: &str = "afterwards 1;forgotten 2;magnitude 1;geometric 1;";
 
-const EACH_ONCE: [Step; 11] = [
+static EACH_ONCE: [Step; 11] = [
     Step::Visits("", ""),
     Step::Intern("geometric"),
     Step::Intern("forgotten"),
@@ -32,7 +32,7 @@ fn each_entry_is_visited_once(rt: HostRuntime) {
 }
 
 /// A text that died under its bucket's lock is visited, and stays.
-const DYING: [Step; 5] = [
+static DYING: [Step; 5] = [
     Step::Intern("interned"),
     Step::Die("interned"),
     Step::Visits("interned 0;", "interned 0;"),
@@ -46,7 +46,7 @@ fn dying_entry_is_visited(rt: HostRuntime) {
 }
 
 /// And so are two of one bucket.
-const TWO_DYING: [Step; 7] = [
+static TWO_DYING: [Step; 7] = [
     Step::Intern("forgotten"),
     Step::Intern("magnitude"),
     Step::Die("forgotten"),
@@ -62,7 +62,7 @@ fn dying_entries_of_a_bucket_are_visited(rt: HostRuntime) {
 }
 
 /// Five texts of one bucket. One between goes, and a new one is linked.
-const OF_A_BUCKET: [Step; 11] = [
+static OF_A_BUCKET: [Step; 11] = [
     Step::Intern("interned"),
     Step::Intern("tokenised"),
     Step::Intern("document"),
@@ -102,7 +102,7 @@ const NAMED: u128 = 112;
 const FOUR: u128 = 32;
 
 /// The bytes of a set of one bucket that has texts, and those that it keeps once they are gone. A short text has none.
-const MEMORY_OF_TEXTS: [&[Step]; 6] = [
+static MEMORY_OF_TEXTS: [&[Step]; 6] = [
     &[
         Step::Intern(""),
         Step::Memory(BUCKET, NAMED),
@@ -166,7 +166,7 @@ fn memory_of_texts(rt: HostRuntime) {
 const LONG: &str =
     "aaaaaaaaaaaaaaaaaaaaaaaaaaaaaaaaaaaaaaaaaaaaaaaaaaaaaaaaaaaaaaaaaaaaaaaaaaaaaaaaaaaaaaaaaaaaaaaaaaaa";
 
-const MEMORY_OF_LONG: [Step; 4] = [
+static MEMORY_OF_LONG: [Step; 4] = [
     Step::Intern(LONG),
     Step::Memory(BUCKET + NODE + CELL + 104, NAMED + FOUR + CELL + 104),
     Step::Drop(0),
@@ -180,7 +180,7 @@ fn memory_of_a_long_text(rt: HostRuntime) {
 
 /// A node stays for the one entry that is left in it: in two nodes the first entries stay, and three of each go. So do all eight places of a set with
 /// a name.
-const ONE_OF_A_NODE: [Step; 15] = [
+static ONE_OF_A_NODE: [Step; 15] = [
     Step::Intern("interned"),
     Step::Intern("document"),
     Step::Intern("repeated"),
@@ -213,7 +213,7 @@ const WITH_TWO: Step = Step::Memory(
 );
 
 /// What is still linked counts, even though nobody holds it.
-const DYING_COUNT: [Step; 8] = [
+static DYING_COUNT: [Step; 8] = [
     Step::Intern("afterwards"),
     Step::Intern("geometric"),
     Step::Die("afterwards"),

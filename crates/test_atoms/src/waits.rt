@@ -4,7 +4,7 @@
 use crate::assert_for;
 use crate::samples::{check_linked, clone_of, intern, owned};
 use crate::scenes::{self, Step};
-use crate::sets::{self, Kind, ONE_BUCKET, USUAL, ask};
+use crate::sets::{self, Kind, ONE_BUCKET, Size, USUAL, ask};
 use crate::texts::json_copy;
 use crate::together::Together;
 use serde_json::Value;
@@ -14,7 +14,9 @@ use std::sync::atomic::{AtomicBool, Ordering};
 use std::thread::{self, Threads};
 use std::time::{Clock, Duration};
 use string_cache::{Fault, SetAtom, SharedSet};
-use test_calls::{has_text, has_word, interned_owned, look_up, lowered, read_json, shown};
+use test_calls::{
+    cloned, has_text, has_word, interned, interned_owned, look_up, lowered, read_json, shown,
+};
 
 /// What is done during the visit.
 #[derive(Clone, Copy, Debug)]
@@ -31,12 +33,26 @@ pub enum Call {
     LookUp,
     /// What takes no lock.
     Unlocked,
+    /// Interning and looking up a text of the first of two buckets until each is refused, while a visit has the lock of the second, and the reverse.
+    FirstOfTwo,
+    SecondOfTwo,
 }
 
 impl Call {
     /// Whether it ends without the lock.
     fn needs_none(self) -> bool {
-        matches!(self, Call::OtherBucket | Call::Unlocked)
+        matches!(
+            self,
+            Call::OtherBucket | Call::Unlocked | Call::FirstOfTwo | Call::SecondOfTwo
+        )
+    }
+
+    /// The text at which the visit stays.
+    fn stays_at(self) -> &'static str {
+        match self {
+            Call::SecondOfTwo => "afterwards",
+            _ => "geometric",
+        }
     }
 }
 
@@ -211,6 +227,22 @@ fn works_unlocked<S: SharedSet, R: Clock + Wait + Abort>(rt: &R, set: S, at: &Me
     is_right
 }
 
+/// Whether each call that would add a holder is refused.
+fn is_full<S: SharedSet, R: Wait>(rt: &R, set: S, atom: &SetAtom<S::Held>, text: &str) -> bool {
+    let full = Some(Fault::FullCount);
+    cloned(rt, atom).err() == full
+        && interned(rt, set, text).err() == full
+        && look_up(rt, set, text).err() == full
+}
+
+/// Whether a text whose bucket has one ticket left, and which may have one holder, is refused a second one, and then a ticket.
+fn is_refused<S: SharedSet, R: Wait + Abort>(rt: &R, set: S, text: &str) -> bool {
+    let atom = intern(rt, set, text);
+    let is_full = is_full(rt, set, &atom, text);
+    drop(atom);
+    is_full && interned(rt, set, text).err() == Some(Fault::TicketsSpent)
+}
+
 /// What the call tells once the visit has the lock.
 fn works<S: SharedSet, R: Clock + Wait + Abort>(
     rt: &R,
@@ -225,6 +257,8 @@ fn works<S: SharedSet, R: Clock + Wait + Abort>(
         Call::SameBucket => is_found(rt, set, "geometric"),
         Call::LookUp => is_there(rt, set, "geometric"),
         Call::OtherBucket => is_first(rt, set, "interned", 0x1_0840),
+        Call::FirstOfTwo => is_refused(rt, set, "interned"),
+        Call::SecondOfTwo => is_refused(rt, set, "tokenised"),
         _ => tells_two(rt, set, kind, call),
     };
     at.end();
@@ -257,12 +291,12 @@ fn beside<S: SharedSet + Together + Send + Sync, R: Threads + Clock + Wait + Abo
     thread::join(
         rt,
         || set.call(rt, kind, &at, call),
-        || set.visit_long(rt, &at, "geometric", most),
+        || set.visit_long(rt, &at, call.stays_at(), most),
     )
 }
 
 /// Texts of the first bucket and the last one that die.
-const BOTH_DIE: [Step; 5] = [
+static BOTH_DIE: [Step; 5] = [
     Step::Intern("afterwards"),
     Step::Intern("geometric"),
     Step::Die("afterwards"),
@@ -343,6 +377,19 @@ fn texts_of_other_buckets_wait_for_none(rt: HostRuntime) {
         USUAL,
         sets::Question::Waits(Call::OtherBucket),
     );
+}
+
+/// By OpenSSL's SipHash "interned" and "afterwards" are in the first of two buckets, "tokenised" and "geometric" in the second.
+const TWO: Size = Size {
+    bits: 1,
+    limits: Some((1, 2)),
+};
+
+#[test]
+fn refused_texts_wait_for_no_other_bucket(rt: HostRuntime) {
+    for call in &[Call::FirstOfTwo, Call::SecondOfTwo] {
+        ask(&rt, rt.alloc(), TWO, sets::Question::Waits(*call));
+    }
 }
 
 /// In a set of one bucket, which is the one of the lock.

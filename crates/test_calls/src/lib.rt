@@ -196,7 +196,7 @@ pub fn are_one<A: HasWord>(one: &A, other: &A) -> bool {
 pub type DefaultSet = Set<EmptyStaticAtomSet>;
 
 /// The bits of buckets that tests take: one bucket, the usual number, and the most.
-pub const BITS: [u8; 3] = [0, 12, 14];
+pub static BITS: [u8; 3] = [0, 12, 14];
 
 /// What a visit of a set's entries shows: how many there are, how many holders they have together, and the fewest and the most that an entry has.
 #[derive(Clone, Copy)]

@@ -178,7 +178,7 @@ fn is_so<R: Wait + Abort>(rt: &R, alloc: Global, question: Question<'_>) -> bool
     is_so_as::<Brand, R>(rt, alloc, name, question)
 }
 
-const TEXTS: [&str; 7] = ["", "a", "interned", "été", "長さ、大きさ", "a\0NUL", "two\nlines"];
+static TEXTS: [&str; 7] = ["", "a", "interned", "été", "長さ、大きさ", "a\0NUL", "two\nlines"];
 
 #[test]
 fn held_texts_are_found(rt: HostRuntime) {

@@ -4,6 +4,8 @@ ghost use Rattle.std.specs.Prelude.{◌≡◌, true, ℕ, ◌≤◌, ◌<◌, �
 ghost use Rattle.counted_cell.specs.Cell.{Cell};
 ghost use Rattle.counted_cell.specs.Reply.{IsReply};
 
+mod crowded;
+
 use crate::receipts::first_receipt;
 use crate::{assert_for, assert_that};
 use counted_cell::{AtLimit, CellShare, Ending, FreeGrant, Label, Owner, Permit, ShareReply};
@@ -187,7 +189,7 @@ fn a_cell_keeps_its_text(rt: HostRuntime) {
 const GREATEST: u64 = (1 << 63) - 1;
 
 /// Limits with bytes of each kind, the greatest, and one below it.
-const LIMITS: [u64; 7] = [1, 255, 256, 1_000, 1 << 40, GREATEST - 1, GREATEST];
+static LIMITS: [u64; 7] = [1, 255, 256, 1_000, 1 << 40, GREATEST - 1, GREATEST];
 
 /// Whether a cell of the text tells this limit, and its text as it is.
 fn tells_its_limit(alloc: Global, limit: u64, text: &str) -> Result<bool, AllocError>
@@ -422,7 +424,7 @@ fn the_end_frees_what_is_not_held(rt: HostRuntime) {
 }
 
 /// Limits, texts, the bytes of a cell's block, and those that a heap which gives out sixteens says are in use.
-const BLOCKS: [(u64, &str, usize, usize); 9] = [
+static BLOCKS: [(u64, &str, usize, usize); 9] = [
     (GREATEST, "", 32, 32),
     (GREATEST, "a", 40, 48),
     (GREATEST, "abcdefgh", 40, 48),

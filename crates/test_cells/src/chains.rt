@@ -115,7 +115,7 @@ fn are_taken_out(
 }
 
 /// The digits that are taken out, those that stay, and the order in which all end, once a sixth was added.
-const TAKEN: [(&[u64], u64, u64); 10] = [
+static TAKEN: [(&[u64], u64, u64); 10] = [
     (&[], 54321, 654321),
     (&[5], 4321, 564321),
     (&[3], 5421, 365421),

@@ -6,6 +6,8 @@ ghost use Rattle.std.specs.Prelude.{IsTrue};
 #[cfg(test)]
 mod again;
 #[cfg(test)]
+mod apart;
+#[cfg(test)]
 mod calls;
 #[cfg(test)]
 mod cells;
@@ -23,6 +25,8 @@ mod named_left;
 mod named_long;
 #[cfg(test)]
 mod named_threads;
+#[cfg(test)]
+mod named_words;
 pub mod receipts;
 
 /// Ends the test unless this is so: one call, where `assert!` writes its message and its ways out into the function that asks.

@@ -219,7 +219,7 @@ fn has_second<S: StaticTables, N: SetName, R: Wait>(
 }
 
 /// A short text, none, one of NUL and others, one of more than a line, and two beyond ASCII.
-const TEXTS: [&str; 6] = ["a", "", "a\0NUL", "two\nlines", "été", "長さ、大きさ"];
+static TEXTS: [&str; 6] = ["a", "", "a\0NUL", "two\nlines", "été", "長さ、大きさ"];
 
 /// Whether each is found, and can have a second holder.
 fn are_all<S: StaticTables, N: SetName, R: Wait>(rt: &R, set: &NamedSet<S, N>) -> bool {

@@ -5,8 +5,8 @@ ghost use Rattle.std.specs.Prelude.{◌≡◌};
 use crate::calls::{found, interned, is_found_as, links};
 use crate::named_left::{
     all_are_left, are_left_anew, are_left_as_it_grows, are_left_as_it_is_laid_out,
-    are_left_in_turns, left_comes_again, many_are_left, many_are_left_alone, many_are_swept,
-    one_goes_beside, one_is_left, take_turns, two_are_left,
+    are_left_in_turns, left_comes_again, looks_go_round, many_are_left, many_are_left_alone,
+    many_are_swept, one_goes_beside, one_is_left, take_turns, two_are_left,
 };
 use crate::named_long::long_texts_come_and_go;
 use crate::{assert_for, assert_that};
@@ -39,7 +39,7 @@ pub enum Order {
     Between,
 }
 
-const ORDERS: [Order; 3] = [Order::First, Order::Last, Order::Between];
+static ORDERS: [Order; 3] = [Order::First, Order::Last, Order::Between];
 
 /// What is asked of a set of one bucket.
 #[derive(Clone, Copy)]
@@ -71,6 +71,7 @@ enum Question {
     /// Some were left while calls looked for others, once or again and again.
     LeftAnew,
     LeftInTurns,
+    LeftRound,
     /// Some were left as the index grows.
     LeftAsItGrows,
     /// Some were left behind so many turns, and the index is laid out, maybe over as many places.
@@ -327,6 +328,7 @@ fn is_answered<N: SetName, R: Wait + Abort>(rt: &R, set: &Named<N>, question: Qu
         Question::ManySwept(order) => many_are_swept(rt, set, order),
         Question::LeftAnew => are_left_anew(rt, set),
         Question::LeftInTurns => are_left_in_turns(rt, set),
+        Question::LeftRound => looks_go_round(rt, set),
         Question::LeftAsItGrows => are_left_as_it_grows(rt, set),
         Question::LeftAsItIsLaidOut(turns) => are_left_as_it_is_laid_out(rt, set, turns),
         Question::Marked => is_laid_out_anew(rt, set),
@@ -353,7 +355,7 @@ fn is_so<R: Wait + Abort>(rt: &R, alloc: Global, question: Question) -> bool {
 }
 
 /// How many texts come and go, and how many places the index has for them: two for each when it is laid out, of which an eighth stays empty.
-const COUNTS: [(usize, u128); 5] = [(8, 0), (9, 18), (16, 18), (17, 34), (31, 62)];
+static COUNTS: [(usize, u128); 5] = [(8, 0), (9, 18), (16, 18), (17, 34), (31, 62)];
 
 fn come_in_order<R: Wait + Abort>(rt: &R, alloc: Global, order: Order) -> bool {
     for (count, places) in &COUNTS {
@@ -444,6 +446,7 @@ fn all_that_were_left_go_with_later_calls(rt: HostRuntime) {
 fn cells_that_were_left_go_however_often_others_are(rt: HostRuntime) {
     assert_that(&rt, is_so(&rt, rt.alloc(), Question::LeftAnew));
     assert_that(&rt, is_so(&rt, rt.alloc(), Question::LeftInTurns));
+    assert_that(&rt, is_so(&rt, rt.alloc(), Question::LeftRound));
 }
 
 #[test]

@@ -201,3 +201,12 @@ pub fn are_left_as_it_is_laid_out<N: SetName, R: Wait + Abort>(
     hold_more(rt, set, &mut words, "the next text");
     is_begun && look(rt, set, 3) && links(rt, set, 11) && are_found(rt, set, words.as_slice())
 }
+
+/// Behind the lowest places the same call looks at the highest ones: of 18 places two calls leave two.
+pub fn looks_go_round<N: SetName, R: Wait + Abort>(rt: &R, set: &Named<N>) -> bool {
+    let mut words = hold(rt, set, 16);
+    leave(rt, set, &mut words, Order::First, 8);
+    let is_begun = look(rt, set, 1);
+    leave(rt, set, &mut words, Order::First, 0);
+    is_begun && look(rt, set, 1) && set.linked(rt) <= 2
+}

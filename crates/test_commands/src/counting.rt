@@ -134,7 +134,7 @@ fn come_twice<R: Threads + Wait + Sync + Abort>(
 fn halves_of_lists_are_merged(rt: HostRuntime) {
     let words = words_before(&rt, rt.alloc(), 8_192, 8, ' ');
     let text = words.repeat(rt.alloc(), 2).expect(&rt, "room");
-    for n in [4, 5, 6, 7, 8] {
+    for n in [4, 5, 6, 7, 8, 9, 16, 64] {
         assert_for(&rt, come_twice(&rt, rt.alloc(), &text, 8_192, n), &n);
     }
 }
@@ -228,6 +228,15 @@ fn pieces_of_twenty_words(rt: HostRuntime) {
     let text = words_before(&rt, rt.alloc(), 20, 8, ' ');
     let wanted = [2, 5, 7, 10, 12, 15, 17, 20];
     assert_that(&rt, end_at(&rt, rt.alloc(), &text, 20, 8, &wanted));
+}
+
+/// Of 20 different words, piece i of 3 ends at word 20 * i / 3, and piece i of 7 at word 20 * i / 7.
+#[test]
+fn odd_pieces_of_twenty_words(rt: HostRuntime) {
+    let text = words_before(&rt, rt.alloc(), 20, 8, ' ');
+    assert_that(&rt, end_at(&rt, rt.alloc(), &text, 20, 3, &[6, 13, 20]));
+    let wanted = [2, 5, 8, 11, 14, 17, 20];
+    assert_that(&rt, end_at(&rt, rt.alloc(), &text, 20, 7, &wanted));
 }
 
 /// Of 402 different words, over several sections of the text, piece i of 4 ends at word 402 * i / 4.
@@ -387,6 +396,40 @@ fn is_cloned<R: Wait>(rt: &R, atom: &Atom<EmptyStaticAtomSet>) -> bool {
     match atom.clone_atom(rt) {
         Ok(clone) => clone.eq_str("interned"),
         Err(_) => false,
+    }
+}
+
+/// Whether so many places of a word are counted, each of which is a holder, and one more is refused.
+fn are_all_held<R: Threads + Wait + Sync + Abort>(rt: &R, alloc: Global, places: u64) -> bool {
+    let set = set_with(rt, alloc, places, 9);
+    let text = "interned "
+        .repeat(alloc, places as usize)
+        .expect(rt, "room");
+    let more = format!(in alloc; "{text}interned").expect(rt, "room");
+    are_counted(rt, &set, &text, 1, &Open, &[("interned", places)])
+        && fault_of(rt, &set, &more, 1, &Open) == FULL
+}
+
+#[test]
+fn each_of_many_places_is_held(rt: HostRuntime) {
+    assert_that(&rt, are_all_held(&rt, rt.alloc(), 5_000));
+}
+
+/// Whether workers count a text of one long word, in which no other begins.
+fn is_one_word<R: Threads + Wait + Sync + Abort>(rt: &R, alloc: Global, n: u32) -> bool
+    requires low { 1 ≤ n }
+    requires high { n ≤ 64 }
+{
+    let set = new_set(rt, alloc);
+    let text = "\0字".repeat(alloc, 50_000).expect(rt, "room");
+    are_counted(rt, &set, &text, n, &Open, &[(text.as_str(), 1)])
+}
+
+/// A text of 200,000 bytes without white space, and with NUL.
+#[test]
+fn one_long_word_is_counted(rt: HostRuntime) {
+    for n in [1, 2, 64] {
+        assert_for(&rt, is_one_word(&rt, rt.alloc(), n), &n);
     }
 }
 

@@ -22,7 +22,7 @@ enum Call {
     Replay,
 }
 
-const CALLS: [Call; 4] = [
+static CALLS: [Call; 4] = [
     Call::Words,
     Call::WordsAlone,
     Call::CountByTwo,
@@ -95,6 +95,19 @@ fn each_read_fails(rt: HostRuntime) {
         for at in 1..=call.reads().saturating_add(1) {
             assert_for(&rt, is_read_told(&rt, rt.alloc(), *call, at), &(call, at));
         }
+    }
+}
+
+/// Whether all is written if each read gives one byte.
+fn reads_all<R: Threads + Wait + Sync>(rt: &R, alloc: Global, call: Call) -> bool {
+    let (input, output) = call.texts();
+    call.gives(rt, alloc, &Streams::dripping(input), Ok(()), output)
+}
+
+#[test]
+fn each_read_gives_one_byte(rt: HostRuntime) {
+    for call in &CALLS {
+        assert_for(&rt, reads_all(&rt, rt.alloc(), *call), call);
     }
 }
 

@@ -68,26 +68,24 @@ static REFUSED: [Run; 5] = [
 fn refused_lists(rt: HostRuntime) {
     try_runs(&rt, rt.alloc(), &REFUSED);
 }
+/// Lines of no command.
+static OTHER_LINES: [&str; 11] = [
+    "generate",
+    "generate 0",
+    "generate 00 1",
+    "generate 0 01",
+    "generate +0 1",
+    "generate 0 4294967296",
+    "generate 18446744073709551616 1",
+    "generate 0 1 2",
+    "Generate 0 1",
+    "check 1",
+    "check check",
+];
 
 #[test]
 fn other_arguments(rt: HostRuntime) {
-    try_lines(
-        &rt,
-        rt.alloc(),
-        &[
-            "generate",
-            "generate 0",
-            "generate 00 1",
-            "generate 0 01",
-            "generate +0 1",
-            "generate 0 4294967296",
-            "generate 18446744073709551616 1",
-            "generate 0 1 2",
-            "Generate 0 1",
-            "check 1",
-            "check check",
-        ],
-    );
+    try_lines(&rt, rt.alloc(), &OTHER_LINES);
 }
 
 static CHECKED: [Run; 3] = [

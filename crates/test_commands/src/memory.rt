@@ -106,6 +106,17 @@ impl<'b> Streams<'b> {
         }
     }
 
+    /// One byte per read.
+    pub fn dripping(text: &'b [u8]) -> Streams<'b> {
+        Streams {
+            text,
+            gives: 1,
+            read_fails_at: 0,
+            takes: usize::MAX,
+            write_fails_at: 0,
+        }
+    }
+
     /// Some bytes per read, one of which fails, counted from 1 (0: none).
     pub fn reading(text: &'b [u8], read_fails_at: u64) -> Streams<'b> {
         Streams {

@@ -136,7 +136,7 @@ fn workers_run_at_once_in_a_set_with_a_name(rt: HostRuntime) {
 }
 
 /// Of 20 words, piece i of 8 ends at word 20 * i / 8.
-const ENDS: [u64; 8] = [2, 5, 7, 10, 12, 15, 17, 20];
+static ENDS: [u64; 8] = [2, 5, 7, 10, 12, 15, 17, 20];
 
 /// Whether eight workers count 20 words in the set with this name, so many of which are linked as each piece ends.
 fn end_at<N: SetName + Send + Sync, R: Threads + Wait + Sync + Abort>(

@@ -25,7 +25,7 @@ Seen the word \"crème-brûlée\" 1 times
 Seen the word \"fieldset\" 2 times
 ";
 
-const COUNTS: [(&str, u64); 3] = [("crème-brûlée", 2), ("fieldset", 3), ("p", 2)];
+static COUNTS: [(&str, u64); 3] = [("crème-brûlée", 2), ("fieldset", 3), ("p", 2)];
 
 // These say nothing about what they do, so that each test is proved in a moment. They take any static type, since the borrow checker doesn't cover a
 // function that names a set of a packed type.

@@ -33,7 +33,7 @@ fn moves(rt: &impl Abort, alloc: Global, number: usize, written: usize) -> bool 
 }
 
 /// How many bytes are pending, and how many of them are written: all, once they are a piece of 65,536 bytes.
-const PIECES: [(usize, usize); 7] = [
+static PIECES: [(usize, usize); 7] = [
     (0, 0),
     (1, 0),
     (65_535, 0),

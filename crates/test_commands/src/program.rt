@@ -192,30 +192,28 @@ pub fn try_lines<R: Threads + Wait + Sync + Abort>(rt: &R, alloc: Global, lines:
         );
     }
 }
+/// Lines of no command.
+static OTHER_LINES: [&str; 15] = [
+    "",
+    "jump",
+    "Words",
+    "words words",
+    "words ",
+    "count",
+    "count ",
+    "count 0",
+    "count 65",
+    "count 01",
+    "count +1",
+    "count -1",
+    "count 1 2",
+    "Count 1",
+    "replay replay",
+];
 
 #[test]
 fn other_arguments(rt: HostRuntime) {
-    try_lines(
-        &rt,
-        rt.alloc(),
-        &[
-            "",
-            "jump",
-            "Words",
-            "words words",
-            "words ",
-            "count",
-            "count ",
-            "count 0",
-            "count 65",
-            "count 01",
-            "count +1",
-            "count -1",
-            "count 1 2",
-            "Count 1",
-            "replay replay",
-        ],
-    );
+    try_lines(&rt, rt.alloc(), &OTHER_LINES);
 }
 
 /// An argument that begins with a space is no number.
@@ -312,7 +310,7 @@ fn faults_fail(rt: HostRuntime) {
 }
 
 /// Faults, and the lines that report them.
-const FAULTS: [(AppFault, &[u8]); 11] = [
+static FAULTS: [(AppFault, &[u8]); 11] = [
     (AppFault::Read, READ_FAILED),
     (AppFault::Write, WRITE_FAILED),
     (AppFault::Text, NOT_TEXT),
@@ -388,7 +386,7 @@ pub const COUNT_WORDS: &[&str] = &["count", "3"];
 const BYTES_LINE: CommandLine = &[b"atoms", b"words", b"\xff"];
 
 /// Lines with the arguments that they give.
-const WORD_LINES: [(CommandLine, &[&str]); 6] = [
+static WORD_LINES: [(CommandLine, &[&str]); 7] = [
     (COUNT_LINE, COUNT_WORDS),
     (
         &[
@@ -414,6 +412,10 @@ const WORD_LINES: [(CommandLine, &[&str]); 6] = [
         &["generate", "0", "1", "x"],
     ),
     (&[b"atoms", b"", b"words"], &["", "words"]),
+    (
+        &[b"atoms", b" Words\t", b"-1", b"-1", b""],
+        &[" Words\t", "-1", "-1", ""],
+    ),
     (&[], &[]),
     (&[b"atoms"], &[]),
 ];

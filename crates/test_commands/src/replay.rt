@@ -101,7 +101,7 @@ no
 );
 
 /// Scripts with what they print, worked out by hand from the table of steps.
-const WORKED: [(&[u8], &[u8]); 9] = [
+static WORKED: [(&[u8], &[u8]); 9] = [
     DYING_ENTRY,
     LIMITS,
     NO_ROOM,

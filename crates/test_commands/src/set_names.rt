@@ -17,7 +17,7 @@ use string_cache::{
 use test_samples::keys;
 
 /// At each step of the choice, and on both sides of it.
-const BITS: [(usize, u8); 6] = [
+static BITS: [(usize, u8); 6] = [
     (0, 6),
     (4095, 6),
     (4096, 8),
@@ -30,6 +30,26 @@ const BITS: [(usize, u8); 6] = [
 fn buckets_for_a_text(rt: HostRuntime) {
     for (bytes, bits) in &BITS {
         assert_for(&rt, buckets_for(*bytes).bits() == *bits, bytes);
+    }
+}
+
+/// The bytes of an empty set with a name for a text with this number of bytes.
+fn bytes_of_empty<R: Wait + Abort>(rt: &R, alloc: Global, bytes: usize) -> u128 {
+    let keys = keys(1).expect(rt, "keys");
+    let name = name_under(alloc, keys, bytes).expect(rt, "a name");
+    bytes_named::<Brand, R>(rt, alloc, name, &[])
+}
+
+/// A bucket has 112 bytes.
+#[test]
+fn names_have_buckets_for_a_text(rt: HostRuntime) {
+    for (bytes, bits) in &BITS {
+        let wanted = 112u128 << *bits;
+        assert_for(
+            &rt,
+            bytes_of_empty(&rt, rt.alloc(), *bytes) == wanted,
+            bytes,
+        );
     }
 }
 

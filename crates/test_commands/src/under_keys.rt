@@ -19,10 +19,10 @@ use test_samples::{EXAMPLE, keys};
 use text_streams::faults::AppFault;
 
 /// Numbers that stand for keys, all of whose bytes differ.
-pub const NUMBERS: [u64; 4] = [0, 2, 0x0123_4567_89ab_cdef, u64::MAX];
+pub static NUMBERS: [u64; 4] = [0, 2, 0x0123_4567_89ab_cdef, u64::MAX];
 
 /// What the commands that hash words write for the example.
-const OUTPUTS: [(&str, &[u8]); 3] = [
+static OUTPUTS: [(&str, &[u8]); 3] = [
     ("words", EXAMPLE_LINES),
     ("count 1", EXAMPLE_COUNTS),
     ("count 4", EXAMPLE_COUNTS),
@@ -168,7 +168,7 @@ fn is_drawn(place: usize, hash: u64) -> bool {
 }
 
 /// SipHash-1-3 of the eight bytes of 7, under a key of 16 bytes, this one 1 and the others 0, as another program worked it out.
-const HASHES: [u64; 16] = [
+static HASHES: [u64; 16] = [
     0x0735_0c57_b431_0903,
     0x14b2_9fd2_56c4_ffd3,
     0xe7ad_0d28_a522_f4dd,

@@ -13,7 +13,7 @@ use std::sync::Wait;
 use std::thread::Threads;
 use std::{io, str};
 use string_cache::dynamic_set::Set;
-use string_cache::word::Limits;
+use string_cache::word::{Buckets, Limits};
 use string_cache::{Atom, DefaultAtom, EmptyStaticAtomSet, Fault};
 use test_samples::{EXAMPLE, keys};
 use text_streams::faults::AppFault;
@@ -114,7 +114,7 @@ fn tell_in<R: Wait, K: Sink>(
 }
 
 /// Texts with their lines.
-pub const TEXTS: [(&[u8], &[u8]); 5] = [
+pub static TEXTS: [(&[u8], &[u8]); 5] = [
     (EXAMPLE, EXAMPLE_LINES),
     (
         b"\x61\xc2\xa0\x61",
@@ -375,6 +375,29 @@ fn words_are_held_to_the_end(rt: HostRuntime) {
     );
     let many = numbered(&rt, rt.alloc(), "word", 3000, IN_TEXT);
     assert_that(&rt, are_held(&rt, &set, &many, 3000));
+}
+
+/// Whether nothing is written of a text, of whose words the last one finds no ticket in the only bucket.
+fn is_untold<R: Wait + Abort>(rt: &R, alloc: Global, text: &str, tickets: u64) -> bool {
+    let limits = Limits::new(9, tickets).expect(rt, "limits");
+    let buckets = Buckets::new(0).expect(rt, "bits");
+    let set = Set::<EmptyStaticAtomSet>::with_buckets(alloc, limits, buckets).expect(rt, "a set");
+    let mut writer = Io::new(Vec::new(alloc));
+    tell_in(rt, &set, text, &mut writer) == Err(AppFault::Intern(Fault::TicketsSpent))
+        && writer.into_inner().is_empty()
+}
+
+/// The lines of 1,024 words are a piece of 65,536 bytes, that of the last one among them, which is refused.
+#[test]
+fn words_are_interned_before_they_are_told(rt: HostRuntime) {
+    let text = numbered(
+        &rt,
+        rt.alloc(),
+        "smörgåsbordsmörgåsbordbord",
+        1_024,
+        IN_TEXT,
+    );
+    assert_that(&rt, is_untold(&rt, rt.alloc(), &text, 1_023));
 }
 
 /// Whether interning this text gives this answer while the lines of others are written.

@@ -54,13 +54,26 @@ fn crew_of_says<R: Threads + Wait + Sync + Abort>(rt: &R, alloc: Global, number:
     crew_agrees(rt, alloc, &texts).expect(rt, "an answer")
 }
 
-/// Eight threads agree if all have one text, and not if the last has another. So do none, and 70.
+/// What a crew of two says about these texts.
+fn crew_of_two_says<R: Threads + Wait + Sync + Abort>(
+    rt: &R,
+    alloc: Global,
+    one: &str,
+    other: &str,
+) -> bool {
+    let texts = copies(rt, alloc, &[one, other]);
+    crew_agrees(rt, alloc, &texts).expect(rt, "an answer")
+}
+
+/// Eight threads agree if all have one text, and not if the last has another. So do none, 70, and two with short texts.
 #[test]
 fn crews_agree(rt: HostRuntime) {
     assert_that(&rt, crew_says(&rt, rt.alloc(), ""));
     assert_that(&rt, !crew_says(&rt, rt.alloc(), "Größe"));
     assert_that(&rt, crew_of_says(&rt, rt.alloc(), 0));
     assert_that(&rt, crew_of_says(&rt, rt.alloc(), 70));
+    assert_that(&rt, crew_of_two_says(&rt, rt.alloc(), "Öl", "Öl"));
+    assert_that(&rt, !crew_of_two_says(&rt, rt.alloc(), "", "Öl"));
 }
 
 /// Who looks up a text that was declared.
@@ -135,6 +148,21 @@ fn eight_find<R: Threads + Wait + Sync + Abort>(rt: &R, alloc: Global) -> bool {
     are_same(found.as_slice(), &wanted)
 }
 
+/// How many of this many threads find the declared text, for which each asks.
+fn finds_of<R: Threads + Wait + Sync + Abort>(rt: &R, alloc: Global, number: usize) -> usize {
+    let mut texts = Vec::new(alloc);
+    for _ in 0..number {
+        add_copy(rt, alloc, &mut texts, "eine Größe");
+    }
+    let declared = String::from_str(alloc, "eine Größe").expect(rt, "room");
+    let keys = keys(1).expect(rt, "keys");
+    let found = declare_and_look_up_all(rt, alloc, keys, &declared, 7, &texts).expect(
+        rt,
+        "an answer",
+    );
+    found.iter().filter(|it| **it == Some(7)).count()
+}
+
 /// How many answers there are if nobody asks.
 fn answers_to_none<R: Threads + Wait + Sync + Abort>(rt: &R, alloc: Global) -> usize {
     let declared = String::from_str(alloc, "eine Größe").expect(rt, "room");
@@ -152,6 +180,7 @@ fn declared_texts_are_found(rt: HostRuntime) {
     assert_that(&rt, do_find(&rt, rt.alloc(), Crew::Two));
     assert_that(&rt, eight_find(&rt, rt.alloc()));
     assert_that(&rt, answers_to_none(&rt, rt.alloc()) == 0);
+    assert_that(&rt, finds_of(&rt, rt.alloc(), 70) == 70);
 }
 
 /// Declares these names in turn.
@@ -228,8 +257,32 @@ fn are_full<N: SetName + Send + Sync, R: Threads + Wait + Sync + Abort>(
     matches!(told, Err(Fault::FullCount))
 }
 
+/// Whether this many readers of a short text are told its number.
+fn are_told_of_short<N: SetName + Send + Sync, R: Threads + Wait + Sync + Abort>(
+    rt: &R,
+    alloc: Global,
+    set: &Texts<N>,
+    symbols: &Symbols<N>,
+    number: usize,
+) -> bool {
+    let mut texts = Vec::new(alloc);
+    for _ in 0..number {
+        add_copy(rt, alloc, &mut texts, "g");
+    }
+    let told = look_up_all(rt, alloc, set, symbols, texts.as_slice()).expect(rt, "answers");
+    told.len() == number && told.iter().all(|it| it.number == Some(10))
+}
+
 /// What is declared beside the long text. One name is declared twice.
-const DECLARED: [(&str, u32); 10] = [
+static DECLARED: [(&str, u32); 18] = [
+    ("h", 11),
+    ("i", 12),
+    ("j", 13),
+    ("k", 14),
+    ("l", 15),
+    ("m", 16),
+    ("n", 17),
+    ("o", 18),
     ("Größe", 1),
     ("長さ", 2),
     ("Größe", 3),
@@ -255,6 +308,7 @@ fn eight_are_told<N: SetName + Send + Sync, R: Threads + Wait + Sync + Abort>(
     declare_all(rt, set, &mut symbols, &DECLARED).expect(rt, "room");
     are_told_of_copies::<N, R>(rt, alloc, set, &symbols, long)
         && are_full::<N, R>(rt, alloc, set, &symbols, long)
+        && are_told_of_short::<N, R>(rt, alloc, set, &symbols, 0)
 }
 
 /// The same, in the set with this name.

@@ -25,7 +25,7 @@ const LINE: &str =
     "tokenised Größenordnung sentence été Größenordnung tokenised interned Größenordnung sentence\n";
 
 /// How often each of its texts occurs.
-const TIMES: [(&str, u64); 5] = [
+static TIMES: [(&str, u64); 5] = [
     ("Größenordnung", 3),
     ("été", 1),
     ("interned", 1),

@@ -27,6 +27,10 @@ fn threads_agree(rt: HostRuntime) {
         &rt,
         !are_one_word(&rt, rt.alloc(), &long, &short).expect(&rt, "an answer"),
     );
+    assert_that(
+        &rt,
+        are_one_word(&rt, rt.alloc(), &short, &short).expect(&rt, "an answer"),
+    );
 }
 
 /// Whether the names are said to be one, or two, and nothing of them stays.
@@ -46,6 +50,8 @@ fn ask<N: SetName, R: Wait + Abort>(rt: &R, set: &NamedSet<One, N>) {
     assert_that(rt, says(rt, set, "sentence", "sentence", true));
     assert_that(rt, says(rt, set, "interned", "interned", true));
     assert_that(rt, says(rt, set, "foo", "tokenised", false));
+    assert_that(rt, says(rt, set, "Öl", "Öl", true));
+    assert_that(rt, says(rt, set, "Öl", "", false));
     assert_that(
         rt,
         are_one_name(rt, set, "interned", "foo") == Err(Fault::TicketsSpent),

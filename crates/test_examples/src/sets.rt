@@ -37,7 +37,7 @@ fn intern<'s, R: Wait + Abort, Static: StaticTables>(
 }
 
 /// Two names; whether they are one, their order, and whether the second is the first in upper case.
-const NAMES: [(&str, &str, bool, Ordering, bool); 5] = [
+static NAMES: [(&str, &str, bool, Ordering, bool); 5] = [
     ("", "", true, Ordering::Equal, true),
     ("B\u{e4}r", "B\u{e4}R", false, Ordering::Greater, true),
     ("pear tree", "pear tree", true, Ordering::Equal, false),
@@ -103,6 +103,10 @@ fn headers_have_small_letters(rt: HostRuntime) {
         &rt,
         are_one_header(&rt, &set, "GR\u{d6}SSE", "gr\u{d6}sse", "gr\u{d6}sse"),
     );
+    let upper = "X-LONG-".repeat(rt.alloc(), 30).expect(&rt, "room");
+    let lower = "x-long-".repeat(rt.alloc(), 30).expect(&rt, "room");
+    assert_that(&rt, are_one_header(&rt, &set, &upper, &lower, &lower));
+    assert_that(&rt, set.linked(&rt) == 0);
 }
 
 /// Whether the atom is written as a value that is read back as the atom.
@@ -144,14 +148,20 @@ fn goes_through<R: Wait + Abort>(rt: &R, set: &DefaultSet, text: &str, json: &st
         && is_loaded(rt, set, "interned", &atom).is_none()
 }
 
+/// Texts, and their JSON texts.
+static SAVED: [(&str, &str); 6] = [
+    ("interned", r#""interned""#),
+    ("m\u{f6}hrensuppe", "\"m\u{f6}hrensuppe\""),
+    ("a\"b", r#""a\"b""#),
+    ("", r#""""#),
+    ("a\nb", r#""a\nb""#),
+    ("\u{1f980} and \u{1f980}", "\"\u{1f980} and \u{1f980}\""),
+];
+
 #[test]
 fn atoms_go_through_json(rt: HostRuntime) {
     let set = new_set(&rt, rt.alloc());
-    for (text, json) in &[
-        ("interned", r#""interned""#),
-        ("m\u{f6}hrensuppe", "\"m\u{f6}hrensuppe\""),
-        ("a\"b", r#""a\"b""#),
-    ] {
+    for (text, json) in &SAVED {
         assert_for(&rt, goes_through(&rt, &set, text, json), text);
     }
 }
@@ -171,7 +181,7 @@ fn priced_by_atom<R: Wait + Abort>(rt: &R, set: &DefaultSet, name: &str) -> Opti
 #[test]
 fn prices_are_found_by_text(rt: HostRuntime) {
     let set = new_set(&rt, rt.alloc());
-    for (name, price) in &[("pear tree", Some(40u32)), ("plum tree", None)] {
+    for (name, price) in &[("pear tree", Some(40)), ("plum tree", None)] {
         assert_for(&rt, priced_by_atom(&rt, &set, name) == *price, &name);
     }
 }
@@ -181,6 +191,44 @@ fn priced<R: Wait + Abort>(rt: &R, set: &DefaultSet, name: &str) -> Result<Optio
     price_of_text(rt, set, &one_price(rt, set), name)
 }
 
+/// What a list has for names that get these prices in turn, and for one without.
+fn priced_in_turn<R: Wait + Abort>(rt: &R, set: &DefaultSet, names: &[(&str, u32)]) -> bool {
+    let mut prices = no_prices(set.allocator(), keys(1).expect(rt, "keys"));
+    for (name, price) in names {
+        set_price(&mut prices, intern(rt, set, name), *price).expect(rt, "room");
+    }
+    are_priced(rt, set, &prices, names)
+}
+
+/// Whether each of these names has its price, and another none.
+fn are_priced<'s, R: Wait>(
+    rt: &R,
+    set: &'s DefaultSet,
+    prices: &Prices<'s>,
+    names: &[(&str, u32)],
+) -> bool {
+    for (name, price) in names {
+        if price_of_text(rt, set, prices, name) != Ok(Some(*price)) {
+            return false;
+        }
+    }
+    price_of_text(rt, set, prices, "m\u{f6}glicherweise") == Ok(None)
+}
+
+static PRICE_LIST: [(&str, u32); 5] = [
+    ("pear tree", 40),
+    ("m\u{f6}hrensuppe", 41),
+    ("plum", 42),
+    ("", 43),
+    ("\u{1f980}", 44),
+];
+
+#[test]
+fn many_names_have_prices(rt: HostRuntime) {
+    let set = new_set(&rt, rt.alloc());
+    assert_that(&rt, priced_in_turn(&rt, &set, &PRICE_LIST));
+}
+
 /// A set with one bucket of three tickets, which a price list for each of three look-ups spends.
 fn set_of_three_tickets(rt: &impl Abort, alloc: Global) -> DefaultSet {
     let limits = Limits::new(9, 3).expect(rt, "limits");
@@ -188,14 +236,16 @@ fn set_of_three_tickets(rt: &impl Abort, alloc: Global) -> DefaultSet {
     Set::with_buckets(alloc, limits, buckets).expect(rt, "a set")
 }
 
+static PRICED: [(&str, Option<u32>); 3] = [
+    ("pear tree", Some(40)),
+    ("plum tree", None), // dynamic
+    ("plum", None), // inline
+];
+
 #[test]
 fn prices_are_found_without_interning(rt: HostRuntime) {
     let set = set_of_three_tickets(&rt, rt.alloc());
-    for (name, price) in &[
-        ("pear tree", Some(40u32)),
-        ("plum tree", None), // dynamic
-        ("plum", None), // inline
-    ] {
+    for (name, price) in &PRICED {
         assert_for(&rt, priced(&rt, &set, name) == Ok(*price), name);
     }
 }
@@ -215,17 +265,24 @@ fn is_json_of_price<R: Wait + Abort>(
     }
 }
 
+static WRITTEN: [(&str, u32, &str); 3] = [
+    ("tea", 3, r#"{"name":"tea","price":3}"#),
+    (
+        "soup \"du jour\"",
+        0,
+        r#"{"name":"soup \"du jour\"","price":0}"#,
+    ),
+    (
+        "m\u{f6}hrensuppe",
+        4_294_967_295,
+        "{\"name\":\"m\u{f6}hrensuppe\",\"price\":4294967295}",
+    ),
+];
+
 #[test]
 fn prices_are_written_as_json(rt: HostRuntime) {
     let set = new_set(&rt, rt.alloc());
-    for (name, price, wanted) in &[
-        ("tea", 3u32, r#"{"name":"tea","price":3}"#),
-        (
-            "m\u{f6}hrensuppe",
-            4_294_967_295,
-            "{\"name\":\"m\u{f6}hrensuppe\",\"price\":4294967295}",
-        ),
-    ] {
+    for (name, price, wanted) in &WRITTEN {
         assert_for(&rt, is_json_of_price(&rt, &set, name, *price, wanted), name);
     }
 }
@@ -250,10 +307,20 @@ fn texts_in_tables(alloc: Global, names: &[&str]) -> Option<usize> {
     }
 }
 
+static FIVE: [&str; 5] = [
+    "blockquote",
+    "figcaption",
+    "m\u{f6}hrensuppe",
+    "template",
+    "fieldset",
+];
+
 #[test]
 fn tables_are_made_of_names(rt: HostRuntime) {
     let names = ["figcaption", "m\u{f6}hrensuppe"];
     assert_that(&rt, texts_in_tables(rt.alloc(), &names) == Some(2));
+    assert_that(&rt, texts_in_tables(rt.alloc(), &FIVE) == Some(5));
+    assert_that(&rt, matches!(prints_well(rt.alloc(), &FIVE, 1), Ok(true)));
     let names = ["textarea", "colgroup"]; // those that none of the first two keys places
     assert_that(&rt, texts_in_tables(rt.alloc(), &names) == Some(2));
     assert_that(
@@ -290,6 +357,7 @@ fn a_cell_is_read_by_a_share(rt: HostRuntime) {
         &rt,
         bytes_by_share(&rt, rt.alloc(), "pear tree", true).is_none(),
     );
+    assert_that(&rt, bytes_by_share(&rt, rt.alloc(), "", false) == Some(0));
 }
 
 /// Whether these two items, and no other, are taken out of the chain.
@@ -352,14 +420,18 @@ fn do_agree<R: Threads + Wait + Sync>(
         && set.linked(rt) == 0 // their atoms are gone
 }
 
+static AGREED: [(&str, &str, bool); 5] = [
+    ("tokenised", "tokenised", true),
+    ("tokenised", "tokenized", false),
+    ("m\u{f6}glicherweise", "m\u{f6}glicherweise", true),
+    ("m\u{f6}glicherweise", "moglicherweise", false),
+    ("", "", true),
+];
+
 #[test]
 fn threads_agree(rt: HostRuntime) {
     let set = new_set(&rt, rt.alloc());
-    for (left, right, wanted) in &[
-        ("tokenised", "tokenised", true),
-        ("tokenised", "tokenized", false),
-        ("", "", true),
-    ] {
+    for (left, right, wanted) in &AGREED {
         assert_for(&rt, do_agree(&rt, &set, left, right, *wanted), right);
     }
 }
@@ -375,6 +447,12 @@ fn told_of_tag<R: Wait + Abort>(rt: &R, set: &Set<Tags>, name: &str) -> (bool, b
     (tag.is_static(), is_field(&tag))
 }
 
+static TOLD: [(&str, (bool, bool)); 3] = [
+    ("textarea", (true, true)),
+    ("table", (false, false)),
+    ("sentence", (false, false)),
+];
+
 #[test]
 fn tags_are_static(rt: HostRuntime) {
     assert_that(&rt, are_checked::<Tags>());
@@ -384,11 +462,7 @@ fn tags_are_static(rt: HostRuntime) {
     );
     assert_that(&rt, !finds_all::<Tags>(&["figcaption", "sentence"]));
     let set = new_set(&rt, rt.alloc());
-    for (name, told) in &[
-        ("textarea", (true, true)),
-        ("table", (false, false)),
-        ("sentence", (false, false)),
-    ] {
+    for (name, told) in &TOLD {
         assert_for(&rt, told_of_tag(&rt, &set, name) == *told, name);
     }
 }

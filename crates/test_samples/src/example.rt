@@ -5,7 +5,7 @@ pub const EXAMPLE: &[u8] =
     b"here is a sentence of text that will be tokenised and\ninterned and some repeated tokens is of text and";
 
 /// Its words, each with the number of its places.
-pub const EXAMPLE_COUNTS: [(&str, u64); 15] = [
+pub static EXAMPLE_COUNTS: [(&str, u64); 15] = [
     ("a", 1),
     ("and", 3),
     ("be", 1),

@@ -172,7 +172,7 @@ const SECOND: u64 = 0x2_39dc;
 const THIRD: u64 = 0x3_39dc;
 
 /// Which ticket is added, which is full and which is dying to `dying`; what the pass finds, and which tickets it leaves.
-const PASSES: [(u64, u64, u64, u64, [u64; 3]); 3] = [
+static PASSES: [(u64, u64, u64, u64, [u64; 3]); 3] = [
     (SECOND, 0, 0, SECOND, [SECOND, FIRST, 0]),
     (0, THIRD, FIRST, 1, [THIRD, SECOND, 0]),
     (0, 0, 0, 0, [0, 0, 0]),

@@ -24,7 +24,7 @@ fn lends(atom: &Atom<'_, One>, text: &str) -> bool {
 }
 
 /// Texts that are inline, static and dynamic.
-const TEXTS: [&str; 4] = ["", "été", "sentence", "tokenised"];
+static TEXTS: [&str; 4] = ["", "été", "sentence", "tokenised"];
 
 #[test]
 fn texts_are_lent(rt: HostRuntime) {
@@ -60,7 +60,7 @@ fn is_written<R: Wait + Abort>(rt: &R, set: &Set<One>, name: &str, kind: &str, j
 }
 
 /// Names and kinds, and the JSON texts of such prices.
-const PRICES: [(&str, &str, &str); 3] = [
+static PRICES: [(&str, &str, &str); 3] = [
     (
         "foo",
         "sentence",

@@ -103,7 +103,7 @@ fn is_apart<N: SetName, R: Wait + Abort>(rt: &R, set: &Named<N>, text: &str, oth
 }
 
 /// Texts that are inline, static and dynamic.
-const TEXTS: [&str; 6] = ["", "été", "sentence", "tokenised", "sentences", "長さ、大きさ"];
+static TEXTS: [&str; 6] = ["", "été", "sentence", "tokenised", "sentences", "長さ、大きさ"];
 
 fn check_same<N: SetName, R: Wait + Abort>(rt: &R, set: &Named<N>) {
     for (at, text) in TEXTS.iter().enumerate() {

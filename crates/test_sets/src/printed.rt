@@ -83,7 +83,7 @@ fn check_styled<R: Wait + Abort>(rt: &R, set: &Set<One>, text: &str, wanted: &st
 }
 
 /// Texts, and what they are under the options of `styled`.
-const STYLES: [(&str, &str); 5] = [
+static STYLES: [(&str, &str); 5] = [
     ("foo", "foo|   foo|foo   | foo  |***fo****|f|foo"),
     ("été", "été|   été|été   | été  |***ét****|é|été"),
     ("", "|      |      |      |*********||  "),
@@ -139,7 +139,7 @@ fn check_json<R: Wait + Abort>(rt: &R, set: &Set<One>, text: &str, json: &str) {
 }
 
 /// Texts, and the JSON texts of their atoms.
-const JSON_TEXTS: [(&str, &str); 5] = [
+static JSON_TEXTS: [(&str, &str); 5] = [
     ("foo", "\"foo\""),
     ("", "\"\""),
     ("a\"b\\", "\"a\\\"b\\\\\""),
@@ -200,7 +200,7 @@ fn is_refused<R: Wait + Abort>(rt: &R, set: &Set<EmptyStaticAtomSet>, json: &str
 }
 
 /// JSON values that are no texts.
-const NO_TEXTS: [&str; 6] = ["null", "true", "7", "[]", "{}", "[\"interned\"]"];
+static NO_TEXTS: [&str; 6] = ["null", "true", "7", "[]", "{}", "[\"interned\"]"];
 
 #[test]
 fn json_without_text(rt: HostRuntime) {

@@ -36,7 +36,7 @@ fn is_unpacked(word: u64, text: &str) -> bool {
 }
 
 /// Texts, and their words.
-const INLINE: [(&str, u64); 8] = [
+static INLINE: [(&str, u64); 8] = [
     ("", 0x01),
     ("a", 0x6111),
     ("foo", 0x6f6f_6631),
@@ -87,7 +87,7 @@ fn prints_as(alloc: Global, text: &str, printed: &str) -> Result<bool, AllocErro
 }
 
 /// Texts, and what is printed for them.
-const PRINTED: [(&str, &str); 3] = [
+static PRINTED: [(&str, &str); 3] = [
     ("", "InlineText(\"\")"),
     ("foo", "InlineText(\"foo\")"),
     ("\0", "InlineText(\"\\0\")"),
@@ -107,7 +107,7 @@ fn is_no_word(word: u64) -> bool {
     form_of(word).is_none() && unpack_inline(word).is_none()
 }
 
-const NO_WORDS: [u64; 11] = [
+static NO_WORDS: [u64; 11] = [
     0,
     3,
     6,
@@ -170,7 +170,7 @@ fn are_greatest(holders: u64, serials: u64) -> bool {
     Limits::new(holders, serials) == Some(Limits::greatest())
 }
 
-const NO_LIMITS: [(u64, u64); 4] = [(0, 1), (1, 0), (HOLDER_BOUND, 1), (1, SERIAL_BOUND)];
+static NO_LIMITS: [(u64, u64); 4] = [(0, 1), (1, 0), (HOLDER_BOUND, 1), (1, SERIAL_BOUND)];
 
 #[test]
 fn limits(rt: HostRuntime) {
@@ -194,7 +194,7 @@ fn has_number(bits: u8, number: usize) -> bool {
         && buckets.bucket_of(0xffff_ffff_ffff_0000) == 0
 }
 
-const NUMBERS: [(u8, usize); 4] = [(0, 1), (1, 2), (12, 4096), (14, MOST_BUCKETS)];
+static NUMBERS: [(u8, usize); 4] = [(0, 1), (1, 2), (12, 4096), (14, MOST_BUCKETS)];
 
 #[test]
 fn numbers_of_buckets(rt: HostRuntime) {
@@ -228,7 +228,7 @@ fn has_entry_hash(text: &str, number: u64) -> bool {
 }
 
 /// OpenSSL's SIPHASH with 1 and 3 rounds, 16 bytes of output, and the key's 8 bytes after 8 zeros.
-const HASHES: [(&str, u64, u32, u32, u32); 9] = [
+static HASHES: [(&str, u64, u32, u32, u32); 9] = [
     ("", 0, 0x2134_935d, 0x61d9_b40d, 0x31fb_3303),
     ("a", 0, 0x3710_b5e8, 0x72fb_f647, 0x5537_0408),
     ("sentence", 0, 0xed02_e6f1, 0x6c03_c165, 0x56e9_3a5c),
@@ -365,7 +365,7 @@ fn are_perfect(
 }
 
 /// Two texts, their numbers, and whether they are perfect.
-const BORROWED: [(&str, &str, &[u64], bool); 3] = [
+static BORROWED: [(&str, &str, &[u64], bool); 3] = [
     ("sentence", "interned", &[1, 2], true),
     ("interned", "sentence", &[1, 2], false),
     ("sentence", "interned", &[1], false),
@@ -410,7 +410,7 @@ fn empty_set(rt: HostRuntime) {
 }
 
 /// Faults, their numbers, and what they print.
-const FAULTS: [(Fault, u8, &str); 4] = [
+static FAULTS: [(Fault, u8, &str); 4] = [
     (Fault::Memory, 1, "no memory"),
     (Fault::FullCount, 2, "count is full"),
     (Fault::TicketsSpent, 3, "tickets are spent"),

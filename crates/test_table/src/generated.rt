@@ -78,7 +78,7 @@ fn one_text(rt: HostRuntime) {
 }
 
 /// Lists, each with a bound and the fault that results.
-const REFUSED: [(&[&str], u32, GenFault); 5] = [
+static REFUSED: [(&[&str], u32, GenFault); 5] = [
     (&[], 1, GenFault::EmptyList),
     (
         &["sentence", "sen\ntence", "sentence"],
@@ -91,7 +91,7 @@ const REFUSED: [(&[&str], u32, GenFault); 5] = [
 ];
 
 /// What is printed for the faults.
-const FAULTS: [(GenFault, &str); 5] = [
+static FAULTS: [(GenFault, &str); 5] = [
     (GenFault::EmptyList, "no texts"),
     (GenFault::LineFeed, "text with a line feed"),
     (GenFault::Doubled, "text listed twice"),
@@ -148,7 +148,7 @@ fn is_double_refused(
 }
 
 /// Wherever the two equal texts are among a thousand: side by side, far apart, or in each other's place.
-const PLACES: [(usize, usize); 5] = [(0, 1), (0, 999), (999, 0), (499, 500), (17, 801)];
+static PLACES: [(usize, usize); 5] = [(0, 1), (0, 999), (999, 0), (499, 500), (17, 801)];
 
 #[test]
 fn doubled_texts(rt: HostRuntime) {
@@ -160,7 +160,7 @@ fn doubled_texts(rt: HostRuntime) {
 }
 
 /// A text that is listed three times, and between them others of its pair of displacements.
-const THREE_TIMES: [&str; 5] = ["sentence", "interned", "sentence", "tokenised", "sentence"];
+static THREE_TIMES: [&str; 5] = ["sentence", "interned", "sentence", "tokenised", "sentence"];
 
 #[test]
 fn text_listed_three_times(rt: HostRuntime) {
@@ -356,7 +356,7 @@ fn small_displacements_come_first(rt: HostRuntime) {
     assert_that(&rt, found == Some((2, 0)));
 }
 
-const FIVE: [&str; 5] = [
+static FIVE: [&str; 5] = [
     "sentence",
     "interned",
     "tokenised",
@@ -364,7 +364,7 @@ const FIVE: [&str; 5] = [
     "figcaption",
 ];
 
-const THREE: [&str; 3] = ["sentence", "interned", "tokenised"];
+static THREE: [&str; 3] = ["sentence", "interned", "tokenised"];
 
 /// Whether the first pair is a small one, with a first displacement above 0.
 fn are_small(tables: &Tables) -> bool {

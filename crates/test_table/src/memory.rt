@@ -1,4 +1,4 @@
-//! The bytes that a table takes. `gate/refusals/refused.py` compares the same numbers with those that an allocator is asked for.
+//! The bytes that a table takes. `clients/c/tests/counted.c` compares those of tables for C with what the allocator is asked for.
 
 use crate::hashers::keys_of;
 use crate::rows::{Plain, plain, releases, reserves};
@@ -6,7 +6,7 @@ use crate::texts::numbered_text;
 use crate::{assert_for, assert_that};
 use std::alloc::Global;
 use std::process::Abort;
-use string_cache_core::table::{Names, Table};
+use string_cache_core::table::{Call, Names, Table};
 use string_cache_core::word::{Buckets, Limits};
 
 /// The bytes of a bucket's last serial, and those of a group of nine places of both maps.
@@ -77,7 +77,7 @@ fn loses_numbered(rt: &impl Abort, alloc: Global, table: &mut Plain, number: usi
 }
 
 /// Texts, and the bytes of a table of one bucket that holds them. A short text has none, and ten texts have a second group.
-const TEXTS: [(&str, u128); 6] = [
+static TEXTS: [(&str, u128); 6] = [
     ("", BUCKET),
     ("short", BUCKET),
     ("interned", BUCKET + GROUP + UNITS + 8),
@@ -116,7 +116,7 @@ fn memory_of_a_table_as_it_is_made(rt: HostRuntime) {
 }
 
 /// Numbers of texts, and the groups that a table has for them: twice as many each time. With room for 576, it doesn't ask for more until then.
-const GROUPS: [(usize, u32); 6] = [
+static GROUPS: [(usize, u32); 6] = [
     (1, 1),
     (9, 1),
     (10, 2),
@@ -215,9 +215,77 @@ fn memory_of_room_beside_texts(rt: HostRuntime) {
     assert_that(&rt, one_bucket_takes_with_room(&rt, alloc, 150_000, 32_768));
 }
 
+/// Whether a table that is full of this many texts has this many groups once it has room for one more, and also, once they are gone, when room for no
+/// text is made.
+fn full_table_has_room(rt: &impl Abort, alloc: Global, number: usize, groups: u32) -> bool {
+    let mut table = one_bucket(rt, alloc);
+    let empty = empty_bytes(1, groups);
+    let is_right = interns_numbered(rt, alloc, &mut table, number)
+        && reserves(&mut table, 1, Ok(()))
+        && takes(&table, empty.saturating_add(15 * number as u128))
+        && loses_numbered(rt, alloc, &mut table, number)
+        && reserves(&mut table, 0, Ok(()))
+        && takes(&table, empty);
+    drop(table);
+    is_right
+}
+
+#[test]
+fn memory_of_room_beside_a_full_table(rt: HostRuntime) {
+    assert_that(&rt, full_table_has_room(&rt, rt.alloc(), 576, 128));
+}
+
+fn clones(table: &mut Plain, word: u64) -> bool {
+    table.clone_held(word) == Ok(Some(word))
+}
+
+/// Whether a run clones the word.
+fn runs_a_clone(table: &mut Plain, word: u64) -> bool {
+    let calls = [Call::Clone(word)];
+    table.run(&calls).is_ok()
+}
+
+/// Whether the word can be cloned, by itself and in a run, and the table takes this many bytes after each.
+fn takes_as_it_clones(table: &mut Plain, word: u64, bytes: u128) -> bool {
+    clones(table, word) && takes(table, bytes) && runs_a_clone(table, word) && takes(table, bytes)
+}
+
+/// Whether a table that lost this many texts takes as much as before as the word of another one is cloned.
+fn cloning_keeps_room(rt: &impl Abort, alloc: Global, number: usize, groups: u32) -> bool {
+    let mut table = one_bucket(rt, alloc);
+    let bytes = empty_bytes(1, groups).saturating_add(9);
+    let is_right = interns_numbered(rt, alloc, &mut table, number)
+        && loses_numbered(rt, alloc, &mut table, number)
+        && interns(&mut table, "tokenised");
+    let word = word_of(&table, "tokenised").unwrap_or(0);
+    let is_right = is_right && takes_as_it_clones(&mut table, word, bytes);
+    drop(table);
+    is_right
+}
+
+#[test]
+fn memory_stays_when_words_are_cloned(rt: HostRuntime) {
+    assert_that(&rt, cloning_keeps_room(&rt, rt.alloc(), 576, 64));
+}
+
 /// Whether room for no text can be made in a table, which then takes this many bytes.
 fn takes_no_more(table: &mut Plain, bytes: u128) -> bool {
     reserves(table, 0, Ok(())) && takes(table, bytes)
+}
+
+/// Whether a table that lost all of this many texts has as many groups as before when room for no text is made.
+fn emptied_table_keeps_groups(rt: &impl Abort, alloc: Global, number: usize, groups: u32) -> bool {
+    let mut table = one_bucket(rt, alloc);
+    let is_right = interns_numbered(rt, alloc, &mut table, number)
+        && loses_numbered(rt, alloc, &mut table, number)
+        && takes_no_more(&mut table, empty_bytes(1, groups));
+    drop(table);
+    is_right
+}
+
+#[test]
+fn memory_stays_when_room_for_no_text_is_made(rt: HostRuntime) {
+    assert_that(&rt, emptied_table_keeps_groups(&rt, rt.alloc(), 576, 64));
 }
 
 /// Whether a table that is made with room for no text takes what its buckets do, and one more text its own group.
@@ -253,7 +321,7 @@ fn keeps_cleared_groups(
 }
 
 /// Of a table that is full, that lost some texts, and that lost all.
-const CLEARED: [(usize, usize, u32); 5] = [
+static CLEARED: [(usize, usize, u32); 5] = [
     (9, 0, 1),
     (9, 9, 1),
     (576, 0, 64),

@@ -4,7 +4,7 @@ use crate::{assert_for, assert_that};
 use text_forms::numbers::{number_after, number_of, short_number_of};
 
 /// Texts, and the numbers that they spell.
-const NUMBERS: [(&str, Option<u64>); 12] = [
+static NUMBERS: [(&str, Option<u64>); 12] = [
     ("0", Some(0)),
     ("7", Some(7)),
     ("10", Some(10)),

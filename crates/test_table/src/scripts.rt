@@ -31,7 +31,7 @@ fn is_bad_at(alloc: Global, script: &str, line: u64) -> bool {
 
 /// A text is the rest of its line as it is, the last line may lack its line feed, and numbers reach their bounds. A text of 7 bytes is inline and
 /// takes no bucket, so a byte that got lost would show.
-const GOOD: [(&str, &str); 16] = [
+static GOOD: [(&str, &str); 16] = [
     ("", ""),
     ("limits 1 1", ""),
     ("limits 9223372036854775807 281474976710655\n", ""),
@@ -157,7 +157,7 @@ fn bad_lines(rt: HostRuntime) {
 }
 
 /// The first bad line is named.
-const NAMED: [(&str, u64); 19] = [
+static NAMED: [(&str, u64); 19] = [
     ("\n", 1),
     ("\n\n", 1),
     ("\n1 link", 1),

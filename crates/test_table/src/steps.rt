@@ -269,7 +269,7 @@ fn an_undecided_pass_stays(rt: HostRuntime) {
 }
 
 // Each number of bits, with its number of buckets.
-const BUCKETS: [(u8, u32); 15] = [
+static BUCKETS: [(u8, u32); 15] = [
     (0, 1),
     (1, 2),
     (2, 4),

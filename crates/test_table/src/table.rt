@@ -265,7 +265,7 @@ fn a_bucket_gives_no_more_tickets_than_its_limit(rt: HostRuntime) {
 }
 
 /// Numbers of bits, and the first word of "interned" for each: its hash is 0x556a_6dba_06a4_7210, whose low bits are its bucket.
-const WORDS: [(u8, u64); 15] = [
+static WORDS: [(u8, u64); 15] = [
     (0, 0x1_0000),
     (1, 0x1_0000),
     (2, 0x1_0000),

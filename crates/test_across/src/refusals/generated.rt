@@ -9,7 +9,7 @@ use table_generator::tables::{GenFault, Tables};
 use test_refusals::at_last;
 
 /// More than five texts: if a search for so few finds no tables, it must show that there are none.
-const TEXTS: [&str; 7] = [
+static TEXTS: [&str; 7] = [
     "here",
     "sentence",
     "text",
@@ -36,7 +36,7 @@ fn tables_are_made(rt: HostRuntime) {
 }
 
 /// Two texts are equal: that is reported whatever request is refused.
-const DOUBLED: [&str; 7] = [
+static DOUBLED: [&str; 7] = [
     "here",
     "sentence",
     "text",

@@ -50,7 +50,7 @@ fn interned_at_last<'s, R: Wait + Print>(
 }
 
 /// Texts that are in the bucket of one that goes.
-const OTHERS: [&str; 4] = ["tokenised", "sentence", "repeated", "forgotten"];
+static OTHERS: [&str; 4] = ["tokenised", "sentence", "repeated", "forgotten"];
 
 fn set_of_one_bucket<R: Abort>(rt: &R, alloc: Global) -> Set<EmptyStaticAtomSet> {
     let buckets = Buckets::new(0).expect(rt, "bits");

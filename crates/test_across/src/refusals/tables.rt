@@ -257,7 +257,7 @@ fn calls<R: Abort>(rt: &R, alloc: Global) -> Vec<Call> {
 }
 
 /// By OpenSSL's SipHash the bucket of "tokenised" is 0xe77.
-const REPLIES: [TableReply; 6] = [
+static REPLIES: [TableReply; 6] = [
     TableReply::Word(FIRST),
     TableReply::Word(FIRST),
     TableReply::Given,
@@ -386,7 +386,7 @@ fn steps<R: Abort>(rt: &R, alloc: Global) -> Vec<(u32, Step)> {
     steps
 }
 
-const STEP_REPLIES: [StepReply; 8] = [
+static STEP_REPLIES: [StepReply; 8] = [
     StepReply::Taken,
     StepReply::No,
     StepReply::Linked {

@@ -1,5 +1,7 @@
 //! Calls that ask for no memory: `gate/refusals/refused.py` refuses every request between the two lines, and requires that there is none.
 
+mod texts;
+
 use crate::assert_that;
 use crate::begun::{intern, intern_all, new_set, new_table, table_keys, word_in};
 use crate::refusals::named;

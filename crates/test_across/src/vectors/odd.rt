@@ -14,7 +14,7 @@ use test_samples::{One, Short, Twice};
 
 /// Words with tags that no form has, a length above 7, bytes after the text, bytes that aren't UTF-8, low bits next to a static tag, and a ticket
 /// without a serial.
-const NO_WORDS: [u64; 11] = [
+static NO_WORDS: [u64; 11] = [
     0,
     3,
     6,
@@ -29,7 +29,7 @@ const NO_WORDS: [u64; 11] = [
 ];
 
 /// Numbers and lengths that make no inline word.
-const NOT_PACKED: [(u64, u8); 2] = [(0x80_c000, 2), (0xff00, 1)];
+static NOT_PACKED: [(u64, u8); 2] = [(0x80_c000, 2), (0xff00, 1)];
 
 fn is_no_word(word: u64) -> bool {
     form_of(word).is_none()
@@ -82,7 +82,7 @@ fn words_of_each_form(rt: HostRuntime) {
 }
 
 /// Holders and serials that limits can't have.
-const OUT_OF_RANGE: [(u64, u64); 6] = [
+static OUT_OF_RANGE: [(u64, u64); 6] = [
     (0, 1),
     (1, 0),
     (1 << 63, 1),
@@ -92,7 +92,7 @@ const OUT_OF_RANGE: [(u64, u64); 6] = [
 ];
 
 /// Holders and serials that limits can have.
-const IN_RANGE: [(u64, u64); 3] = [(1, 1), (1, (1 << 48) - 1), ((1 << 63) - 1, (1 << 48) - 1)];
+static IN_RANGE: [(u64, u64); 3] = [(1, 1), (1, (1 << 48) - 1), ((1 << 63) - 1, (1 << 48) - 1)];
 
 /// The holders and serials of limits that are made of these.
 fn made_of(holders: u64, serials: u64) -> Option<(u64, u64)> {

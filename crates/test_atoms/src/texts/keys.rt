@@ -67,7 +67,7 @@ fn count_words<S: SharedSet, R: Wait + Abort>(
 }
 
 /// The words of the text below, in their order, and how often each occurs.
-const COUNTS: [(&str, u64); 4] = [("a", 2), ("b", 1), ("interned", 3), ("sentence", 1)];
+static COUNTS: [(&str, u64); 4] = [("a", 2), ("b", 1), ("interned", 3), ("sentence", 1)];
 
 /// Whether the map has these words, this often, and no others.
 fn has_hashed<S: SharedSet, R: Wait + Abort>(

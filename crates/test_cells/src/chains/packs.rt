@@ -41,7 +41,7 @@ fn closes(count: u64, index: usize, left: u64, ends: u64) -> bool {
 }
 
 /// The number of items, the place that is taken out, the digits that are left, and those that end.
-const GAPS: [(u64, usize, u64, u64); 9] = [
+static GAPS: [(u64, usize, u64, u64); 9] = [
     (2, 0, 1, 21),
     (2, 1, 2, 12),
     (3, 0, 21, 321),

@@ -67,8 +67,40 @@ const WORDS_BEYOND_ASCII: &str = "naïveté ετυμολογία\u{2003}naïvet�
 
 const TABLE_BEYOND_ASCII: &str = "key 0\ndisp 0 0\natom 81128fc18b9ccd76 café au lait\n";
 
-/// Each table text after the first differs in one place from one for which the answer is yes.
-const ROWS: [Row; 12] = [
+/// With NUL, carriage returns, and characters of four bytes.
+const ODD: &str = "a\0b\r\na\0b 🦀🦀\r\n";
+
+const ODD_TABLE: &str = "key 0\ndisp 0 0\natom bac472592057768e a\0b 🦀🦀\r\n";
+
+/// White space, some of it beyond ASCII.
+const BLANK: &str = " \t\r\n\u{2003}\r\n";
+
+/// Each table text after the first row of `check` differs in one place from one for which the answer is yes.
+static ROWS: [Row; 21] = [
+    (
+        "words",
+        ODD,
+        "Not seen the word \"a\0b\" before
+Seen the word \"a\0b\" 1 times
+Not seen the word \"🦀🦀\" before
+",
+    ),
+    ("words", BLANK, ""),
+    ("count 1", ODD, "2 a\0b\n1 🦀🦀\n"),
+    ("count 3", ODD, "2 a\0b\n1 🦀🦀\n"),
+    ("count 3", BLANK, ""),
+    (
+        "replay",
+        "1 intern a\0b 🦀🦀\r\n1 link\n1 leave\n",
+        "taken\nlinked e1 serial 1\nleft\nheld e1 1\n",
+    ),
+    ("generate 0 1", "a\0b 🦀🦀\r\n", ODD_TABLE),
+    ("check", ODD_TABLE, "yes\n"),
+    (
+        "generate 18446744073709551615 4294967295",
+        "sentence\n",
+        "key 18446744073709551615\ndisp 0 0\natom aa225b84bf184531 sentence\n",
+    ),
     (
         "words",
         WORDS_BEYOND_ASCII,
@@ -286,7 +318,7 @@ fn two_megabytes_of_words(rt: HostRuntime) {
     assert_that(&rt, are_many_told(&rt, rt.alloc(), long, 2_000_000));
     assert_that(
         &rt,
-        are_many_told(&rt, rt.alloc(), ("word", 5_000), 100_000),
+        are_many_told(&rt, rt.alloc(), ("word", 70_000), 1_000_000),
     );
 }
 

@@ -323,7 +323,7 @@ fn program_counts_words(rt: HostRuntime) {
 }
 
 /// The hash is that of OpenSSL's SipHash.
-const TABLE_TEXT: &[u8] = b"key 0\ndisp 0 0\natom ed02e6f16c03c165 sentence\n";
+static TABLE_TEXT: &[u8] = b"key 0\ndisp 0 0\natom ed02e6f16c03c165 sentence\n";
 
 #[test]
 fn program_makes_tables(rt: HostRuntime) {

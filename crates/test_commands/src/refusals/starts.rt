@@ -121,6 +121,17 @@ fn program_counts(rt: HostRuntime) {
     );
 }
 
+#[test]
+fn program_counts_by_seven(rt: HostRuntime) {
+    line_is_run(
+        &rt,
+        rt.alloc(),
+        "count 7",
+        (EXAMPLE, EXAMPLE_COUNTS),
+        &[NO_WORKER],
+    );
+}
+
 /// The fault of two workers.
 fn fault_of_two<R: Threads + Wait + Sync>(
     rt: &R,

@@ -1,6 +1,8 @@
 //! What is asked of a table by the tests of several modules. The table ends here, and not in each test, so that they are proved in less time.
 
-use super::compared::{check_forms, check_keywords, check_three_names, check_two_names};
+use super::compared::{
+    check_forms, check_keywords, check_three_names, check_two_names, check_what_was_held,
+};
 use super::kept::{Plain, filled};
 use super::words::{
     check_coming_and_going, check_first_bytes, check_handing_on, check_lending, check_look_ups,
@@ -23,6 +25,7 @@ pub enum Question {
     FirstBytes,
     Lending,
     Prices,
+    WhatWasHeld,
 }
 
 /// Checks what the table returns.
@@ -39,6 +42,7 @@ fn check_table<R: Abort>(rt: &R, alloc: Global, table: &mut Plain, question: Que
         Question::FirstBytes => check_first_bytes(rt, table),
         Question::Lending => check_lending(rt, table),
         Question::Prices => check_prices(rt, alloc, table),
+        Question::WhatWasHeld => check_what_was_held(rt, table),
     }
 }
 

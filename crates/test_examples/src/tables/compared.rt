@@ -9,7 +9,7 @@ use std::process::Abort;
 use test_samples::keys;
 
 /// Two names, and whether they are the same.
-const PAIRS: [(&str, &str, bool); 7] = [
+static PAIRS: [(&str, &str, bool); 7] = [
     ("while", "while", true),
     ("while", "where", false),
     ("continue", "continue", true),
@@ -77,6 +77,51 @@ pub fn check_three_names<R: Abort>(rt: &R, table: &mut Plain) {
 #[test]
 fn three_names_are_compared(rt: HostRuntime) {
     check(&rt, rt.alloc(), &[], Question::ThreeNames);
+}
+
+/// How many hold a text. `None` if nobody does, or it is inline.
+fn holders_of(table: &Plain, text: &str) -> Option<u64> {
+    table.holders(table.get(text)?)
+}
+
+/// Whether the table holds "continue" once and "interned" twice, and nothing else.
+fn is_as_before(table: &Plain) -> bool {
+    table.entries() == 2
+        && holders_of(table, "continue") == Some(1)
+        && holders_of(table, "interned") == Some(2)
+}
+
+/// Whether that is so once names of which the table holds some, or all, were compared.
+fn stays_as_it_is(table: &mut Plain, first: &str, second: &str) -> bool {
+    is_keyword(table, first, second).is_ok()
+        && is_as_before(table)
+        && two_come_and_go(table, first, second, true).is_ok()
+        && is_as_before(table)
+        && two_come_and_go(table, first, second, false).is_ok()
+        && is_as_before(table)
+        && are_one_name(table, first, second, first).is_ok()
+        && is_as_before(table)
+}
+
+static COMPARED: [(&str, &str); 5] = [
+    ("continue", "continue"),
+    ("continue", "interned"),
+    ("interned", "internal"),
+    ("internal", "continue"),
+    ("while", "continue"),
+];
+
+pub fn check_what_was_held<R: Abort>(rt: &R, table: &mut Plain) {
+    for (first, second) in &COMPARED {
+        assert_for(rt, stays_as_it_is(table, first, second), &(first, second));
+    }
+}
+
+/// What was held before names are compared is held by as many after it.
+#[test]
+fn compared_names_are_held_as_before(rt: HostRuntime) {
+    let names = ["continue", "interned", "interned"];
+    check(&rt, rt.alloc(), &names, Question::WhatWasHeld);
 }
 
 /// Whether the word of a text is a ticket. `None` if it is neither that nor inline.

@@ -134,6 +134,11 @@ fn is_full_at(table: &mut Plain, holders: u64) -> bool {
     if !two_come(table, holders > 1) {
         return false;
     }
+    for _ in 0..70 {
+        if !two_come(table, holders > 1) {
+            return false;
+        }
+    }
     for _ in 0..holders {
         if table.intern("pear tree").is_err() {
             return false;
@@ -163,7 +168,7 @@ fn holds_first(table: &Plain) -> bool {
 }
 
 /// More names than there are places in a group.
-const MORE: [&str; 12] = ["plum tree"; 12];
+static MORE: [&str; 12] = ["plum tree"; 12];
 
 /// Whether "interned" is held once room was made, which takes more than a group of places, and isn't once the table started over.
 fn has_room_and_starts_over(table: &mut Plain) -> bool {

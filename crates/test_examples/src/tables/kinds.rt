@@ -93,6 +93,29 @@ fn length(program: &mut Program, function: &str) -> Option<usize> {
     program.length_of(name)
 }
 
+static FUNCTIONS: [&str; 5] = [
+    "function_1",
+    "function_2",
+    "function_3",
+    "function_4",
+    "function_5",
+];
+
+/// Whether a program takes these functions of a file beyond ASCII.
+fn takes_functions(program: &mut Program) -> bool {
+    for name in &FUNCTIONS {
+        if program.declare("quelle/größe.rt", name).is_err() {
+            return false;
+        }
+    }
+    program.functions() == 5
+}
+
+#[test]
+fn many_functions_are_declared(rt: HostRuntime) {
+    assert_that(&rt, of_program(rt.alloc(), takes_functions));
+}
+
 fn tells_lengths(program: &mut Program) -> bool {
     length(program, "main_function") == Some(13) && length(program, "m\u{f6}glich") == Some(8)
 }

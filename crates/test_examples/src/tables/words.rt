@@ -27,8 +27,10 @@ fn is_read_back(alloc: Global, table: &mut Table<One>, name: &str) -> bool {
     }
 }
 
+static READ_BACK: [&str; 5] = ["", "table", "sentence", "tokenised", "m\u{f6}glicherweise"];
+
 fn check_reading_back<R: Abort>(rt: &R, alloc: Global, table: &mut Table<One>) {
-    for name in &["", "table", "sentence", "tokenised", "m\u{f6}glicherweise"] {
+    for name in &READ_BACK {
         assert_for(rt, is_read_back(alloc, table, name), name);
     }
 }
@@ -43,13 +45,15 @@ fn knows(table: &Plain, name: &str) -> bool {
     is_known(table, name)
 }
 
+static LOOKED_UP: [(&str, bool); 4] = [
+    ("pear tree", true),
+    ("plum tree", false),
+    ("plum", true), // inline
+    ("m\u{f6}glicherweise", true),
+];
+
 pub fn check_look_ups<R: Abort>(rt: &R, table: &Plain) {
-    for (name, wanted) in &[
-        ("pear tree", true),
-        ("plum tree", false),
-        ("plum", true), // inline
-        ("m\u{f6}glicherweise", true),
-    ] {
+    for (name, wanted) in &LOOKED_UP {
         assert_for(rt, knows(table, name) == *wanted, name);
     }
 }
@@ -124,13 +128,15 @@ fn begins_with(table: &Plain, name: &str) -> Option<u8> {
     first_byte(table, table.get(name)?)
 }
 
+static FIRST_BYTES: [(&str, Option<u8>); 4] = [
+    ("pear tree", Some(0x70)),
+    ("\u{f6}rtlich gebunden", Some(0xc3)),
+    ("plum", Some(0x70)),
+    ("", None),
+];
+
 pub fn check_first_bytes<R: Abort>(rt: &R, table: &Plain) {
-    for (name, wanted) in &[
-        ("pear tree", Some(0x70u8)),
-        ("\u{f6}rtlich gebunden", Some(0xc3)),
-        ("plum", Some(0x70)),
-        ("", None),
-    ] {
+    for (name, wanted) in &FIRST_BYTES {
         assert_for(rt, begins_with(table, name) == *wanted, name);
     }
     assert_that(rt, first_byte(table, 0).is_none()); // no word
@@ -150,8 +156,10 @@ fn lends(table: &Plain, name: &str, text: Option<&str>) -> bool {
     }
 }
 
+static LENT: [(&str, Option<&str>); 2] = [("pear tree", Some("pear tree")), ("plum", None)];
+
 pub fn check_lending<R: Abort>(rt: &R, table: &Plain) {
-    for (name, text) in &[("pear tree", Some("pear tree")), ("plum", None)] {
+    for (name, text) in &LENT {
         assert_for(rt, lends(table, name, *text), &name);
     }
 }
@@ -174,13 +182,15 @@ fn priced(alloc: Global, table: &Plain, known: &str, name: &str) -> Option<u32> 
     price_of(table, &prices, name)
 }
 
+static PRICES: [(&str, &str, Option<u32>); 4] = [
+    ("pear tree", "pear tree", Some(40)),
+    ("pear tree", "plum tree", None), // not held
+    ("pear tree", "plum", None),
+    ("plum", "plum", Some(40)), // inline
+];
+
 pub fn check_prices<R: Abort>(rt: &R, alloc: Global, table: &Plain) {
-    for (known, name, price) in &[
-        ("pear tree", "pear tree", Some(40u32)),
-        ("pear tree", "plum tree", None), // not held
-        ("pear tree", "plum", None),
-        ("plum", "plum", Some(40)), // inline
-    ] {
+    for (known, name, price) in &PRICES {
         assert_for(rt, priced(alloc, table, known, name) == *price, name);
     }
 }

@@ -80,7 +80,7 @@ fn leaves(
 type Goes = (u64, [u64; 3]);
 
 /// In the order in which they go.
-const GOES: [[Goes; 4]; 3] = [
+static GOES: [[Goes; 4]; 3] = [
     [
         (5, [9, 8, 7]),
         (9, [8, 7, 6]),

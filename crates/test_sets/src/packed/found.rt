@@ -49,7 +49,7 @@ fn check_listed<S: StaticTables>(rt: &impl Abort, count: u32, rows: &[(u32, &str
     }
 }
 
-const DISHES: [(u32, &str, u64); 5] = [
+static DISHES: [(u32, &str, u64); 5] = [
     (0, "minestrone", 0x89ec_7cae_c7b8_7cfe),
     (1, "味噌汁", 0xa6f9_169d_0958_f636),
     (2, "soup \"du jour\" \\ bread", 0xa88f_6f8b_8dd4_70e4),
@@ -74,7 +74,7 @@ fn is_element(alloc: Global, number: u32) -> Result<bool, AllocError> {
     Ok(is_static::<Elements>(name.as_str()))
 }
 
-const ELEMENTS: [(u32, &str, u64); 3] = [
+static ELEMENTS: [(u32, &str, u64); 3] = [
     (0, "name_of_element_756", 0xbc35_0901_271a_74f3),
     (500, "name_of_element_932", 0x1fdb_45ed_82b7_507a),
     (999, "name_of_element_232", 0xb9c3_8e80_b32b_6760),

@@ -44,7 +44,7 @@ fn text_of_another_program(rt: HostRuntime) {
 }
 
 /// Texts, and whether each is the table text of perfect tables.
-const TABLE_TEXTS: [(&str, bool); 32] = [
+static TABLE_TEXTS: [(&str, bool); 32] = [
     ("key 0\ndisp 0 0\natom 1122334455667788 sentence\n", true),
     (
         "key 0\ndisp 0 0\natom 1122334455667788 sentence\natom 1122334455667788 sentence\n",

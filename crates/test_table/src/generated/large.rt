@@ -30,7 +30,7 @@ fn two_thousand_texts(rt: HostRuntime) {
 
 /// Short lists, each with a key under which some pair needs a first displacement of some hundreds, the fifth one of 5,831; of eight texts, the last
 /// second displacement that is tried, and the last first one. The last key is large.
-const LATE: [(usize, u64); 8] = [
+static LATE: [(usize, u64); 8] = [
     (9, 41),
     (13, 92),
     (14, 18),

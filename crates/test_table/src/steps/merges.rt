@@ -13,7 +13,7 @@ use string_cache_core::word::{Buckets, Limits};
 const TEXT: &str = "interned";
 
 /// What each of the parties 1 and 2 does, in order.
-const INTERNING: [Do; 5] = [
+static INTERNING: [Do; 5] = [
     Do::Intern(TEXT),
     Do::Link(true),
     Do::Add(1),
@@ -22,7 +22,7 @@ const INTERNING: [Do; 5] = [
 ];
 
 /// What party 3 does, in order.
-const GIVING: [Do; 2] = [Do::Give(1), Do::Give(1)];
+static GIVING: [Do; 2] = [Do::Give(1), Do::Give(1)];
 
 #[derive(Clone, Copy)]
 enum Party {

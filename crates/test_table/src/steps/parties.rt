@@ -11,7 +11,7 @@ use string_cache_core::word::SERIAL_BOUND;
 
 const TEXT: &str = "interned";
 
-const PARTIES: [u32; 3] = [0, 7, u32::MAX];
+static PARTIES: [u32; 3] = [0, 7, u32::MAX];
 
 /// How many entries there are in the end.
 const ENTRIES: u32 = 120;
