@@ -1,7 +1,9 @@
 // What the header promises, as a program of tests.
+#include <algorithm>
 #include <atomic>
 #include <iostream>
 #include <map>
+#include <sstream>
 #include <thread>
 #include <unordered_map>
 #include <vector>
@@ -156,6 +158,74 @@ void names_stand_in_order() {
     CHECK(throws<std::out_of_range>([&] { names.at(999); }));
 }
 
+// Symbols are compared as their words are.
+bool agree(const Symbol &one, const Symbol &other) {
+    const std::uint64_t left = one.word(), right = other.word();
+    return (one == other) == (left == right) && (one != other) == (left != right) && (one < other) == (left < right);
+}
+
+// Words of short texts that differ in one byte of eight, also in the upper half alone, and of long ones.
+void all_bits_of_symbols_are_compared() {
+    Interner names(9, 9, 0);
+    std::vector<Symbol> symbols{names.intern("aaaaaaa"), names.intern("aaaaaa"), names.intern("a longer name"), names.intern("another long name")};
+    for (std::size_t at = 0; at < 7; ++at) {
+        std::string text = "aaaaaaa";
+        text[at] = 'b';
+        symbols.push_back(names.intern(text));
+    }
+    for (const Symbol &one : symbols) {
+        CHECK(std::all_of(symbols.begin(), symbols.end(), [&one](const Symbol &other) { return agree(one, other); }));
+    }
+}
+
+void a_symbol_prints_as_its_text() {
+    Interner names;
+    std::ostringstream out;
+    out << names.intern("a longer name") << '|' << names.intern("\xc3\xa9") << '|' << names.intern("");
+    CHECK(out.str() == "a longer name|\xc3\xa9|");
+}
+
+void each_text_comes_with_its_holders() {
+    Interner names;
+    const Symbol first = names.intern("a longer name"), copy = first, second = names.intern("another long name");
+    std::vector<std::uint64_t> found;
+    names.for_each([&found](const std::string &, std::uint64_t holders) { found.push_back(holders); });
+    CHECK((found == std::vector<std::uint64_t>{2, 1}));
+}
+
+// Each limit is the one that it is for, also under a key.
+void limits_are_kept(Interner names) {
+    const Symbol name = names.intern("a longer name"), copy = name;
+    CHECK(throws<Refused>([&] { const Symbol third = name; }) && throws<Refused>([&] { names.get("a longer name"); }));
+    CHECK(throws<Refused>([&] { names.intern("another long name"); }));
+}
+
+void each_limit_is_its_own() {
+    limits_are_kept(Interner(2, 1, 0));
+    limits_are_kept(Interner(2, 1, 0, sc_key{1, 2}));
+}
+
+// By how much the memory grows where 1000 texts go and come again: that hangs on the key (tests/counted.c of the C library).
+std::uint64_t growth_under(sc_key key) {
+    Interner names(9, 99, 12, key);
+    std::vector<std::optional<Symbol>> held;
+    for (int at = 0; at < 1000; ++at) {
+        held.push_back(names.intern("text number " + std::to_string(at)));
+    }
+    const std::uint64_t full = names.memory();
+    for (int at = 0; at < 1000; ++at) {
+        held[at * 7 % 1000].reset();
+    }
+    for (int at = 0; at < 1000; ++at) {
+        held[at] = names.intern("text number " + std::to_string(at));
+    }
+    return names.memory() - full;
+}
+
+void a_given_key_is_the_interners() {
+    CHECK(growth_under(sc_key{1, 2}) == 0 && growth_under(sc_key{1, 30}) == 128 * 496 && growth_under(sc_key{1, 47}) == 128 * 496);
+}
+
 void symbols_are_keys() {
     Interner names;
     std::unordered_map<Symbol, int> counts;
@@ -256,6 +326,11 @@ const Test tests[] = {
     {"a_symbol_that_was_moved_from_says_so", a_symbol_that_was_moved_from_says_so},
     {"threads_read_one_interner", threads_read_one_interner},
     {"names_stand_in_order", names_stand_in_order},
+    {"all_bits_of_symbols_are_compared", all_bits_of_symbols_are_compared},
+    {"a_symbol_prints_as_its_text", a_symbol_prints_as_its_text},
+    {"each_text_comes_with_its_holders", each_text_comes_with_its_holders},
+    {"each_limit_is_its_own", each_limit_is_its_own},
+    {"a_given_key_is_the_interners", a_given_key_is_the_interners},
     {"symbols_are_keys", symbols_are_keys},
     {"refusals_are_thrown", refusals_are_thrown},
     {"memory_is_told", memory_is_told},

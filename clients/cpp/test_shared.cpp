@@ -4,6 +4,7 @@
 #include <cstdlib>
 #include <iostream>
 #include <set>
+#include <sstream>
 #include <thread>
 #include <unordered_map>
 #include <vector>
@@ -142,6 +143,13 @@ void a_move_assignment_gives_the_old_holder_back() {
     CHECK(names.size() == 2 && !names.get("the second name").has_value() && name.text() == "the third name" && last.word() == 0);
 }
 
+void a_symbol_prints_as_its_text() {
+    SharedInterner names;
+    std::ostringstream out;
+    out << names.intern("a longer name") << '|' << names.intern("\xc3\xa9") << '|' << names.intern("");
+    CHECK(out.str() == "a longer name|\xc3\xa9|");
+}
+
 // As the tests of the shared interner for C and Rust have them.
 void words_are_those_of_each_language() {
     SharedInterner names;
@@ -212,6 +220,7 @@ void memory_has_its_shards() {
 void refusals_are_thrown() {
     SharedInterner names(0, 2, 2, 0);
     const SharedSymbol name = names.intern("a longer name");
+    CHECK(throws<std::invalid_argument>([&] { names.get("\xff"); }));
     CHECK(throws<std::invalid_argument>([&] { names.intern("\xff\xfe"); }) && throws<std::invalid_argument>([&] { names.get("not UTF-8 \xff"); }));
     const SharedSymbol copy = name;
     CHECK(throws<Refused>([&] { const SharedSymbol third = name; }) && throws<Refused>([&] { names.get("a longer name"); }));
@@ -334,6 +343,7 @@ const Test tests[] = {
     {"equal_texts_are_equal_symbols", equal_texts_are_equal_symbols},
     {"a_text_goes_with_its_last_symbol", a_text_goes_with_its_last_symbol},
     {"a_move_assignment_gives_the_old_holder_back", a_move_assignment_gives_the_old_holder_back},
+    {"a_symbol_prints_as_its_text", a_symbol_prints_as_its_text},
     {"words_are_those_of_each_language", words_are_those_of_each_language},
     {"two_texts_never_share_a_symbol", two_texts_never_share_a_symbol},
     {"all_bits_of_symbols_are_compared", all_bits_of_symbols_are_compared},

@@ -312,6 +312,40 @@ class Ending(unittest.TestCase):
         for limits in ((0, 1, 0), (1, 0, 0), (1 << 63, 1, 0), (1, 1 << 48, 0), (1, 1, 15), (-1, 1, 0), (1, 1, 256)):
             self.assertRaises(ValueError, Interner, *limits)
 
+    def test_a_full_int_is_refused_and_held(self) -> None:
+        with Interner(holders=1) as names:
+            word = names.intern("a longer name")
+            with self.assertRaises(Refused) as full:
+                names.hold(word)
+            self.assertEqual((full.exception.status, names.holders(word)), (2, 1))
+
+    def test_what_is_raised_goes_on(self) -> None:
+        with self.assertRaises(LookupError):
+            with Interner() as names:
+                raise LookupError
+        self.assertRaises(Closed, names.intern, "a longer name")
+
+    def test_an_interner_that_was_never_made_ends(self) -> None:
+        with mock.patch.object(sys, "unraisablehook") as hook:
+            self.assertRaises(TypeError, Interner, holders=2.0)
+            del_one = Interner.__new__(Interner)
+            del del_one
+            gc.collect()
+            hook.assert_not_called()
+
+    def test_a_given_key_is_the_interners(self) -> None:
+        """By how much the memory grows where 1000 texts go and come again: that hangs on the key (clients/c/tests/counted.c)."""
+        for high, growth in ((2, 0), (30, 128 * 496), (47, 128 * 496)):
+            with Interner(key=high << 64 | 1) as names:
+                texts = [f"text number {at}" for at in range(1000)]
+                words = [names.intern(text) for text in texts]
+                full = names.memory()
+                for at in range(1000):
+                    names.release(words[at * 7 % 1000])
+                for text in texts:
+                    names.intern(text)
+                self.assertEqual(names.memory() - full, growth)
+
     def test_a_refusal_has_its_status_by_a_former_name_too(self) -> None:
         refused = Refused(3)
         with self.assertWarnsRegex(DeprecationWarning, "status") as warned:

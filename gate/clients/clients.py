@@ -38,7 +38,7 @@ WRAPPED = {"heap": ("malloc", "realloc"), "memory": ("malloc", "realloc", "free"
 LOCKS = ("pthread_mutex_init", "pthread_mutex_destroy")
 WRAPPED["shared_memory"] = (*WRAPPED["memory"], *LOCKS)
 WRAPPED["readers"] = WRAPPED["memory"]
-WRAPPED["keys"] = ("getrandom", "sc_table_open", "sc_table_open_with")
+WRAPPED["keys"] = ("getrandom", "sc_table_open", "sc_table_open_with", "sc_word_pack", "sc_word_unpack")
 SHARED = C / "string_cache_shared.c"
 # The calls of the library that tests/touched.c stands before.
 TOUCHED = ("intern", "get", "clone", "give", "holds", "holders", "text", "entries", "text_bytes", "memory", "clear")

@@ -153,7 +153,26 @@ def script_archive(place):
         ran = subprocess.run([SCRIPT, place.room / "out", archive], capture_output=True, text=True, check=False)
         if ran.returncode != 1 or not re.search(rf"^c_library: .*{why}", ran.stderr, re.MULTILINE) or str(archive) not in ran.stderr:
             raise Failed(f"of {text!r} it says, with status {ran.returncode}: {ran.stderr}")
+        if (place.room / "out").exists():
+            raise Failed(f"of {text!r} it leaves a folder")
     return len(rows)
+
+
+def script_place(place):
+    """A folder that can't be made ends the script before the proof of minutes, and with CDPATH exported it finds its own."""
+    ran_at = place.room / "ran_at"
+    environment = stand_in(place.room / "bin", "rt", f"pwd > {shlex.quote(str(ran_at))}\nexit 1")
+    (place.room / "file").write_text("", encoding="ascii")
+    for words in (["file/out"], ["--prefix", "file/out"]):
+        ran = subprocess.run([SCRIPT, *words], capture_output=True, text=True, cwd=place.room, env=environment, check=False)
+        if ran.returncode != 1 or "file" not in ran.stderr or ran_at.exists():
+            raise Failed(f"of {' '.join(words)} it says, with status {ran.returncode}: {ran.stderr}")
+    top = SCRIPT.parent.parent
+    words = [os.path.relpath(SCRIPT, top.parent), place.room / "out"]
+    subprocess.run(words, capture_output=True, cwd=top.parent, env={**environment, "CDPATH": str(top.parent)}, check=False)
+    if ran_at.read_text(encoding="utf-8").strip() != str(top / "crates" / "string_cache_c"):
+        raise Failed(f"with CDPATH it proves {ran_at.read_text(encoding='utf-8')}")
+    return 3
 
 
 def python_with_setuptools():
@@ -228,6 +247,6 @@ def install_cargo(place):
 def install_rows():
     """What is tested of an installation, by its name."""
     found = {"install pkg-config": install_pkg_config, "install cmake": install_cmake, "install manual": install_pages}
-    found.update({"install help": script_help, "install progress": script_progress, "install archive": script_archive})
+    found.update({"install help": script_help, "install progress": script_progress, "install archive": script_archive, "install place": script_place})
     found.update({"install pip": install_pip, "install without wheel": install_without_wheel, "install cargo": install_cargo})
     return found

@@ -55,6 +55,7 @@ MANY = {
     "refusals::programs::many_words_in_a_table": 100,
     "refusals::starts::counts_of_many_by_four": 5,
     "refusals::starts::program_counts": 2,
+    "refusals::starts::program_counts_by_seven": 7,
 }
 
 

@@ -67,6 +67,9 @@ static void print(struct names *names, const struct usage *usage) {
         free(text);
         room = 2 * len;
         text = malloc(room);
+        if (text == NULL) {
+            fail("there is no memory");
+        }
         number = sc_text(&names->table, usage->word, text, room, &len);
     }
     if (number != SC_OK) {
@@ -78,8 +81,9 @@ static void print(struct names *names, const struct usage *usage) {
 int main(int count, char **arguments) {
     const struct source source = read_source(count > 1 ? arguments[1] : NULL);
     struct names names = {SC_CLOSED_TABLE, {NULL, 0, 0}, NULL, 0, 0};
-    if (sc_open(&names.table) != SC_OK) {
-        fail("there is no memory");
+    const sc_status opened = sc_open(&names.table);
+    if (opened != SC_OK) {
+        fail(sc_strerror(opened));
     }
     struct lexer lexer = lexer_of(source.text, source.len);
     for (struct token token = next_token(&lexer); token.kind != TOKEN_END; token = next_token(&lexer)) {

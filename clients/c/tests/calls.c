@@ -159,6 +159,9 @@ static void words_tell_of_themselves(void) {
     CHECK(sc_form(UINT64_C(0x500000002), &parts) == SC_OK && parts.kind == SC_STATIC && parts.index == 5);
     CHECK(sc_form(UINT64_C(7) << 16 | 9 << 2, &parts) == SC_OK && parts.kind == SC_TICKET && parts.serial == 7 && parts.bucket == 9);
     CHECK(sc_form(3, &parts) == SC_NOT_A_WORD && parts.serial == 7);
+    /* The greatest of each, and 0 for what a kind doesn't have. */
+    CHECK(sc_form(UINT64_MAX - 3, &parts) == SC_OK && parts.serial == (UINT64_C(1) << 48) - 1 && parts.bucket == 16383 && parts.index == 0);
+    CHECK(sc_form(UINT64_C(0xffffffff00000002), &parts) == SC_OK && parts.index == UINT32_MAX && parts.serial == 0 && parts.bucket == 0);
 }
 
 /* Hashes as another program has them, which was written from the description of SipHash. */
@@ -208,26 +211,37 @@ static void many_texts_are_kept(void) {
 
 enum { LARGE = 300000 };
 
-static void check_large(const char text[LARGE]) {
+static void check_text(const char *text, size_t text_len) {
     sc_table table = opened();
     static char room[LARGE];
     uint64_t word = 0;
     size_t len = 0;
     bool perfect = true;
-    CHECK(sc_intern(&table, text, LARGE, &word) == SC_OK);
-    CHECK(sc_text(&table, word, room, LARGE, &len) == SC_OK && len == LARGE && memcmp(room, text, LARGE) == 0);
-    CHECK(sc_check_tables(text, LARGE, &perfect) == SC_OK && !perfect);
+    CHECK(sc_intern(&table, text, text_len, &word) == SC_OK);
+    CHECK(sc_text(&table, word, room, LARGE, &len) == SC_OK && len == text_len && memcmp(room, text, text_len) == 0);
+    CHECK(sc_check_tables(text, text_len, &perfect) == SC_OK && !perfect);
     sc_close(&table);
 }
 
 static void large_texts_are_taken(void) {
     static char text[LARGE];
     memset(text, 'a', LARGE);
-    check_large(text);
+    check_text(text, LARGE);
     for (size_t at = 0; at < LARGE; at += 2) {
         memcpy(text + at, "\xc3\xa9", 2);
     }
-    check_large(text);
+    check_text(text, LARGE);
+}
+
+static void texts_of_several_lines_are_taken(void) {
+    static char text[LARGE];
+    for (size_t at = 0; at < LARGE; at++) {
+        text[at] = at % 9 == 8 ? '\n' : 'a';
+    }
+    static const size_t lengths[] = {10, 100, 1000, 10000, 100000};
+    for (size_t at = 0; at < sizeof lengths / sizeof lengths[0]; at++) {
+        check_text(text, lengths[at]);
+    }
 }
 
 static void numbers_have_texts(void) {
@@ -244,6 +258,24 @@ static void numbers_have_texts(void) {
         }
     }
     CHECK(strcmp(sc_strerror(UINT32_MAX), "unknown status") == 0 && sizeof(sc_number) == sizeof(sc_status));
+    CHECK(strcmp(sc_strerror(256), "unknown status") == 0 && strcmp(sc_strerror(65536 + SC_CLOSED), "unknown status") == 0);
+    static const struct {
+        sc_status status;
+        const char *text;
+    } rows[] = {
+        {SC_FULL_COUNT, "the text has as many holders as the limits allow"},
+        {SC_TICKETS_SPENT, "the bucket of the text has no ticket left"},
+        {SC_NOT_UTF8, "the bytes are not UTF-8"},
+        {SC_NOT_HELD, "the table does not hold it"},
+        {SC_CLOSED, "the table is closed"},
+        {SC_NOT_CLOSED, "the table is open already"},
+        {SC_TOO_SMALL, "the text is longer than the room"},
+        {SC_NOT_LIMITS, "a limit or the number of buckets is out of range"},
+        {SC_NOT_A_WORD, "it is no such word"},
+    };
+    for (size_t at = 0; at < sizeof rows / sizeof rows[0]; at++) {
+        CHECK(strcmp(sc_strerror(rows[at].status), rows[at].text) == 0);
+    }
 }
 
 static const test tests[] = {
@@ -262,6 +294,7 @@ static const test tests[] = {
     {"tables_are_checked", tables_are_checked},
     {"many_texts_are_kept", many_texts_are_kept},
     {"large_texts_are_taken", large_texts_are_taken},
+    {"texts_of_several_lines_are_taken", texts_of_several_lines_are_taken},
     {"numbers_have_texts", numbers_have_texts},
 };
 

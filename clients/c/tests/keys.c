@@ -15,6 +15,7 @@ static const uint64_t GREATEST_HOLDERS = (UINT64_C(1) << 63) - 1, GREATEST_TICKE
 static sc_key drawn[MOST_KEYS], opened_under[MOST_KEYS];
 static size_t draws, opens;
 static int interrupts, refusals, short_draws;
+static size_t fewer; /* of the tables, how many were opened with other limits than the greatest */
 
 ssize_t __wrap_getrandom(void *at, size_t len, unsigned flags);
 uint32_t __wrap_sc_table_open(sc_table *table, sc_key key);
@@ -48,6 +49,23 @@ ssize_t __wrap_getrandom(void *at, size_t len, unsigned flags) {
     return (ssize_t)len;
 }
 
+static size_t nulls; /* pointers that were handed on */
+
+uint32_t __wrap_sc_word_pack(const uint8_t *text, size_t len, uint64_t *word);
+uint32_t __wrap_sc_word_unpack(uint64_t word, uint8_t *room, size_t room_len, size_t *len);
+uint32_t __real_sc_word_pack(const uint8_t *text, size_t len, uint64_t *word);
+uint32_t __real_sc_word_unpack(uint64_t word, uint8_t *room, size_t room_len, size_t *len);
+
+uint32_t __wrap_sc_word_pack(const uint8_t *text, size_t len, uint64_t *word) {
+    nulls += text == NULL;
+    return __real_sc_word_pack(text, len, word);
+}
+
+uint32_t __wrap_sc_word_unpack(uint64_t word, uint8_t *room, size_t room_len, size_t *len) {
+    nulls += room == NULL;
+    return __real_sc_word_unpack(word, room, room_len, len);
+}
+
 static void note(sc_key key) {
     if (opens < MOST_KEYS) {
         opened_under[opens] = key;
@@ -62,6 +80,7 @@ uint32_t __wrap_sc_table_open(sc_table *table, sc_key key) {
 
 uint32_t __wrap_sc_table_open_with(sc_table *table, uint64_t holders, uint64_t serials, uint8_t bucket_bits, sc_key key) {
     note(key);
+    fewer += holders != GREATEST_HOLDERS || serials != GREATEST_TICKETS;
     return __real_sc_table_open_with(table, holders, serials, bucket_bits, key);
 }
 
@@ -70,7 +89,7 @@ static bool is_key(sc_key one, sc_key other) {
 }
 
 static void begin(void) {
-    draws = opens = 0;
+    draws = opens = fewer = 0;
     interrupts = refusals = short_draws = 0;
 }
 
@@ -94,6 +113,21 @@ static void each_shard_has_a_key_of_its_own(void) {
         CHECK(is_key(opened_under[at], drawn[at]));
     }
     sc_shared_close(&shared);
+}
+
+static void the_usual_limits_are_the_greatest(void) {
+    begin();
+    sc_shared shared = SC_CLOSED_SHARED;
+    CHECK(sc_shared_open(&shared) == SC_OK && opens == 64 && fewer == 0);
+    sc_shared_close(&shared);
+}
+
+/* No text and no room at null: the exports ask for pointers that aren't. */
+static void no_null_is_handed_on(void) {
+    uint64_t word = 0;
+    size_t len = 77;
+    nulls = 0;
+    CHECK(sc_pack(NULL, 0, &word) == SC_OK && sc_unpack(word, NULL, 0, &len) == SC_OK && len == 0 && nulls == 0);
 }
 
 static void a_refused_draw_opens_nothing(void) {
@@ -171,6 +205,8 @@ int main(void) {
     static const test tests[] = {
         {"each_table_is_opened_under_a_key_of_its_own", each_table_is_opened_under_a_key_of_its_own},
         {"each_shard_has_a_key_of_its_own", each_shard_has_a_key_of_its_own},
+        {"the_usual_limits_are_the_greatest", the_usual_limits_are_the_greatest},
+        {"no_null_is_handed_on", no_null_is_handed_on},
         {"a_refused_draw_opens_nothing", a_refused_draw_opens_nothing},
         {"an_interrupted_draw_is_made_again", an_interrupted_draw_is_made_again},
         {"an_open_table_draws_nothing", an_open_table_draws_nothing},

@@ -60,9 +60,11 @@ static void a_request_for_room_is_refused(void) {
     uint64_t word = word_of(&table, "a longer text");
     before_refusal = 0;
     CHECK(sc_reserve(&table, 5000) == SC_NO_MEMORY);
+    before_refusal = 0;
+    CHECK(sc_reserve(&table, (size_t)1 << 32) == SC_NO_MEMORY); /* the number isn't cut */
     before_refusal = -1;
     CHECK(sc_entries(&table) == 1 && has_text(&table, word, "a longer text"));
-    CHECK(sc_reserve(&table, 5000) == SC_OK && sc_entries(&table) == 1);
+    CHECK(sc_reserve(&table, 5000) == SC_OK && sc_reserve(&table, 150000) == SC_OK && sc_entries(&table) == 1);
     sc_close(&table);
 }
 

@@ -232,6 +232,7 @@ static void wrong_pointers_and_bytes_are_refused(void) {
     CHECK(word == 77 && len == 77);
     CHECK(sc_shared_text(&shared, held, room, 12, &len) == SC_TOO_SMALL && len == 13 && sc_shared_text(&shared, held, NULL, 0, &len) == SC_TOO_SMALL);
     CHECK(sc_shared_intern(&shared, NULL, 0, &word) == SC_OK && word == 1 && sc_shared_entries(&shared) == 1);
+    CHECK(sc_shared_text(&shared, UINT64_C(0x63626131), room, 2, &len) == SC_TOO_SMALL && len == 3);
     sc_shared_close(&shared);
 }
 

@@ -224,6 +224,46 @@ fn a_given_key_changes_no_symbol() {
     assert_eq!(Interner::with_key(1, 1, 15, [1, 2]).err(), Some(Fault::NotLimits));
 }
 
+/// By how much the memory grows where 1,000 names go and come again: that hangs on the key (`clients/c/tests/counted.c`).
+fn growth_under(key: [u64; 2]) -> u64 {
+    let mut names = Interner::with_key(9, 99, 12, key).expect("an interner");
+    let texts: Vec<String> = (0..1000).map(|at| format!("text number {at}")).collect();
+    let symbols: Vec<Symbol> = texts.iter().map(|text| intern(&mut names, text)).collect();
+    let full = names.memory();
+    assert!((0..1000).all(|at| names.release(symbols[at * 7 % 1000])));
+    for text in &texts {
+        intern(&mut names, text);
+    }
+    names.memory() - full
+}
+
+#[test]
+fn a_given_key_is_the_interners() {
+    assert_eq!([[1, 2], [1, 30], [1, 47]].map(growth_under), [0, 128 * 496, 128 * 496]);
+}
+
+#[test]
+fn limits_under_a_key_are_kept() {
+    let mut names = Interner::with_key(2, 1, 0, [1, 2]).expect("an interner");
+    let symbol = intern(&mut names, "a longer name");
+    assert_eq!((names.hold(symbol), names.hold(symbol)), (Ok(()), Err(Fault::FullCount)));
+    assert_eq!(names.intern("another long name"), Err(Fault::TicketsSpent));
+}
+
+#[test]
+fn each_fault_prints_what_it_is() {
+    let rows = [
+        (Fault::Memory, "there is no memory"),
+        (Fault::FullCount, "the name has as many holders as the limits allow"),
+        (Fault::TicketsSpent, "the bucket of the name has no ticket left"),
+        (Fault::NotHeld, "the interner holds no such symbol"),
+        (Fault::NotLimits, "a limit or the number of buckets is out of range"),
+        (Fault::Random, "the system gave no random bytes"),
+        (Fault::Other(99), "the library answered 99"),
+    ];
+    assert!(rows.iter().all(|(fault, text)| fault.to_string() == *text));
+}
+
 #[test]
 fn room_that_no_machine_has_is_refused() {
     let mut names = new_interner();

@@ -107,7 +107,9 @@ fn two_names_never_share_a_symbol() {
 fn any_symbol_may_be_asked_for() {
     let names = SharedInterner::<()>::with_limits(3, 9, 9, 4).expect("an interner");
     let held = intern(&names, "a longer name");
-    for other in (0..64).filter_map(|shift| Symbol::from_word(held.symbol().word() ^ 1 << shift)) {
+    // Also with one bit alone, as a shard without a ticket; those of a short name are held.
+    let words = (0..64).flat_map(|shift| [held.symbol().word() ^ 1 << shift, 1 << shift]).filter(|&word| word != 1);
+    for other in words.filter_map(Symbol::from_word) {
         let mut locked = names.lock_symbol(other);
         assert!(!locked.is_held() && locked.text().is_none() && locked.holders().is_none() && !locked.release());
         assert_eq!(locked.hold(), Err(Fault::NotHeld));

@@ -49,6 +49,8 @@ fn a_text_is_kept() {
         assert_eq!(atom, DefaultAtom::from(text.to_owned()));
         assert_eq!(atom, DefaultAtom::from(Cow::Borrowed(text)));
         assert!(atom == *text && *text == atom && atom == text.to_owned());
+        let other = "z".repeat(text.len());
+        assert!(text.is_empty() || (atom != *other && *other != atom && atom != other));
     }
     assert_eq!(DefaultAtom::default(), DefaultAtom::from(""));
 }
@@ -133,6 +135,7 @@ fn case_is_changed() {
     assert_eq!(&*mixed.to_ascii_uppercase(), "CAMELCASE AND é");
     assert_eq!(&*mixed.to_ascii_lowercase(), "camelcase and é");
     assert_eq!(DefaultAtom::from("already").to_ascii_lowercase(), DefaultAtom::from("already"));
+    assert_eq!(&*DefaultAtom::from("Écoles ET É").to_ascii_lowercase(), "Écoles et É");
     assert!(mixed.eq_ignore_ascii_case(&"cAMELcASE AND é".into()) && !mixed.eq_ignore_ascii_case(&"camelcase and É".into()));
     assert!(mixed.eq_str_ignore_ascii_case("CAMELCASE AND é"));
 }

@@ -2,7 +2,7 @@
 
 use std::borrow::{Borrow, Cow};
 use std::fmt::{Debug, Display};
-use std::hash::Hash;
+use std::hash::{Hash, Hasher};
 use std::ops::Deref;
 use std::panic::{RefUnwindSafe, UnwindSafe};
 use std::str::FromStr;
@@ -46,6 +46,29 @@ fn an_atom_has_no_others() {
     assert!(!has!(DefaultAtom: From<&'static String>) && !has!(DefaultAtom: From<Box<str>>) && !has!(DefaultAtom: FromStr));
     assert!(!has!(Atom<Nothing>: Clone) && !has!(Atom<Nothing>: PartialEq) && !has!(Atom<Nothing>: Debug));
     assert!(!has!(EmptyStaticAtomSet: Clone) && !has!(EmptyStaticAtomSet: Debug));
+}
+
+/// What is written to a hasher.
+#[derive(Default)]
+struct Written(Vec<u8>);
+
+impl Hasher for Written {
+    fn write(&mut self, bytes: &[u8]) {
+        self.0.extend(bytes);
+    }
+    fn finish(&self) -> u64 {
+        0
+    }
+}
+
+/// A number of as many bits as `get_hash` gives.
+#[test]
+fn an_atom_hashes_as_its_number() {
+    for text in ["", "short", "a longer name"] {
+        let (atom, mut written) = (DefaultAtom::from(text), Written::default());
+        atom.hash(&mut written);
+        assert_eq!(written.0, atom.get_hash().to_ne_bytes());
+    }
 }
 
 #[test]
