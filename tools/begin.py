@@ -13,6 +13,7 @@ usage: tools/begin.py set|named|table FOLDER     FOLDER is new, or empty
 """
 
 import argparse
+import shlex
 import shutil
 import sys
 from pathlib import Path
@@ -88,7 +89,8 @@ def begin_kind(kind, folder):
     stdin = " < stdin" if (TOP / "crates" / example / "stdin").is_file() else ""
     page = (HEAD + WITH_EXAMPLE + HOW).format(example=example, does=does, stdin=stdin)
     begin(in_order(crates_listed(), [example]), handles, page, folder)
-    return f"cd {folder / 'crates' / example} && rt try{stdin}     runs the example without proofs; rt run proves all first"
+    place = shlex.quote(str(folder / "crates" / example))
+    return f"cd {place} && rt try{stdin}     runs the example without proofs; rt run proves all first"
 
 
 def begin_crates(names, folder):
@@ -113,7 +115,10 @@ def main():
         parser.error("either a kind or --crates")
     if given.folder.exists() and (not given.folder.is_dir() or any(given.folder.iterdir())):
         sys.exit(f"begin: {given.folder} isn't empty")
-    print(begin_kind(given.kind, given.folder) if given.kind else begin_crates(given.crates.split(","), given.folder))
+    try:
+        print(begin_kind(given.kind, given.folder) if given.kind else begin_crates(given.crates.split(","), given.folder))
+    except OSError as why:
+        sys.exit(f"begin: {why}")
 
 
 if __name__ == "__main__":

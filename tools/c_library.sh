@@ -11,10 +11,12 @@
 # With an ARCHIVE that `rt lib` made before, nothing is proved. With DESTDIR all files of an installation go below that folder, and say nothing of
 # it. What is installed may be moved as a whole.
 set -euo pipefail
+unset CDPATH # with which `cd` prints where it goes
 
 top=$(cd "$(dirname "$0")/.." && pwd)
 room=$(mktemp -d)
-trap 'rm -rf "$room"' EXIT
+made= # the target, if it was made here and nothing was built for it yet
+trap 'rm -rf "$room"; [[ -z $made ]] || rmdir "$made"' EXIT
 C=$top/clients/c
 
 usage() {
@@ -90,6 +92,7 @@ build() {
     # shellcheck disable=SC2086
     ${CC:-cc} -shared ${CFLAGS:-} -Wl,-soname,"$1" -Wl,--exclude-libs,ALL -Wl,-z,defs -Wl,--gc-sections \
         -o "$room/libstring_cache.so" "$room/string_cache.o" "$room/heap.o" "$archive" || fault "the exports can't be linked from $archive"
+    made=
 }
 
 # Writes the file by which pkg-config finds the library: where the folders are, as seen from the file.
@@ -182,6 +185,14 @@ target=$1
 archive=${2:-}
 major=$(part MAJOR)
 version=$major.$(part MINOR).$(part PATCH)
+if [[ $kind == install ]]; then
+    [[ $target == /* || -z ${DESTDIR:-} ]] || target=/$target
+    target=${DESTDIR:-}$target
+fi
+if [[ ! -d $target ]]; then
+    mkdir -p "$target" # before a proof of minutes
+    made=$target
+fi
 if [[ -n $archive ]]; then
     see_archive
     echo "c_library: nothing was proved: the archive is $archive"
@@ -191,6 +202,5 @@ fi
 if [[ $kind == fill ]]; then
     fill "$target"
 else
-    [[ $target == /* || -z ${DESTDIR:-} ]] || target=/$target
-    install_all "${DESTDIR:-}$target"
+    install_all "$target"
 fi

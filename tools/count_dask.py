@@ -18,7 +18,7 @@ from importlib.util import find_spec
 from pathlib import Path
 
 import merge_counts
-from count_many import unsized
+from count_many import ends_a_line, unsized
 
 
 def line_at(text, place):
@@ -38,6 +38,14 @@ def lines_between(file, size, start, end):
         first, last = line_at(text, start), line_at(text, end)
         text.seek(first)
         return text.read(last - first)
+
+
+def goes_on(files):
+    """What is to be said of the first file that goes on in the next one, which dask would cut there, or None."""
+    for file in files[:-1]:
+        if file.stat().st_size and not ends_a_line(file):
+            return f"{file} doesn't end with a line feed, and another one comes behind it"
+    return None
 
 
 def count_piece(program, *piece):
@@ -86,7 +94,7 @@ def main():
 
     cluster = {"address": given.scheduler} if given.scheduler else {"n_workers": 2, "threads_per_worker": 1, "dashboard_address": None}
     try:
-        if wrong := next(filter(None, map(unsized, given.files)), None):
+        if wrong := next(filter(None, map(unsized, given.files)), None) or goes_on(given.files):
             raise OSError(f"count_dask: {wrong}")
         with Client(**cluster) as client, tempfile.TemporaryDirectory(prefix="count-dask-") as room:
             files = count(client, given, Path(room))

@@ -59,7 +59,7 @@ def added(lines, parts):
         if not line.endswith(b"\n"):
             raise BadCounts(f"cut off in its last line: {line[:80]!r}")
         word, number = parts(line)
-        if not (word and number.isdigit()):
+        if not (number.isdigit() and word.split() == [word]):
             raise BadCounts(f"no line of a word and its number: {line[:80]!r}")
         if len(number) > MOST_DIGITS:
             raise BadCounts(f"a number of {len(number)} digits, which nothing counts up to: {word[:80]!r} has it")

@@ -106,6 +106,12 @@ def counts_as_the_whole(texts):
 TEXT = TEXTS["many words"][0]
 
 
+def file_comes_twice(room):
+    """The same file goes on in another one, and ends the text."""
+    begins, ends = written(room, [b"a inter", b"ned b\n"])
+    return same(counted([begins, ends, begins]), whole(b"a interned b\na inter"))
+
+
 def file_is_missing(room):
     return failed(counted([*written(room, [TEXT]), room / "absent"]), "absent")
 
@@ -371,6 +377,9 @@ def dask(room, python):
     bad = written(room, TEXTS["not UTF-8 in one piece"])
     if wrong := failed(ran([python, DASK, "--atoms", ATOMS, "--block", "20000", *bad]), "atoms: input is not UTF-8"):
         return wrong
+    cut = written(room, [b"a inter", b"ned b\n"])
+    if wrong := failed(ran([python, DASK, "--atoms", ATOMS, *cut]), "doesn't end with a line feed"):
+        return wrong
     os.mkfifo(room / "fifo")
     if wrong := failed(ran([python, DASK, "--atoms", ATOMS, room / "fifo"]), "fifo is no regular file"):
         return wrong
@@ -420,6 +429,8 @@ def rows():
     yield "merge: a file that is cut off", merge_refuses(b"1 a\n", b"1 b\n2 c", why=b"cut off")
     yield "merge: a file that isn't in order", merge_refuses(b"1 b\n1 a\n", why=b"order")
     yield "merge: a file of something else", merge_refuses(b"one a\n", why=b"no line")
+    yield "merge: a line of two words", merge_refuses(b"1 a b\n", why=b"no line")
+    yield "merge: a line that ends with a return", merge_refuses(b"1 a\r\n", why=b"no line")
     yield "merge: a number of too many digits", merge_refuses(b"%b a\n" % (b"7" * 5000), why=b"merge_counts: a number of 5000 digits")
     yield "merge: by the script, and as a map-reduce job", merges_in_two_ways
     yield "merge: more files than may be open", merge_with_few_files_open
@@ -437,7 +448,7 @@ def rows():
         return
     for name, texts in TEXTS.items():
         yield f"text: {name}", counts_as_the_whole(texts)
-    for row in (file_is_missing, file_is_a_folder, file_is_unreadable, file_is_a_pipe, option_is_wrong):
+    for row in (file_comes_twice, file_is_missing, file_is_a_folder, file_is_unreadable, file_is_a_pipe, option_is_wrong):
         yield f"pieces: {row.__name__.replace('_', ' ')}", row
     for row in (job_fails, job_fails_once):
         yield f"pieces: {row.__name__.replace('_', ' ')}", row
