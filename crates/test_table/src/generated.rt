@@ -78,7 +78,7 @@ fn one_text(rt: HostRuntime) {
 }
 
 /// Lists, each with a bound and the fault that results.
-static REFUSED: [(&[&str], u32, GenFault); 5] = [
+static REFUSED: [(&[&str], u32, GenFault); 7] = [
     (&[], 1, GenFault::EmptyList),
     (
         &["sentence", "sen\ntence", "sentence"],
@@ -86,6 +86,8 @@ static REFUSED: [(&[&str], u32, GenFault); 5] = [
         GenFault::LineFeed,
     ),
     (&["sentence", "interned", "sentence"], 1, GenFault::Doubled),
+    (&["été", "interned", "été"], 1, GenFault::Doubled),
+    (&["a\0NUL", "a", "a\0NUL"], 1, GenFault::Doubled),
     (&["sentence"], 0, GenFault::NotPlaced),
     (&["sentence", "interned", "sentence"], 0, GenFault::Doubled),
 ];

@@ -31,7 +31,7 @@ fn is_bad_at(alloc: Global, script: &str, line: u64) -> bool {
 
 /// A text is the rest of its line as it is, the last line may lack its line feed, and numbers reach their bounds. A text of 7 bytes is inline and
 /// takes no bucket, so a byte that got lost would show.
-static GOOD: [(&str, &str); 16] = [
+static GOOD: [(&str, &str); 18] = [
     ("", ""),
     ("limits 1 1", ""),
     ("limits 9223372036854775807 281474976710655\n", ""),
@@ -50,6 +50,11 @@ static GOOD: [(&str, &str); 16] = [
     ("1 intern  2345678", "taken\n"),
     ("1 intern 1234567 ", "taken\n"),
     ("1 intern 1234567\r\n", "taken\n"),
+    ("1 intern 123456\0", "no\n"),
+    (
+        "1 intern 1234567\0\n1 link\n2 intern 長さ、大きさ\n2 link",
+        "taken\nlinked e1 serial 1\ntaken\nlinked e2 serial 1\nheld e1 1\nheld e2 1\n",
+    ),
     (
         "1 intern interned\r\n1 link\n1 leave\n1 intern interned\n1 add e1\n",
         "taken\nlinked e1 serial 1\nleft\ntaken\nno\nheld e1 1\n",
@@ -157,7 +162,7 @@ fn bad_lines(rt: HostRuntime) {
 }
 
 /// The first bad line is named.
-static NAMED: [(&str, u64); 19] = [
+static NAMED: [(&str, u64); 21] = [
     ("\n", 1),
     ("\n\n", 1),
     ("\n1 link", 1),
@@ -168,6 +173,8 @@ static NAMED: [(&str, u64); 19] = [
     ("limits 1 1\nlimits 1 1\n", 2),
     ("1 link\nlimits 1 1\n", 2),
     ("1 link\n1 link\r\n1 link\n", 2),
+    ("1 link\n1 link\0\n1 link\n", 2),
+    ("1 intern 123456\0\n1 intern 長さ、大きさ\n1 jump", 3),
     ("limits 1 1\n1 link\n0 link", 3),
     ("buckets 1\nbuckets 1\n", 2),
     ("1 link\nbuckets 1\n", 2),

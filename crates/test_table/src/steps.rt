@@ -320,6 +320,45 @@ fn one_bucket_for_all_texts(rt: HostRuntime) {
     check_in(&rt, rt.alloc(), Limits::greatest(), buckets, &rows, &[1, 1]);
 }
 
+// The other text's entry is looked at before a new one is linked, and then a sweep leaves of three what is held.
+#[test]
+fn a_sweep_of_three_entries(rt: HostRuntime) {
+    let rows = [
+        (1, Do::Intern("interned"), Taken),
+        (1, Do::Link(true), linked(1, 0x1_0000)),
+        (1, Do::Leave, Left),
+        (1, Do::Intern("tokenised"), Taken),
+        (1, Do::Unlink(1), Kept),
+        (1, Do::Link(true), linked(2, 0x2_0000)),
+        (1, Do::Leave, Left),
+        (1, Do::Intern("sentence"), Taken),
+        (1, Do::Unlink(2), Kept),
+        (1, Do::Unlink(1), Kept),
+        (1, Do::Link(true), linked(3, 0x3_0000)),
+        (1, Do::Leave, Left),
+        (1, Do::Give(1), Given { left: 0 }),
+        (1, Do::Give(3), Given { left: 0 }),
+        (2, Do::Sweep(0), Taken),
+        (2, Do::Unlink(3), Unlinked),
+        (2, Do::Unlink(2), Kept),
+        (2, Do::Leave, No),
+        (2, Do::Unlink(1), Unlinked),
+        (2, Do::Leave, Left),
+        (2, Do::Free(1), Freed),
+        (2, Do::Free(2), No),
+        (2, Do::Free(3), Freed),
+    ];
+    let buckets = Buckets::new(0).expect(&rt, "bits");
+    check_in(
+        &rt,
+        rt.alloc(),
+        Limits::greatest(),
+        buckets,
+        &rows,
+        &[0, 1, 0],
+    );
+}
+
 #[test]
 fn most_buckets_keep_texts_apart(rt: HostRuntime) {
     let buckets = Buckets::new(14).expect(&rt, "bits");

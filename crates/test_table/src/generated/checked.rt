@@ -44,7 +44,7 @@ fn text_of_another_program(rt: HostRuntime) {
 }
 
 /// Texts, and whether each is the table text of perfect tables.
-static TABLE_TEXTS: [(&str, bool); 32] = [
+static TABLE_TEXTS: [(&str, bool); 33] = [
     ("key 0\ndisp 0 0\natom 1122334455667788 sentence\n", true),
     (
         "key 0\ndisp 0 0\natom 1122334455667788 sentence\natom 1122334455667788 sentence\n",
@@ -94,6 +94,7 @@ static TABLE_TEXTS: [(&str, bool); 32] = [
     ),
     ("key 0\ndisp 0 0\natom 1122334455667788 \n", true),
     ("key 0\ndisp 0 0\natom 1122334455667788\n", false),
+    ("key 0\ndisp 0 0\natom 1122334455667788 a\0NUL\n", true),
     // A text may have spaces and a carriage return.
     (
         "key 0\ndisp 0 0\natom 1122334455667788  two words\r\n",

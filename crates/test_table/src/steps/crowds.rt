@@ -1,8 +1,8 @@
-//! Two hundred parties at once, an entry that is found dying again and again, many entries of one bucket, and a long text.
+//! Two hundred parties at once, an entry that is found dying again and again, many entries of one bucket, a long text, and odd ones.
 
 use super::{Do, Plain, check, linked, new_world, push, run, world_with};
-use crate::assert_that;
 use crate::texts::numbered_text;
+use crate::{assert_for, assert_that};
 use StepReply::{Dying, Freed, Given, Kept, Left, Taken, Unlinked};
 use atomic_steps::steps::{Step, StepReply};
 use std::alloc::{AllocError, Global};
@@ -121,4 +121,28 @@ fn long_text_is_linked(rt: HostRuntime) {
     let text = "né€𝄞".repeat(rt.alloc(), 20_000).expect(&rt, "a text");
     let mut world = new_world(&rt, rt.alloc());
     assert_that(&rt, is_linked(&mut world, text) == Ok(true));
+}
+
+/// Texts with NUL, a line feed and a carriage return, and one beyond ASCII: none is inline.
+static ODD_TEXTS: [&str; 4] = [
+    "a\0NUL and more",
+    "\0\0\0\0\0\0\0\0",
+    "two\r\nlines",
+    "長さ、大きさ",
+];
+
+/// Whether the text is linked in a new world.
+fn is_linked_alone(rt: &impl Abort, alloc: Global, text: &str) -> Result<bool, Fault> {
+    is_linked(&mut new_world(rt, alloc), String::from_str(alloc, text)?)
+}
+
+#[test]
+fn odd_texts_are_linked(rt: HostRuntime) {
+    for text in &ODD_TEXTS {
+        assert_for(
+            &rt,
+            is_linked_alone(&rt, rt.alloc(), text) == Ok(true),
+            text,
+        );
+    }
 }
