@@ -47,6 +47,8 @@ pub enum Call {
     Long,
     /// What may not.
     Unasked,
+    /// What is refused once the tickets are spent.
+    Spent,
     /// What interns a text beside so many, for which there is no room.
     Beside(u64),
 }
@@ -228,6 +230,31 @@ fn is_given_again<N: SetName, R: Wait + Print>(rt: &R, set: &Named<N>, atom: Wor
     is_given && is_cloned && is_right && set.linked(rt) == 0
 }
 
+/// What the set returns for the text, in each way to pass it.
+fn refused_thrice<N: SetName, R: Wait>(
+    rt: &R,
+    set: &Named<N>,
+    text: String,
+    value: &Value,
+) -> [Option<Fault>; 3] {
+    [
+        NamedAtom::from_str_in(rt, set, SMALL).err(),
+        NamedAtom::from_string_in(rt, set, text).err(),
+        NamedAtom::from_json_in(rt, set, value).err(),
+    ]
+}
+
+/// Whether the text is refused, without a request, once another has had the one ticket.
+fn is_spent<N: SetName, R: Wait + Print + Abort>(rt: &R, set: &Named<N>) -> bool {
+    let text = owned(rt, set.allocator(), SMALL);
+    let value = Value::String(owned(rt, set.allocator(), SMALL));
+    drop(numbered(rt, set, 0));
+    begin(rt);
+    let refused = refused_thrice(rt, set, text, &value);
+    finish(rt, End::Given);
+    refused == [Some(Fault::TicketsSpent); 3] && set.linked(rt) == 0
+}
+
 /// The atom of a number's text.
 fn numbered<'s, N: SetName, R: Wait + Abort>(
     rt: &R,
@@ -287,6 +314,7 @@ fn is_made_in<N: SetName, R: Wait + Print + Abort>(rt: &R, set: &Named<N>, call:
         Call::ToJson => return has_json(rt, set),
         Call::Long => return is_long_given(rt, set) && set.linked(rt) == 0,
         Call::Unasked => return is_given_again(rt, set, intern(rt, set)),
+        Call::Spent => return is_spent(rt, set),
         Call::Beside(count) => return comes_beside(rt, set, count) && set.linked(rt) == 0,
     };
     is_first(rt, set, answer)
@@ -301,6 +329,14 @@ fn new_name(rt: &impl Abort, alloc: Global) -> FreshName {
     FreshName::new(alloc, one_bucket(rt)).expect(rt, "a name")
 }
 
+/// The limits of the set in which the call is made: there is one ticket if tickets are to be spent.
+fn limits_for(rt: &impl Abort, call: Call) -> Limits {
+    match call {
+        Call::Spent => Limits::new(9, 1).expect(rt, "limits"),
+        _ => Limits::greatest(),
+    }
+}
+
 /// Whether the call gives what it must in a new set with this name.
 fn is_made<N: SetName, R: Wait + Print + Abort>(
     rt: &R,
@@ -310,7 +346,7 @@ fn is_made<N: SetName, R: Wait + Print + Abort>(
 ) -> bool
     requires { N.logs ≡ name.logs }
 {
-    let set: Named<N> = NamedSet::new(alloc, name, Limits::greatest()).expect(rt, "a set");
+    let set: Named<N> = NamedSet::new(alloc, name, limits_for(rt, call)).expect(rt, "a set");
     is_made_in(rt, &set, call)
 }
 

@@ -246,8 +246,8 @@ fn set_ends_with_an_entry(rt: HostRuntime) {
     assert_that(&rt, linked == 1);
 }
 
-/// A set of one bucket whose six entries, which are in two nodes, died under its lock. Before, they went one by one.
-fn with_six_dying<R: Wait + Abort>(rt: &R, alloc: Global) -> Set<EmptyStaticAtomSet> {
+/// A set of one bucket whose 18 entries, which are in five nodes, died under its lock. Before, they went one by one.
+fn with_many_dying<R: Wait + Abort>(rt: &R, alloc: Global) -> Set<EmptyStaticAtomSet> {
     let buckets = Buckets::new(0).expect(rt, "bits");
     let set = Set::with_buckets(alloc, Limits::greatest(), buckets).expect(rt, "a set");
     let texts = [
@@ -257,6 +257,18 @@ fn with_six_dying<R: Wait + Abort>(rt: &R, alloc: Global) -> Set<EmptyStaticAtom
         "repeated",
         "forgotten",
         "magnitude",
+        "afterwards",
+        "geometric",
+        "elsewhere",
+        "character",
+        "paragraph",
+        "compiler",
+        "identifier",
+        "dictionary",
+        "arithmetic",
+        "alphabet",
+        "direction",
+        "telephone",
     ];
     drop(intern_all(rt, &set, &texts));
     let atoms = intern_all(rt, &set, &texts);
@@ -267,13 +279,13 @@ fn with_six_dying<R: Wait + Abort>(rt: &R, alloc: Global) -> Set<EmptyStaticAtom
 }
 
 #[test]
-fn set_ends_with_two_nodes(rt: HostRuntime) {
-    let set = with_six_dying(&rt, rt.alloc());
+fn set_ends_with_five_nodes(rt: HostRuntime) {
+    let set = with_many_dying(&rt, rt.alloc());
     let linked = set.linked(&rt);
     begin(&rt);
     drop(set);
     finish(&rt, End::Given);
-    assert_that(&rt, linked == 6);
+    assert_that(&rt, linked == 18);
 }
 
 /// Whether the text is found.
@@ -475,4 +487,10 @@ fn list_is_read_and_cleared(rt: HostRuntime) {
 #[test]
 fn atom_of_a_set_with_a_name_is_given_again(rt: HostRuntime) {
     named::check(&rt, rt.alloc(), named::Call::Unasked);
+}
+
+/// A text is refused in a set with a name, too, once its tickets are spent.
+#[test]
+fn tickets_of_a_set_with_a_name_are_spent(rt: HostRuntime) {
+    named::check(&rt, rt.alloc(), named::Call::Spent);
 }
