@@ -209,12 +209,25 @@ fn stays_lower<S: SharedSet, R: Wait>(rt: &R, set: S, atom: &SetAtom<S::Held>) -
     }
 }
 
-/// Whether a JSON value that is no text is refused as such.
-fn refuses_null<S: SharedSet, R: Wait>(rt: &R, set: S) -> bool {
-    matches!(read_json(rt, set, &Value::Null), Err(Fault::NotText))
+/// Whether a JSON value is refused as no text.
+fn refuses<S: SharedSet, R: Wait + Abort>(rt: &R, set: S, json: &str) -> bool {
+    let value = Value::from_str(set.allocator(), json).expect(rt, "a value");
+    matches!(read_json(rt, set, &value), Err(Fault::NotText))
 }
 
-/// Works with an inline and a static text, a dynamic atom, and a JSON value. Returns whether each was as it should be.
+/// JSON values that are no texts.
+static NO_TEXTS: [&str; 5] = ["null", "true", "7", "[\"geometric\"]", "{}"];
+
+fn refuses_all<S: SharedSet, R: Wait + Abort>(rt: &R, set: S) -> bool {
+    for json in &NO_TEXTS {
+        if !refuses(rt, set, json) {
+            return false;
+        }
+    }
+    true
+}
+
+/// Works with an inline and a static text, a dynamic atom, and JSON values. Returns whether each was as it should be.
 fn works_unlocked<S: SharedSet, R: Clock + Wait + Abort>(rt: &R, set: S, at: &Meeting) -> bool {
     let dynamic = intern(rt, set, "interned");
     at.meet(rt);
@@ -222,7 +235,7 @@ fn works_unlocked<S: SharedSet, R: Clock + Wait + Abort>(rt: &R, set: S, at: &Me
     let is_right = keeps_fixed(rt, set, "foo") && keeps_fixed(rt, set, "sentence");
     let is_right = is_right && lowers_to(rt, set, &intern(rt, set, "FOO"), "foo");
     let is_right = is_right && stays_lower(rt, set, &dynamic);
-    let is_right = is_right && refuses_null(rt, set) && has_text(&dynamic, "interned");
+    let is_right = is_right && refuses_all(rt, set) && has_text(&dynamic, "interned");
     at.end();
     is_right
 }

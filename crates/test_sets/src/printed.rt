@@ -66,11 +66,18 @@ fn write_cut<D: Display>(out: &mut String, value: &D) -> Result<(), Fault> {
     Ok(())
 }
 
-/// A value under options that apply to a text.
+/// Writes a value with a sign, in the other form, and with zeros: a text has none of these, and is padded with spaces.
+fn write_flagged<D: Display>(out: &mut String, value: &D) -> Result<(), Fault> {
+    write!(out, "|{value:+}|{value:#}|{value:04}")?;
+    Ok(())
+}
+
+/// A value under options that apply to a text, and others.
 fn styled<D: Display>(alloc: Global, value: &D) -> Result<String, Fault> {
     let mut out = String::new(alloc);
     write_aligned(&mut out, value)?;
     write_cut(&mut out, value)?;
+    write_flagged(&mut out, value)?;
     Ok(out)
 }
 
@@ -83,17 +90,24 @@ fn check_styled<R: Wait + Abort>(rt: &R, set: &Set<One>, text: &str, wanted: &st
 }
 
 /// Texts, and what they are under the options of `styled`.
-static STYLES: [(&str, &str); 5] = [
-    ("foo", "foo|   foo|foo   | foo  |***fo****|f|foo"),
-    ("été", "été|   été|été   | été  |***ét****|é|été"),
-    ("", "|      |      |      |*********||  "),
+static STYLES: [(&str, &str); 6] = [
+    (
+        "foo",
+        "foo|   foo|foo   | foo  |***fo****|f|foo|foo|foo|foo ",
+    ),
+    (
+        "été",
+        "été|   été|été   | été  |***ét****|é|été|été|été|été ",
+    ),
+    ("", "|      |      |      |*********||  |||    "),
+    ("長さ", "長さ|    長さ|長さ    |  長さ  |***長さ****|長|長さ|長さ|長さ|長さ  "),
     (
         "sentence",
-        "sentence|sentence|sentence|sentence|***se****|s|sentence",
+        "sentence|sentence|sentence|sentence|***se****|s|sentence|sentence|sentence|sentence",
     ),
     (
         "interned",
-        "interned|interned|interned|interned|***in****|i|interned",
+        "interned|interned|interned|interned|***in****|i|interned|interned|interned|interned",
     ),
 ];
 

@@ -57,6 +57,31 @@ fn tables_have_a_first_and_a_last_text(rt: HostRuntime) {
     assert_that(&rt, of_table(rt.alloc(), &names, has_ends));
 }
 
+/// Many names, none of them inline.
+static MANY_NAMES: [&str; 12] = [
+    "pear tree",
+    "plum tree",
+    "m\u{f6}glicherweise",
+    "afterwards",
+    "geometric",
+    "elsewhere",
+    "magnitude",
+    "forgotten",
+    "repeated",
+    "tokenised",
+    "sentence",
+    "interned",
+];
+
+fn has_ends_of_many(table: &mut Plain) -> bool {
+    first_text(table) == Some("pear tree") && last_text(table) == Some("interned")
+}
+
+#[test]
+fn large_tables_have_a_first_and_a_last_text(rt: HostRuntime) {
+    assert_that(&rt, of_table(rt.alloc(), &MANY_NAMES, has_ends_of_many));
+}
+
 fn shares_any(table: &mut Plain) -> bool {
     any_shared(table)
 }
