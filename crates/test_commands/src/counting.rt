@@ -150,20 +150,12 @@ fn meet<R: Threads + Wait + Sync + Abort>(rt: &R, alloc: Global, n: u32) -> bool
     are_counted(rt, &set, text, n, &gate, &EXAMPLE_COUNTS) && gate.met()
 }
 
+/// Each number that there may be. If there are many, some have no word.
 #[test]
 fn workers_run_at_once(rt: HostRuntime) {
-    assert_that(&rt, meet(&rt, rt.alloc(), 2));
-}
-
-#[test]
-fn eight_workers_run_at_once(rt: HostRuntime) {
-    assert_that(&rt, meet(&rt, rt.alloc(), 8));
-}
-
-/// The most that there may be, of which some have no word.
-#[test]
-fn sixty_four_workers_run_at_once(rt: HostRuntime) {
-    assert_that(&rt, meet(&rt, rt.alloc(), 64));
+    for n in 1..65u32 {
+        assert_for(&rt, meet(&rt, rt.alloc(), n), &n);
+    }
 }
 
 /// One worker holds a word that occurred twice, until the counts are dropped.

@@ -130,7 +130,7 @@ fn meet_by<R: Threads + Wait + Sync + Abort>(rt: &R, alloc: Global, n: u32) -> b
 
 #[test]
 fn workers_run_at_once_in_a_set_with_a_name(rt: HostRuntime) {
-    for n in [2, 64] {
+    for n in 2..65u32 {
         assert_for(&rt, meet_by(&rt, rt.alloc(), n), &n);
     }
 }
