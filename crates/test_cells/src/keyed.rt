@@ -22,6 +22,9 @@ use text_forms::word::{Buckets, Limits};
 /// So many texts are chosen. There are 34 places for them.
 const COUNT: usize = 20;
 
+/// Or so many, if many are to lie beside an index.
+const MANY: usize = 120;
+
 /// So many of these places aren't below all where texts belong.
 const UPPER: u64 = 34 - 8;
 
@@ -35,6 +38,18 @@ enum Question {
     Takes(Bytes),
     /// Those that lie beside an index go, are looked at, visited and swept, as those in it are.
     Beside,
+    /// Many can lie there.
+    ManyBeside,
+}
+
+impl Question {
+    /// How many texts are chosen for it.
+    fn count(self) -> usize {
+        match self {
+            Question::ManyBeside => MANY,
+            _ => COUNT,
+        }
+    }
 }
 
 /// An index is laid out over 34 places for the seventeenth text, or over 36 for the eighteenth if one lay beside the first index. If too many of them
@@ -78,12 +93,18 @@ fn is_chosen(choice: Choice, two: Buckets, text: &str) -> bool {
     two.bucket_of(hash) == choice.bucket && place_of(hash, choice.key) == 0
 }
 
-/// The texts that are chosen.
-fn chosen(rt: &impl Abort, alloc: Global, choice: Choice, two: Buckets) -> Vec<String> {
+/// So many texts that are chosen. One of some fifty is.
+fn chosen(
+    rt: &impl Abort,
+    alloc: Global,
+    choice: Choice,
+    two: Buckets,
+    count: usize,
+) -> Vec<String> {
     let mut texts = Vec::new(alloc);
-    for number in 0..2_000usize {
+    for number in 0..count.saturating_mul(100) {
         let text = text_of(rt, alloc, number);
-        if texts.len() < COUNT && is_chosen(choice, two, text.as_str()) {
+        if texts.len() < count && is_chosen(choice, two, text.as_str()) {
             texts.push(text).expect(rt, "room");
         }
     }
@@ -212,6 +233,13 @@ fn need_no_index<N: SetName, R: Wait + Abort>(
     takes(rt, set, empty, bytes_of(0, 8)) && are_found(rt, set, words.as_slice())
 }
 
+/// Whether so many are there, each is found, and each goes with its last holder.
+fn many_lie_beside<N: SetName, R: Wait + Abort>(rt: &R, set: &Named<N>, texts: &[String]) -> bool {
+    let mut words = hold(rt, set, texts, MANY);
+    let are_there = links(rt, set, MANY as u128) && are_found(rt, set, words.as_slice());
+    are_there && let_go_to(rt, set, &mut words, Order::Last, 9)
+}
+
 /// Whether cells beside an index are treated as those in it.
 fn lie_beside<N: SetName, R: Wait + Abort>(rt: &R, set: &Named<N>, texts: &[String]) -> bool {
     let empty = set.memory(rt);
@@ -230,6 +258,7 @@ fn is_answered<N: SetName, R: Wait + Abort>(
     match question {
         Question::Takes(bytes) => stays_at(rt, set, texts, &bytes),
         Question::Beside => lie_beside(rt, set, texts),
+        Question::ManyBeside => many_lie_beside(rt, set, texts),
     }
 }
 
@@ -255,7 +284,7 @@ fn is_so<R: Wait + Abort>(
     question: Question,
 ) -> bool {
     let two = Buckets::new(1).expect(rt, "a number");
-    let texts = chosen(rt, alloc, choice, two);
+    let texts = chosen(rt, alloc, choice, two, question.count());
     let open = FreshName::new(alloc, two).expect(rt, "a name");
     let name = match key {
         Some(key) => open.under(key),
@@ -292,6 +321,10 @@ fn key_of(low: u64, high: u64) -> Option<SipKey> {
 fn chosen_texts_lie_beside_an_index(rt: HostRuntime) {
     assert_that(&rt, are_so(&rt, rt.alloc(), None, None, BESIDE));
     assert_that(&rt, are_so(&rt, rt.alloc(), None, None, Question::Beside));
+    assert_that(
+        &rt,
+        are_so(&rt, rt.alloc(), None, None, Question::ManyBeside),
+    );
     let known = key_of(3, 4);
     assert_that(&rt, are_so(&rt, rt.alloc(), known, known, BESIDE));
 }
