@@ -1,8 +1,9 @@
 #!/usr/bin/env python3
 """Tries what no other part of the test command tries: the test command fails if a part of it is killed or never begins, and ends what a part started
-if it is ended itself, what is kept by name is there, the pictures of docs/ are what the scripts draw of the stored figures, the number of checks
-side by side is one that the machine has processors for, a module's time is that since the one before, gate/pages/pages.py tells of a page of
-definitions that doesn't say what the sources say, and gate/quick.py, over a small crate, passes what is right and nothing else.
+if it is ended itself, what is kept by name is there, docs/TESTS.md counts right, the pictures of docs/ are what the scripts draw of the stored
+figures, the number of checks side by side is one that the machine has processors for, a module's time is that since the one before,
+gate/pages/pages.py tells of a page of definitions that doesn't say what the sources say, and gate/quick.py, over a small crate, passes what is right
+and nothing else.
 
 usage: gate/small_test.py
 """
@@ -134,6 +135,30 @@ class Kept(unittest.TestCase):
             _, module, test = name.split("::")
             files = TOP.glob(f"crates/test_*/src/refusals/{module}.rt")
             self.assertTrue(any(f"fn {test}" in file.read_text(encoding="utf-8") for file in files), name)
+
+
+class Counted(unittest.TestCase):
+    """What docs/TESTS.md counts."""
+
+    def setUp(self):
+        self.page = " ".join((TOP / "docs" / "TESTS.md").read_text(encoding="utf-8").split())
+
+    def test_page_of_tests_tells_how_many_scenes_there_are(self):
+        files = "\n".join(file.read_text(encoding="utf-8") for file in (TOP / "gate" / "schedules").glob("*scenes.txt"))
+        every = re.split("^scene: ", files, flags=re.MULTILINE)[1:]
+        by_order, named = ([scene for scene in every if f"\n{what}" in scene] for what in ("by order", "named"))
+        both = [scene for scene in named if scene in by_order]
+        self.assertIn(f"tried in {len(every)} small scenes", self.page)
+        self.assertIn(f": {len(by_order)} run in all schedules", self.page)
+        self.assertIn(f"the other {len(every) - len(by_order)} in those", self.page)
+        self.assertIn(f"{len(named)} of the {len(every)} run over a set with a name, {len(both)} of these in all schedules", self.page)
+
+    def test_page_of_tests_tells_how_many_wrong_bodies_there_are(self):
+        scheduled = list(TOP.glob("crates/*/scheduled/*.edit"))
+        clients = [file.read_text(encoding="utf-8") for file in TOP.glob("gate/clients/caught/*.edit")]
+        exports = [text for text in clients if re.search("^crate: ", text, re.MULTILINE)]
+        self.assertIn(f"{len(scheduled)} wrong bodies that only some schedule exposes", self.page)
+        self.assertIn(f"{len(clients)} wrong bodies of all these files, {len(exports)} of them of the exports", self.page)
 
 
 class Pictures(unittest.TestCase):
