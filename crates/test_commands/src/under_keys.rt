@@ -15,7 +15,7 @@ use std::sync::Wait;
 use std::thread::Threads;
 use string_cache::dynamic_set::Set;
 use string_cache::{EmptyStaticAtomSet, Fault};
-use test_samples::{EXAMPLE, keys};
+use test_samples::{EXAMPLE, Refusing, keys};
 use text_streams::faults::AppFault;
 
 /// Numbers that stand for keys, all of whose bytes differ.
@@ -111,16 +111,6 @@ fn no_command_needs_keys(rt: HostRuntime) {
     assert_that(&rt, ends_without(&rt, rt.alloc(), Ok(None), 2, USAGE));
     let no_room = Err(AppFault::Intern(Fault::Memory));
     assert_that(&rt, ends_without(&rt, rt.alloc(), no_room, 1, NO_MEMORY));
-}
-
-/// Gives nothing.
-#[derive(Drop)]
-struct Refusing;
-
-impl RandomSource for Refusing {
-    fn fill_bytes(&self, _buf: &mut [u8]) -> io::Result<()> {
-        Err(io::Error::from(io::ErrorKind::Other))
-    }
 }
 
 #[test]

@@ -1,4 +1,4 @@
-//! Keys for the tables and maps of tests, the same in each run.
+//! Keys for the tables and maps of tests, the same in each run, and a source that gives none.
 
 use std::hash::RandomState;
 use std::io;
@@ -23,4 +23,14 @@ impl RandomSource for Numbered {
 /// The keys with this number, different for each. They are always given: `None` is possible since a source of bytes may refuse.
 pub fn keys(number: u64) -> Option<RandomState> {
     RandomState::new(&Numbered { number }).ok()
+}
+
+/// A source of random bytes that gives none.
+#[derive(Drop)]
+pub struct Refusing;
+
+impl RandomSource for Refusing {
+    fn fill_bytes(&self, _buf: &mut [u8]) -> io::Result<()> {
+        Err(io::Error::from(io::ErrorKind::Other))
+    }
 }

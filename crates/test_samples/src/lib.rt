@@ -1,4 +1,4 @@
-//! What tests of several crates have in common: static types, names, a text with its counts, and keys for tables and maps.
+//! What tests of several crates have in common: static types, names, a text with its counts, keys for tables and maps, and a source that gives none.
 #![tactic(auto)]
 
 mod example;
@@ -7,6 +7,6 @@ mod names;
 mod statics;
 
 pub use example::{EXAMPLE, EXAMPLE_COUNTS};
-pub use key_source::keys;
+pub use key_source::{Refusing, keys};
 pub use names::NAMES;
 pub use statics::{One, Short, Twice};

@@ -5,6 +5,7 @@ use std::cell::Cell;
 use std::hash::{BuildHasher, Hash, Hasher};
 use std::io;
 use std::random::RandomSource;
+use test_samples::Refusing;
 use text_forms::SipKey;
 
 /// SipHash-1-3 of a message under the key of zeros, as Rust's `DefaultHasher` gives it, and under that of the bytes 0 to 15, as another program
@@ -213,16 +214,6 @@ fn a_key_is_drawn_once_and_whole(rt: HostRuntime) {
     let key = SipKey::drawn(&source).expect(&rt, "a key");
     assert_that(&rt, hash_of(key, b"interned") == 0x391f_58f6_3195_45e5);
     assert_that(&rt, source.asked.get() == 1);
-}
-
-/// Gives nothing.
-#[derive(Drop)]
-struct Refusing;
-
-impl RandomSource for Refusing {
-    fn fill_bytes(&self, _buf: &mut [u8]) -> io::Result<()> {
-        Err(io::Error::from(io::ErrorKind::Other))
-    }
 }
 
 #[test]

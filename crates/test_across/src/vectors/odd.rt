@@ -4,13 +4,13 @@ use crate::begun::{intern, new_set, new_table};
 use crate::{assert_for, assert_that};
 use std::alloc::Global;
 use string_cache::dynamic_set::Set;
-use string_cache::static_sets::{PhfStrSet, StaticAtomSet};
+use string_cache::static_sets::StaticAtomSet;
 use string_cache::steps::World;
 use string_cache::table::Table;
 use string_cache::word::{Form, InlineText, Limits, form_of, ticket_word};
 use string_cache::{Atom, DefaultAtom, EmptyStaticAtomSet, Fault};
 use test_calls::has_word;
-use test_samples::{One, Short, Twice};
+use test_samples::{Short, Twice};
 
 /// Words with tags that no form has, a length above 7, bytes after the text, bytes that aren't UTF-8, low bits next to a static tag, and a ticket
 /// without a serial.
@@ -112,43 +112,6 @@ fn limits_in_range(rt: HostRuntime) {
     for pair in &IN_RANGE {
         assert_for(&rt, made_of(pair.0, pair.1) == Some(*pair), pair);
     }
-}
-
-/// Whether tables of one text pass the check.
-fn check(
-    disps: &'static [(u32, u32)],
-    atoms: &'static [&'static str],
-    hashes: &'static [u64],
-) -> bool {
-    let set = PhfStrSet {
-        key: 0,
-        disps,
-        atoms,
-        hashes,
-    };
-    set.check()
-}
-
-/// Whether the tables of a static type pass it.
-fn is_perfect<S: StaticAtomSet>() -> bool {
-    S::get().check()
-}
-
-#[test]
-fn checked_tables(rt: HostRuntime) {
-    let one = One::get();
-    let (disps, atoms, hashes) = (one.disps, one.atoms, one.hashes);
-    assert_that(&rt, !check(disps, atoms, &[]));
-    assert_that(
-        &rt,
-        !check(disps, &[], hashes) && !check(&[], atoms, hashes),
-    );
-    assert_that(&rt, check(disps, atoms, &[0]));
-    assert_that(&rt, check(&[(4_294_967_295, 4_294_967_295)], atoms, hashes));
-    assert_that(
-        &rt,
-        is_perfect::<One>() && is_perfect::<Short>() && !is_perfect::<Twice>(),
-    );
 }
 
 /// Whether the static text at this place has this atom.
