@@ -1,9 +1,9 @@
 #!/usr/bin/env python3
 """Tries what no other part of the test command tries: the test command fails if a part of it is killed or never begins, and ends what a part started
-if it is ended itself, what is kept by name is there, docs/TESTS.md counts right, the pictures of docs/ are what the scripts draw of the stored
-figures, the number of checks side by side is one that the machine has processors for, a module's time is that since the one before,
-gate/pages/pages.py tells of a page of definitions that doesn't say what the sources say, and gate/quick.py, over a small crate, passes what is right
-and nothing else.
+if it is ended itself, what is kept by name is there, docs/TESTS.md counts right, a stored run tells of wrong bodies, the pictures of docs/ are what
+the scripts draw of the stored figures, the number of checks side by side is one that the machine has processors for, a module's time is that since
+the one before, gate/pages/pages.py tells of a page of definitions that doesn't say what the sources say, and gate/quick.py, over a small crate,
+passes what is right and nothing else.
 
 usage: gate/small_test.py
 """
@@ -27,6 +27,7 @@ import quick
 import refuser
 import repository
 import run_tests
+import stored_runs
 from repository import TOP
 
 GLANCE = re.compile(rb"subject|table 100000 |hot |live 10000 12|live 1000000 14|named 1000000 8|crowd")  # the calls of README's picture
@@ -159,6 +160,39 @@ class Counted(unittest.TestCase):
         exports = [text for text in clients if re.search("^crate: ", text, re.MULTILINE)]
         self.assertIn(f"{len(scheduled)} wrong bodies that only some schedule exposes", self.page)
         self.assertIn(f"{len(clients)} wrong bodies of all these files, {len(exports)} of them of the exports", self.page)
+
+
+class StoredRuns(unittest.TestCase):
+    """What the stored run of a program says of one with a wrong body, where both are scripts, which are given the line `line`."""
+
+    def setUp(self):
+        room = tempfile.TemporaryDirectory(prefix="stored-runs-")
+        self.addCleanup(room.cleanup)
+        self.crate = Path(room.name)
+        for name, text in {"stdin": "line\n", "stdout": "line\n  more\n"}.items():
+            (self.crate / name).write_text(text, encoding="ascii")
+
+    def program(self, name, does):
+        program = self.crate / name
+        program.write_text(f"#!/bin/sh\n{does}\n", encoding="ascii")
+        program.chmod(0o755)
+        return program
+
+    def said(self, line, wrong, own="cat; echo '  more'"):
+        return stored_runs.judge_output(line, self.program("wrong", wrong), self.program("own", own), self.crate)
+
+    def test_a_line_that_comes_or_is_missing_shows_a_body(self):
+        for line, wrong in (("more", "cat"), ("less", "cat; echo less; echo '  more'"), ("line", "exit 1")):
+            self.assertEqual(self.said(line, wrong), (True, f"seen by the stored run: {line}"))
+
+    def test_another_line_or_none_does_not(self):
+        self.assertEqual(self.said("line", "cat"), (False, "NOT CAUGHT: the stored run is another, but not by this line: line"))
+        self.assertEqual(self.said("more", "cat; echo '  more'"), (False, "NOT CAUGHT: the stored run is the same"))
+
+    def test_what_is_wrong_without_the_body_or_does_not_end_does_not(self):
+        self.assertEqual(self.said("more", "cat", own="cat"), (False, "NOT CAUGHT: the stored run is another without the body as well"))
+        with mock.patch.object(stored_runs, "SECONDS", 1):
+            self.assertEqual(self.said("more", "exec sleep 30"), (False, "NOT CAUGHT: the stored run hasn't ended after 1 seconds"))
 
 
 class Pictures(unittest.TestCase):

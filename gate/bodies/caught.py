@@ -13,6 +13,8 @@ or doesn't compile beside its own, has a build to itself, and is compared with t
 - 'error: TEXT': the compiler has to say this, where a type alone forbids the body. Such bodies stand side by side too: each passes by an error
   at its own lines. The compiler may end before it has seen all, so those of which it says nothing are built again without those of which it
   does, as long as there are any of these. What passes by no error at its own lines is built by itself, and may say this anywhere.
+- 'output: LINE': the crate's program, with its stored input, has to write this line, where it isn't in the stored output, or not, where it is.
+  Such bodies have to stand side by side.
 
 What hasn't ended in its time may only have met with other work. So the test is run without the body right behind it, and if the body may take
 longer by what that took, the body is tried once more.
@@ -45,7 +47,8 @@ from machine import Turns, processors
 from programs import build, outcomes
 from refuser import refuser
 from repository import TOP
-from shared_builds import NotShared, SharedBuild, apart, can_share
+from shared_builds import CantShare, NotShared, SharedBuild, apart, can_share
+from stored_runs import judge_output
 
 SECONDS = 60  # at most for one run with a wrong body, which may hang, and for all runs of a test that passes
 LEAST_SECONDS = 10  # for one run with a wrong body
@@ -298,6 +301,20 @@ def try_alone(edit, own, trials, root):
             trials.tell(edit, False, f"BAD EDIT: it can't be built: {why}")
 
 
+def try_outputs(crate, edits, trials, root):
+    """Tries edits that the stored run of the crate's program has to show, in one build."""
+    with tempfile.TemporaryDirectory(prefix="shared-") as room:
+        try:
+            shared = SharedBuild(crate, edits, root, Path(room), kind=())
+        except (CantShare, NotShared) as why:
+            for edit in edits:
+                trials.tell(edit, False, f"BAD EDIT: such bodies of {crate} can't be built side by side: {why}")
+            return
+        own = shared.program(0)
+        for number, edit in enumerate(edits, 1):
+            trials.tell(edit, *judge_output(edit.name, shared.program(number), own, root / "crates" / crate))
+
+
 def errors_together(crate, edits, root):
     """What the compiler says of each of these edits, side by side, that it refuses: them, with the texts of the errors at the lines of each."""
     with tempfile.TemporaryDirectory(prefix="shared-") as room:
@@ -361,12 +378,12 @@ def read_edits(top, words):
 
 def add_tasks(edits, trials, is_tested):
     """Adds what is to be done at first, the crates with the most edits before the others. How many results there will be."""
-    built, refused, kinds = {}, {}, set()
+    built, refused, stored, kinds = {}, {}, {}, set()
     for edit in edits:
-        (refused if edit.want == "error" else built).setdefault(edit.of, []).append(edit)
-        if edit.want != "error":
+        {"error": refused, "output": stored}.get(edit.want, built).setdefault(edit.of, []).append(edit)
+        if edit.want in ("test", "refused"):
             kinds.add((edit.of, edit.want))
-    for task, crates in ((try_edits if is_tested else try_tests, built), (try_errors, refused)):
+    for task, crates in ((try_edits if is_tested else try_tests, built), (try_errors, refused), (try_outputs, stored)):
         for crate, own in sorted(crates.items(), key=lambda item: -len(item[1])):
             trials.add(task, crate, own)
     return len(edits) + (0 if is_tested else len(kinds))

@@ -6,6 +6,7 @@ The first line says what has to come of the body:
     test: FUNCTION      this test of the crate fails
     refused: FUNCTION   this test, of a module `refusals`, is WRONG for gate/refusals/refused.py
     error: TEXT         the compiler says this
+    output: LINE        of two outputs of the crate's program, the stored one and that with the body, one alone has this line
     scene: NAME         an outcome of this scene of gate/schedules is wrong
 
 The test is named by the end of its path. A line 'of: NAME' may follow where it is a test of another crate, which stands above the edit's.
@@ -19,7 +20,7 @@ from pathlib import Path
 
 # How a function begins, in a file that `rt fmt` laid out: how far it is indented, and its name.
 FUNCTION = re.compile(r'( *)(?:pub(?:\([a-z ]+\))? )?(?:const )?(?:unsafe )?(?:extern "C" )?fn (\w+)')
-WANTS = ("test", "refused", "error", "scene")
+WANTS = ("test", "refused", "error", "output", "scene")
 
 
 class BadEdit(Exception):
@@ -32,7 +33,7 @@ class NoSuchEdit(Exception):
 
 @dataclass
 class Edit:
-    """A wrong body: what has to come of it (one of WANTS), the test or the error that this names, the crate whose test it is, and what is
+    """A wrong body: what has to come of it (one of WANTS), the test, error or line that this names, the crate whose test it is, and what is
     replaced by what, file by file."""
 
     path: Path
@@ -89,7 +90,8 @@ def read_edit(path):
         elif word == "of":
             edit.of = text.strip()
     if not edit.name or not edit.changes:
-        raise BadEdit("it has no line 'test: FUNCTION', 'refused: FUNCTION', 'error: TEXT' or 'scene: NAME', or no pair 'old:' and 'new:'")
+        wanted = "'test: FUNCTION', 'refused: FUNCTION', 'error: TEXT', 'output: LINE' or 'scene: NAME'"
+        raise BadEdit(f"it has no line {wanted}, or no pair 'old:' and 'new:'")
     if not edit.of:
         edit.of = edit.crate
     return edit

@@ -186,13 +186,14 @@ def renumbered(program, number, copy):
 
 
 class SharedBuild:
-    """The tests of a crate of the copy at root, with the bodies of all these edits, built in the room, an empty folder."""
+    """The tests of a crate of the copy at root, or its program where no kind is given, with the bodies of all these edits, built in the room, an
+    empty folder."""
 
-    def __init__(self, crate, edits, root, room):
+    def __init__(self, crate, edits, root, room, kind=(TESTS,)):
         self.room, folder = room, root / "crates" / crate
         try:
             with beside_their_own(edits, root):
-                self.tests = object_of(folder, room, TESTS, **ALLOWED)
+                self.made = object_of(folder, room, *kind, **ALLOWED)
         except NotBuilt as why:
             errors = errors_by_body(why.said, shared_texts(edits, root), folder)
             raise NotShared(why.said, [(edit, errors[number]) for number, edit in enumerate(edits, 1) if number in errors]) from why
@@ -201,6 +202,6 @@ class SharedBuild:
         """The program with the body of this number, or as the crate is with 0."""
         first, program = (self.room / f"tests-{name}" for name in ("linked", number))
         if not first.is_file():
-            link([self.tests, answer(0, self.room)], first)
+            link([self.made, answer(0, self.room)], first)
         renumbered(first, number, program)
         return program
