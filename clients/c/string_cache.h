@@ -23,7 +23,7 @@
  * - Functions that take a const sc_table only read: sc_get, sc_holds, sc_holders, sc_text, sc_entries, sc_text_bytes, sc_memory and sc_entry. Any
  *   number of threads may be in these at a time, with one table, and none of them needs a lock.
  * - All others that take an sc_table write it: sc_open, sc_open_with, sc_open_keyed, sc_close, sc_intern, sc_clone, sc_give, sc_clear and sc_reserve. While one of
- *   these runs, no other call with that table does. So where one thread may write, each call is made under a lock of the caller's, which may let
+ *   these runs, no other call with that table does. So if one thread may write, each call is made under a lock of the caller's, which may let
  *   readers in together. A table that one thread opened or wrote is handed to others by that lock, or by a start or a join of a thread.
  * - Functions that take no sc_table may run beside any others, and so may calls with different tables.
  */
@@ -115,12 +115,12 @@ SC_TO_BE_READ SC_EXPORT sc_status sc_open_keyed(sc_table *table, uint64_t holder
 /* Closes the table and frees all that it keeps; all its words are void. Does nothing to one that is closed, and to null. */
 SC_EXPORT void sc_close(sc_table *table);
 
-/* The word of a text of len bytes, with one holder more. The text may be null where len is 0.
+/* The word of a text of len bytes, with one holder more. The text may be null if len is 0.
  * SC_NOT_UTF8, SC_FULL_COUNT, SC_TICKETS_SPENT, SC_NO_MEMORY, SC_CLOSED, SC_BAD_ARGUMENT. A text of at most 7 bytes of UTF-8 is
  * refused for neither limits nor memory. */
 SC_TO_BE_READ SC_EXPORT sc_status sc_intern(sc_table *table, const char *text, size_t len, uint64_t *word);
 
-/* The word of a text, with no holder more. SC_NOT_HELD exactly where the text has no word: it has more than 7 bytes, and no entry.
+/* The word of a text, with no holder more. SC_NOT_HELD exactly if the text has no word: it has more than 7 bytes, and no entry.
  * SC_NOT_UTF8, SC_CLOSED, SC_BAD_ARGUMENT. */
 SC_TO_BE_READ SC_EXPORT sc_status sc_get(const sc_table *table, const char *text, size_t len, uint64_t *word);
 
@@ -137,23 +137,23 @@ SC_EXPORT bool sc_holds(const sc_table *table, uint64_t word);
 SC_TO_BE_READ SC_EXPORT sc_status sc_holders(const sc_table *table, uint64_t word, uint64_t *holders);
 
 /* Copies the text of a word to the front of the room, which has room_len bytes, and tells its length. No zero byte comes behind it.
- * SC_TOO_SMALL where the text is longer: nothing is copied, but its length is told. With a null room and room_len 0 that is how to ask for the
+ * SC_TOO_SMALL if the text is longer: nothing is copied, but its length is told. With a null room and room_len 0 that is how to ask for the
  * length. SC_NOT_HELD, SC_CLOSED, SC_BAD_ARGUMENT. */
 SC_TO_BE_READ SC_EXPORT sc_status sc_text(const sc_table *table, uint64_t word, char *room, size_t room_len, size_t *len);
 
 /* How many texts of more than 7 bytes are held. 0 for a closed table and for null. */
 SC_EXPORT size_t sc_entries(const sc_table *table);
 
-/* How many bytes these texts have together, or 2^64 - 1 where that is more. 0 for a closed table and for null. */
+/* How many bytes these texts have together, or 2^64 - 1 if that is more. 0 for a closed table and for null. */
 SC_EXPORT uint64_t sc_text_bytes(const sc_table *table);
 
-/* How many bytes the table has asked of malloc and still holds, as they were asked for; or 2^64 - 1 where that is more. A text that goes gives
- * its bytes back, and the room of its entry stays until the table is closed. Where malloc refused while the table grew, what it got before
+/* How many bytes the table has asked of malloc and still holds, as they were asked for; or 2^64 - 1 if that is more. A text that goes gives
+ * its bytes back, and the room of its entry stays until the table is closed. If malloc refused while the table grew, what it got before
  * that isn't counted until it has grown. The sc_table itself isn't counted. 0 for a closed table and for null. */
 SC_EXPORT uint64_t sc_memory(const sc_table *table);
 
-/* The word and the holders of the entry at a place, from 0 on: a new entry comes last, and where one goes, the last one comes in its place.
- * Takes constant time. Either pointer may be null where it isn't asked for.
+/* The word and the holders of the entry at a place, from 0 on: a new entry comes last, and if one goes, the last one comes in its place.
+ * Takes constant time. Either pointer may be null if it isn't asked for.
  * SC_NOT_HELD from sc_entries on, SC_CLOSED, SC_BAD_ARGUMENT. */
 SC_TO_BE_READ SC_EXPORT sc_status sc_entry(const sc_table *table, size_t place, uint64_t *word, uint64_t *holders);
 
@@ -185,7 +185,7 @@ typedef struct sc_word_parts {
     uint16_t bucket; /* of SC_TICKET, and else 0 */
 } sc_word_parts;
 
-/* What a word says of itself. SC_NOT_A_WORD where it is the word of nothing, SC_BAD_ARGUMENT. */
+/* What a word says of itself. SC_NOT_A_WORD if it is the word of nothing, SC_BAD_ARGUMENT. */
 SC_TO_BE_READ SC_EXPORT sc_status sc_form(uint64_t word, sc_word_parts *parts);
 
 /* The parts of a hash. */

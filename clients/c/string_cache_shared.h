@@ -32,12 +32,12 @@ typedef struct sc_shared {
 
 /* Opens a closed interner, in which nothing is held, with 64 shards of 64 buckets each and the greatest limits.
  * Each shard has a key of its own, as sc_open draws it.
- * SC_NO_MEMORY, also where the system has no lock left, SC_NO_RANDOM, SC_NOT_CLOSED where it is open, SC_BAD_ARGUMENT. */
+ * SC_NO_MEMORY, also if the system has no lock left, SC_NO_RANDOM, SC_NOT_CLOSED if it is open, SC_BAD_ARGUMENT. */
 SC_TO_BE_READ sc_status sc_shared_open(sc_shared *shared);
 
 /* Opens a closed interner of 2 to the power of shard_bits shards, whose tables have the limits and buckets of sc_open_with. The two numbers of
  * bits have a sum of at most 14.
- * SC_NOT_CLOSED where it is open, else SC_NOT_LIMITS outside of these ranges, SC_NO_RANDOM or SC_NO_MEMORY; SC_BAD_ARGUMENT. */
+ * SC_NOT_CLOSED if it is open, else SC_NOT_LIMITS outside of these ranges, SC_NO_RANDOM or SC_NO_MEMORY; SC_BAD_ARGUMENT. */
 SC_TO_BE_READ sc_status sc_shared_open_with(sc_shared *shared, uint8_t shard_bits, uint64_t holders, uint64_t tickets, uint8_t bucket_bits);
 
 /* Closes the interner and frees all that it keeps; all its words are void. Does nothing to one that is closed, and to null. */

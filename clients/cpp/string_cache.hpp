@@ -3,13 +3,13 @@
 // An Interner owns a table. A Symbol is one holder of a text in it: a copy is one holder more, and the destructor gives its own back, so that a
 // text goes with its last symbol. Symbols of one interner are equal exactly if their texts are, and comparing them reads two numbers.
 //
-// What is refused is thrown: std::bad_alloc where there is no memory, std::invalid_argument where bytes aren't UTF-8, and string_cache::Refused,
+// What is refused is thrown: std::bad_alloc if there is no memory, std::invalid_argument if bytes aren't UTF-8, and string_cache::Refused,
 // which has the status, for the rest. A call that throws has changed nothing, but that an interner may keep room (see reserve). What is never refused is
 // noexcept.
 //
 // No symbol may be used after its interner has ended. What is const only reads the table, and threads may call it side by side: text, holders, contains,
 // size, empty, text_bytes, memory and for_each. All else that takes an interner writes it, and so do the copy, the assignment and the end of a symbol:
-// while a thread does one of these, no other uses the interner or any of its symbols. So where one thread may write, all hold a lock. To move-construct,
+// while a thread does one of these, no other uses the interner or any of its symbols. So if one thread may write, all hold a lock. To move-construct,
 // to compare and to hash a symbol reads no table. A move assignment gives back the holder of the text that was there before, so it writes.
 #ifndef STRING_CACHE_HPP
 #define STRING_CACHE_HPP
@@ -97,7 +97,7 @@ public:
     // Whether it holds a text: it was not moved from.
     explicit operator bool() const noexcept { return table_ != nullptr; }
 
-    // std::logic_error where it was moved from.
+    // std::logic_error if it was moved from.
     std::string text() const {
         if (table_ == nullptr) {
             throw std::logic_error("string_cache::Symbol::text: the symbol was moved from");

@@ -114,7 +114,7 @@ public:
         }
     }
 
-    // The text, as a copy. std::logic_error where the symbol was moved from.
+    // The text, as a copy. std::logic_error if the symbol was moved from.
     std::string text() const {
         if (shards_ == nullptr) {
             throw std::logic_error("string_cache::SharedSymbol was moved from");
@@ -139,7 +139,7 @@ public:
         return holders;
     }
 
-    // The number that stands for the text in this interner; 0 where the symbol was moved from.
+    // The number that stands for the text in this interner; 0 if the symbol was moved from.
     std::uint64_t word() const noexcept { return word_; }
 
     friend bool operator==(const SharedSymbol &one, const SharedSymbol &other) noexcept { return one.word_ == other.word_; }

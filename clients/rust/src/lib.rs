@@ -80,7 +80,7 @@ impl fmt::Display for Fault {
 
 impl std::error::Error for Fault {}
 
-/// `Ok` where the library answered that all is done.
+/// `Ok` if the library answered that all is done.
 fn done(number: u32) -> Result<(), Fault> {
     match number {
         sys::OK => Ok(()),
@@ -212,13 +212,13 @@ impl Interner {
         }
     }
 
-    /// The text of a symbol, which is its name. `None` where it isn't held.
+    /// The text of a symbol, which is its name. `None` if it isn't held.
     pub fn text(&self, symbol: Symbol) -> Option<String> {
         let mut text = String::new();
         self.text_into(symbol, &mut text).then_some(text)
     }
 
-    /// Puts the text of a symbol in place of another, whose memory it takes over. Whether it is held: the text is empty where it isn't.
+    /// Puts the text of a symbol in place of another, whose memory it takes over. Whether it is held: the text is empty if it isn't.
     pub fn text_into(&self, symbol: Symbol, text: &mut String) -> bool {
         let mut room = std::mem::take(text).into_bytes();
         room.clear();
@@ -267,7 +267,7 @@ impl Interner {
         unsafe { sys::sc_holds(&self.table, symbol.word()) }
     }
 
-    /// How many holders the name of a symbol has. `None` where it isn't held, and for a name of at most 7 bytes.
+    /// How many holders the name of a symbol has. `None` if it isn't held, and for a name of at most 7 bytes.
     pub fn holders(&self, symbol: Symbol) -> Option<u64> {
         let mut holders = 0;
         match unsafe { sys::sc_holders(&self.table, symbol.word(), &mut holders) } {
@@ -320,7 +320,7 @@ impl Interner {
         done(unsafe { sys::sc_reserve(&mut self.table, more) })
     }
 
-    /// The names of more than 7 bytes with their symbols, in the order in which they came. Where a name goes, the last one comes in its
+    /// The names of more than 7 bytes with their symbols, in the order in which they came. If a name goes, the last one comes in its
     /// place.
     pub fn iter(&self) -> Iter<'_> {
         Iter { names: self, place: 0 }

@@ -53,7 +53,7 @@ pub struct SharedInterner<Beside = ()> {
 }
 
 impl SharedInterner {
-    /// An interner in which nothing is held, with 64 shards of 64 buckets each. [`Fault::Random`], and [`Fault::Memory`] where it finds none.
+    /// An interner in which nothing is held, with 64 shards of 64 buckets each. [`Fault::Random`], and [`Fault::Memory`] if it finds none.
     pub fn new() -> Result<SharedInterner, Fault> {
         SharedInterner::with_limits(USUAL_SHARD_BITS, MOST_HOLDERS, MOST_TICKETS, USUAL_BUCKET_BITS)
     }
@@ -199,7 +199,7 @@ impl<Beside> LockedName<'_, Beside> {
 
 /// A symbol, while this thread has the lock of its shard. No other call with the interner is made before it ends, since that may wait for it.
 pub struct LockedSymbol<'a, Beside> {
-    /// As the table has it; none where nothing is left without the shard.
+    /// As the table has it; none if nothing is left without the shard.
     own: Option<Symbol>,
     inside: MutexGuard<'a, (Interner, Beside)>,
 }
@@ -300,7 +300,7 @@ impl<'a> SharedSymbol<'a> {
     }
 }
 
-/// Panics where [`SharedSymbol::try_clone`] answers a fault: the limits allow no holder more, or the last was released.
+/// Panics if [`SharedSymbol::try_clone`] answers a fault: the limits allow no holder more, or the last was released.
 impl Clone for SharedSymbol<'_> {
     fn clone(&self) -> Self {
         self.try_clone().expect("one holder more")
