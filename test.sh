@@ -125,6 +125,10 @@ failed=$((failed + ${#parts[@]} - summed))
 if grep -q '^rt: note: bad must-fail edits' "$said/ci"; then
     failed=$((failed + 1))
 fi
+# It counts these, and compares them with nothing.
+if ! gate/machine/waiting.py "$said/ci"; then
+    failed=$((failed + 1))
+fi
 echo "$spent s of processors in all, $SECONDS s by the clock"
 echo "$passed passed, $failed failed, $skipped skipped"
 [[ $failed -eq 0 ]]

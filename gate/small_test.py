@@ -2,7 +2,7 @@
 """Tries what no other part of the test command tries: the test command fails if a part of it is killed or never begins, and ends what a part started
 if it is ended itself, what is kept by name is there, docs/TESTS.md counts right, a stored run tells of wrong bodies, the pictures of docs/ are what
 the scripts draw of the stored figures, the number of checks side by side is one that the machine has processors for, a module's time is that since
-the one before, gate/pages/pages.py tells of a page of definitions that doesn't say what the sources say, and gate/quick.py, over a small crate,
+the one before, a number of crates.txt that is wrong is told, gate/pages/pages.py tells of a page of definitions that doesn't say what the sources say, and gate/quick.py, over a small crate,
 passes what is right and nothing else.
 
 usage: gate/small_test.py
@@ -28,6 +28,7 @@ import refuser
 import repository
 import run_tests
 import stored_runs
+import waiting
 from repository import TOP
 
 GLANCE = re.compile(rb"subject|table 100000 |hot |live 10000 12|live 1000000 14|named 1000000 8|crowd")  # the calls of README's picture
@@ -223,6 +224,29 @@ class Machine(unittest.TestCase):
             for name, bytes_ in (("memory.max", 5000), ("memory.current", 3000)):
                 (Path(room) / name).write_text(f"{bytes_}\n", encoding="ascii")
             self.assertEqual(machine.free_memory(), 2000)
+
+
+class Waiting(unittest.TestCase):
+    LISTED = "# crates\nfew: core\nmore may_wait=2 staticlib: few\ntests tests_may=Threads+Wait: more\n"
+    SAID = (
+        "logic=proved functions=3 sum=1\nrt: few proved\nrt: other is kept: an earlier run proved it\n"
+        "logic=proved functions=4 main=Wait may-wait=12 sum=1\nlinked more\nrt: more proved\nlogic=proved functions=0 sum=1\nrt: tests proved\n"
+        "logic=proved tests=1 functions=9 may-abort=1 may-wait=7 sum=1\nrt: tests: its tests are proved\nrt: last proved\n"
+    )
+
+    def test_numbers_are_those_of_each_crate(self):
+        self.assertEqual(waiting.listed(self.LISTED), {"few": 0, "more": 2, "tests": 0})
+        self.assertEqual(waiting.counted(self.SAID), {"few": 0, "more": 12, "tests": 0})
+
+    def test_another_number_is_told(self):
+        with tempfile.TemporaryDirectory(prefix="waiting-") as room, mock.patch.object(waiting, "TOP", Path(room)):
+            (Path(room) / "crates.txt").write_text(self.LISTED, encoding="utf-8")
+            for said, status in ((self.SAID, 1), (self.SAID.replace("may-wait=12", "may-wait=2"), 0)):
+                (Path(room) / "said").write_text(said, encoding="utf-8")
+                with mock.patch.object(sys, "argv", ["waiting", f"{room}/said"]), mock.patch("builtins.print") as told:
+                    self.assertEqual(waiting.main(), status)
+                wrong = ["waiting more: WRONG: 12 functions may wait, and crates.txt says 2"]
+                self.assertEqual([it.args[0] for it in told.mock_calls], wrong[:status])
 
 
 class ProofTimes(unittest.TestCase):
