@@ -8,7 +8,8 @@ That is the module crates/mine/src/names.rt, for a crate that uses `string_cache
 atoms, the word of each name as a constant, as `Names::BLOCKQUOTE`, what the checker reads, and a test that each name is found and has its
 word. A name of up to 7 bytes is inline under any type, so it gets a constant and no place in the tables. Where a name makes no constant's
 name, or the same as another, one stands behind it, after a tab. A type or an alias that is called as something that the module uses is refused,
-as `Atom`: for a type `Atoms` --alias has to give another one.
+as `Atom`: for a type `Atoms` --alias has to give another one. So is a module that is called as a keyword of Rust or Rattle, or lies in a folder
+that is: for a type `Match` --module has to give another one.
 
 Packed tables hold all texts in one. The checker takes thousands of them, where it takes some hundreds that are listed one by one as in the
 original. A packed type's constants stand with its tables, as `NamesTables::BLOCKQUOTE`, and its crate uses `text_forms` too.
@@ -30,6 +31,15 @@ from static_forms import MOST_INLINE, Listed, Name, Packed, Refused, read
 TOP = Path(__file__).resolve().parent.parent
 PROGRAM = TOP / "crates" / "atoms" / "out" / "atoms"
 KEYS = 100  # that are tried
+
+# What no module may be called: the keywords of Rust in small letters, strict and reserved ones, as its reference lists them up to edition 2024, and
+# those of Rattle. Rust's weak ones, as `union`, may name a module.
+KEYWORDS = frozenset(
+    "as async await break const continue crate dyn else enum extern false fn for if impl in let loop match mod move mut pub ref return self static "
+    "struct super trait true type unsafe use where while "
+    "abstract become box do final gen macro override priv try typeof unsized virtual yield "
+    "ensures ghost requires".split()
+)
 
 
 # ---- names
@@ -131,6 +141,9 @@ def place_of(given):
     place = given.module or re.sub(r"(?<=[a-z0-9])(?=[A-Z])", "_", given.type).lower()
     if not re.fullmatch(r"[a-z]\w*(/[a-z]\w*)*", place, re.ASCII):
         raise Refused(f"{place} is no module's file")
+    for name in place.split("/"):
+        if name in KEYWORDS:
+            raise Refused(f"a module of {place} would be called {name}, which is a keyword: --module calls it otherwise")
     return place
 
 
@@ -172,7 +185,7 @@ def main():
     parser.add_argument("crate", metavar="CRATE", help="the folder of the crate that gets the module")
     parser.add_argument("--packed", action="store_true", help="all texts lie in one, for more than some hundreds of names")
     parser.add_argument("--tables", action="store_true", help="the standard input is a table text, and the module has the type alone")
-    parser.add_argument("--module", help="its file below src, without .rt: the type's name in small letters if left out")
+    parser.add_argument("--module", help="its file below src, without .rt and keywords: the type's name in small letters if left out")
     parser.add_argument("--alias", help="what an atom of the type is called: as the type without its s if left out")
     parser.add_argument("--bound", type=int, default=1024, help="of the displacements (1024)")
     parser.add_argument("--short", action="store_true", help="names of up to 7 bytes get a place in the tables too")

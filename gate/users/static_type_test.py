@@ -1,6 +1,6 @@
 #!/usr/bin/env python3
 """The tests of tools/static_type.py: the types that lie in this repository are what it writes, what it writes is in `rt fmt`'s layout, lists
-that give no type are refused, and whole calls of it write what they have to, or nothing.
+that give no type are refused, and keywords as modules' names, and whole calls of it write what they have to, or nothing.
 
 usage: gate/users/static_type_test.py
 """
@@ -9,12 +9,13 @@ import contextlib
 import subprocess
 import sys
 import tempfile
+from argparse import Namespace
 from pathlib import Path
 
 sys.path.append(str(Path(__file__).resolve().parent.parent))
 import find_modules  # has Python find the next ones
 from static_forms import MANY, MOST_PACKED, MOST_PRODUCT, Listed, Name, Packed, Refused, Tables, read
-from static_type import TOP, alias_of, listed_of, names_of
+from static_type import TOP, alias_of, listed_of, names_of, place_of
 
 CRATES = TOP / "crates"
 
@@ -123,6 +124,31 @@ CALLS = [
     (["Atoms"], PAIR, "would be called Atom, as something else in the module is: --alias"),
     (["--packed", "Atoms"], PAIR, "would be called Atom, as something else in the module is: --alias"),
     (["--packed", "Packed"], PAIR, "would define Packed"),
+    (["Match"], PAIR, "a module of match would be called match, which is a keyword: --module calls it otherwise"),
+    (["--packed", "--module", "words/type", "Soups"], PAIR, "would be called type, which is a keyword"),
+    (["--tables", "--module", "try", "Soups"], TABLES.encode(), "would be called try, which is a keyword"),
+]
+
+# Types, the modules that are given for them (none: none is), and the keyword that refuses them, or the module's file.
+PLACES = [
+    ("Match", None, "match", None),
+    ("Soups", "fn", "fn", None),
+    ("Soups", "async", "async", None),
+    ("Soups", "self", "self", None),
+    ("Soups", "crate", "crate", None),
+    ("Soups", "true", "true", None),
+    ("Soups", "abstract", "abstract", None),
+    ("Soups", "gen", "gen", None),
+    ("Soups", "ghost", "ghost", None),
+    ("Soups", "loop/soups", "loop", None),
+    ("Soups", "soups/words/yield", "yield", None),
+    ("Match", "matched", None, "matched"),
+    ("Matches", None, None, "matches"),
+    ("Types", None, None, "types"),
+    ("MatchType", None, None, "match_type"),
+    ("Union", None, None, "union"),
+    ("Soups", "macro_rules", None, "macro_rules"),
+    ("Soups", "type_/fn2", None, "type_/fn2"),
 ]
 
 # Forms, types, their atoms, and the part of what is said of these, with names and without.
@@ -193,6 +219,15 @@ def wrong_taken():
             is_right = said in found if said else not found
             of = f"a {form.__name__} type {kind} with atoms {alias} and {len(names)} names"
             yield None if is_right else f"of {of} it says {found!r}, and not {said!r}"
+
+
+def wrong_places():
+    """What is wrong in what modules may be called."""
+    for kind, module, keyword, place in PLACES:
+        given = Namespace(type=kind, module=module)
+        said = refusal_of(place_of, given)
+        is_right = f"would be called {keyword}, which is a keyword" in said if keyword else not said and place_of(given) == place
+        yield None if is_right else f"of a module {module} of a type {kind} it says {said!r}"
 
 
 def wrong_limits():
@@ -271,7 +306,8 @@ def wrong_calls():
         yield wrong_call(crate, program.with_name("none"), ["Soups"], PAIR, "there is no program")
         yield wrong_call(crate / "none", program, ["Soups"], PAIR, "is no crate")
         for form, args, data in [
-            (Listed, [], PAIR), (Packed, ["--packed"], PAIR), (Listed, ["--tables"], TABLES.encode()), (Packed, ["--packed", "--tables"], TABLES.encode()),
+            (Listed, [], PAIR), (Packed, ["--packed"], PAIR),
+            (Listed, ["--tables"], TABLES.encode()), (Packed, ["--packed", "--tables"], TABLES.encode()),
         ]:
             yield wrong_module(crate, program, form, args, data)
         for row in WRITTEN:
@@ -286,7 +322,7 @@ def wrong_files():
 
 def main():
     """Says how many of these are right, and what is wrong."""
-    found = [it for rows in (wrong_files(), wrong_names(), wrong_taken(), wrong_limits(), wrong_calls()) for it in rows]
+    found = [it for rows in (wrong_files(), wrong_names(), wrong_taken(), wrong_places(), wrong_limits(), wrong_calls()) for it in rows]
     wrong = [it for it in found if it]
     for it in wrong:
         print(f"WRONG: {it}")
