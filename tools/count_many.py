@@ -19,7 +19,7 @@ it, and all pieces together have to be as long as the files. A file whose last l
 What failed is tried again in a further run, without the machines whose line broke. With --keep the folder keeps the results and the log
 of each run, and --resume counts only what is missing there. A further run cuts the same files into the same pieces, and a job whose piece
 is there already ends at once. (parallel's own --retries and --resume are of no use here: with --pipepart, as of version 20221122, a job
-that is tried again gets another piece, and its own is lost.)
+that is tried again gets another piece, and its own is lost.) A command that is refused before a piece begins leaves no folder, and none changed.
 
 `tools/try_atoms.py bin` builds the program, unproved, for --atoms bin/atoms; `rt run -- check < /dev/null`, in crates/atoms, proves it and
 leaves it where it is looked for if --atoms isn't given. It has to be at the same path on each machine. No path of it, or of FOLDER, may have
@@ -27,6 +27,7 @@ braces. MACHINE is as parallel has it: `host`, `4/user@host`, `:` for this one.
 """
 
 import argparse
+import contextlib
 import functools
 import hashlib
 import json
@@ -77,6 +78,10 @@ BROKEN_LINE = "255"  # the status of ssh where it can't reach the machine, or lo
 
 class Failed(Exception):
     """The text couldn't be counted whole; the message says why."""
+
+
+class BeganNone(Failed):
+    """A run in which no piece was begun, as if parallel doesn't take an option: nothing is left of it."""
 
 
 @dataclass
@@ -202,7 +207,8 @@ def run_parallel(given, texts, folder, machines):
         ended = subprocess.run([*command, job(given, folder, done)], stdin=subprocess.DEVNULL, stdout=subprocess.DEVNULL, stderr=said)
     if ended.returncode and not logged(run):
         said = (run / "said").read_text(encoding="utf-8", errors="replace").strip() or f"it ended with status {ended.returncode}"
-        raise Failed(f"count_many: parallel began no piece: {said}")
+        shutil.rmtree(run)
+        raise BeganNone(f"count_many: parallel began no piece: {said}")
     return run
 
 
@@ -256,16 +262,36 @@ def see_whole(pieces, size):
 
 
 def begin(folder, plan, resume):
-    """Notes what the folder's runs are of; a run that goes on has to be of the same."""
+    """Makes the folder, and notes what its runs are of; a run that goes on has to be of the same. Answers what it made, the last first."""
     note = folder / NOTE
     if resume:
         if not note.is_file():
             raise Failed(f"count_many: there is nothing to go on with in {folder}")
         if json.loads(note.read_text(encoding="utf-8")) != plan:
             raise Failed(f"count_many: {folder} is of other files, or of another --block, or a file changed since")
-    elif note.exists():
+        return []
+    if note.exists():
         raise Failed(f"count_many: {folder} has results already: --resume goes on with them")
+    if folder.exists() and not folder.is_dir():
+        raise Failed(f"count_many: {folder} is no folder")
+    made = [note, *(path for path in (folder, *folder.parents) if not path.exists())]
+    folder.mkdir(parents=True, exist_ok=True)
     note.write_text(json.dumps(plan), encoding="utf-8")
+    return made
+
+
+@contextlib.contextmanager
+def begun(folder, plan, resume):
+    """The folder, begun: what `begin` made is taken back if no run began a piece."""
+    made = begin(folder, plan, resume)
+    try:
+        yield
+    except BeganNone:
+        if not any(folder.glob("run.*")):
+            with contextlib.suppress(OSError):  # something else may lie in a folder by now
+                for path in made:
+                    path.rmdir() if path.is_dir() else path.unlink()
+        raise
 
 
 def count(given, folder, out):
@@ -273,10 +299,9 @@ def count(given, folder, out):
     if wrong := next(filter(None, map(unsized, given.files)), None):
         raise Failed(f"count_many: {wrong}")
     plan = plan_of(given)
-    begin(folder, plan, given.resume)
     files = [file.resolve() for file in given.files if file.stat().st_size]  # parallel has a standard input of its own
     size = sum(file.stat().st_size for file in files)
-    with tempfile.TemporaryDirectory(prefix="count-many-") as room:
+    with begun(folder, plan, given.resume), tempfile.TemporaryDirectory(prefix="count-many-") as room:
         texts = as_one_text(files, Path(room))
         count_pieces(given, texts, folder, size)
     pieces = pieces_in(folder)
@@ -328,9 +353,7 @@ def main():
     given = arguments()
     try:
         with tempfile.TemporaryDirectory(prefix="count-many-") as room, merge_counts.opened(sys.stdout, "wb") as out:
-            folder = given.keep or Path(room)
-            folder.mkdir(parents=True, exist_ok=True)
-            count(given, folder, out)
+            count(given, given.keep or Path(room), out)
     except Failed as why:
         print(why, file=sys.stderr)
         return 1

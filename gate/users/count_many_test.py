@@ -19,6 +19,7 @@ import tempfile
 import time
 from pathlib import Path
 
+import count_many_options
 from count_many_base import ATOMS, BLOCK, COUNT_MANY, DASK, MAPPER, MERGE, SECONDS, TEXTS, TOOLS, counted, failed, program, ran, same, whole, written
 
 # --- the merge ---------------------------------------------------------------------------------------------------------------------
@@ -141,26 +142,9 @@ def file_is_a_pipe(room):
     ):
         if wrong := failed(ran(["bash", "-c", command, "bash", *words]), why):
             return f"{command}: {wrong}"
-    if (room / "kept").exists() and os.listdir(room / "kept"):
+    if (room / "kept").exists():
         return "the folder that is kept was begun"
     return same(ran(["bash", "-c", f'"$@" /dev/stdin < {files[0]}', "bash", *words]), whole(TEXT))
-
-
-def option_is_wrong(room):
-    """A bad option is told as what it is: here, or in the words of parallel."""
-    files = written(room, [TEXT])
-    for size in ("abc", "0", "-1", "10kk", "1e4", ""):
-        found = ran([COUNT_MANY, "--atoms", ATOMS, f"--block={size}", *files])
-        if wrong := failed(found, "--block is a number of bytes") or (None if found.returncode == 2 else f"status {found.returncode}"):
-            return f"--block {size}: {wrong}"
-    for options, why in (
-        (["--jobs", "x"], "parallel began no piece: parallel: Error: Parsing of --jobs"),
-        (["--sshlogin", "2/"], "parallel began no piece: parallel: Error: "),
-        (["--tries", "0"], "--tries is at least 1"),
-    ):
-        if wrong := failed(counted(files, *options), why):
-            return f"{options}: {wrong}"
-    return same(counted(files, block="30.5k"), whole(TEXT))
 
 
 def job_fails(room):
@@ -346,7 +330,8 @@ def line_breaks(room):
     for status, row in ((255, same), (0, None)):
         ssh = room / f"ssh{status}"
         often = "true" if status == 0 else f'mkdir "{room}/broken" 2> "{room}/said"'
-        ssh.write_text(f'#!/bin/bash\nexport SHELL=/bin/bash\nshift 2\nif {often}; then sh -c "$*" | head -c 60; exit {status}; fi\nexec sh -c "$*"\n', encoding="utf-8")
+        broken = f'if {often}; then sh -c "$*" | head -c 60; exit {status}; fi'
+        ssh.write_text(f'#!/bin/bash\nexport SHELL=/bin/bash\nshift 2\n{broken}\nexec sh -c "$*"\n', encoding="utf-8")
         ssh.chmod(0o755)
         found = counted(written(room, [TEXT]), "--sshlogin", f"2/{ssh} machine")
         if wrong := same(found, whole(TEXT)) if row else failed(found, "wasn't counted"):
@@ -448,7 +433,7 @@ def rows():
         return
     for name, texts in TEXTS.items():
         yield f"text: {name}", counts_as_the_whole(texts)
-    for row in (file_comes_twice, file_is_missing, file_is_a_folder, file_is_unreadable, file_is_a_pipe, option_is_wrong):
+    for row in (file_comes_twice, file_is_missing, file_is_a_folder, file_is_unreadable, file_is_a_pipe, *count_many_options.ROWS):
         yield f"pieces: {row.__name__.replace('_', ' ')}", row
     for row in (job_fails, job_fails_once):
         yield f"pieces: {row.__name__.replace('_', ' ')}", row

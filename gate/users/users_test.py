@@ -96,7 +96,9 @@ class Begin(unittest.TestCase):
     def test_each_kind_is_begun_over_what_it_calls(self):
         atoms = {"text_forms", "node_chain", "counted_cell", "counted_set", "named_set", "set_atoms"}
         for kind, crates in (
-            ("set", {"example_hello"} | atoms), ("named", {"example_hello_named"} | atoms), ("table", {"text_forms", "interner_table", "example_scopes"}),
+            ("set", {"example_hello"} | atoms),
+            ("named", {"example_hello_named"} | atoms),
+            ("table", {"text_forms", "interner_table", "example_scopes"}),
         ):
             self.assertEqual(ran(TOOLS / "begin.py", kind, self.room / kind)[0], 0)
             self.assertEqual({path.name for path in (self.room / kind / "crates").iterdir()}, crates, kind)
@@ -116,6 +118,21 @@ class Begin(unittest.TestCase):
         for words in (["--crates", "nothing"], ["--crates", "named_set,"], [], ["table", "--crates", "named_set"]):
             self.assertNotEqual(ran(TOOLS / "begin.py", *words, self.room / "none")[0], 0, words)
             self.assertFalse((self.room / "none").exists())
+
+    def test_a_folder_that_can_not_be_made_is_told(self):
+        own = self.room / "mine"
+        own.write_text("kept", encoding="utf-8")
+        for words in (["set"], ["--crates", "interner_table"]):
+            status, said, why = ran(TOOLS / "begin.py", *words, own / "new")
+            self.assertEqual((status, said), (1, b""))
+            self.assertRegex(why, r"\Abegin: .*Not a directory.*\n\Z")
+        self.assertEqual(own.read_text(encoding="utf-8"), "kept")
+
+    def test_a_folder_with_a_space_is_gone_to(self):
+        folder = self.room / "a new one"
+        said = ran(TOOLS / "begin.py", "table", folder)[1].decode()
+        there = ran("sh", "-c", f"{said.partition(' && ')[0]} && pwd")
+        self.assertEqual(there, (0, f"{folder.resolve()}/crates/example_scopes\n".encode(), ""))
 
     def test_what_is_there_stays(self):
         own = self.room / "mine"
