@@ -17,9 +17,10 @@ it, and all pieces together have to be as long as the files. A file whose last l
 `cat`; such files are put together in a copy first.
 
 What failed is tried again in a further run, without the machines whose line broke. With --keep the folder keeps the results and the log
-of each run, and --resume counts only what is missing there. A further run cuts the same files into the same pieces, and a job whose piece
-is there already ends at once. (parallel's own --retries and --resume are of no use here: with --pipepart, as of version 20221122, a job
-that is tried again gets another piece, and its own is lost.) A command that is refused before a piece begins leaves no folder, and none changed.
+of each run, and --resume counts only what is missing there, if the files are those of the first run: a note there has their paths, sizes
+and times of change. A further run cuts the same files into the same pieces, and a job whose piece is there already ends at once.
+(parallel's own --retries and --resume are of no use here: with --pipepart, as of version 20221122, a job that is tried again gets another
+piece, and its own is lost.) A command that is refused before a piece begins makes no folder, and changes none.
 
 `tools/try_atoms.py bin` builds the program, unproved, for --atoms bin/atoms; `rt run -- check < /dev/null`, in crates/atoms, proves it and
 leaves it where it is looked for if --atoms isn't given. It has to be at the same path on each machine. No path of it, or of FOLDER, may have
@@ -54,8 +55,8 @@ BRACES = re.compile(r"\{.*\}", re.DOTALL)  # what parallel may put something els
 SIZE = re.compile(r"[1-9]\d*(\.\d+)?[kKmMgGtTpP]?", re.ASCII)
 
 # What a job does with its piece, which comes on standard input: on standard output the counts, and as the last line on standard error
-# `end READ WROTE SUM`, or `refused` for a piece that isn't UTF-8, which no second try mends. The first two are in bytes; the sum is of the counts,
-# behind a line that has the mark of the text and the number of the piece.
+# `end READ WROTE SUM`, or `refused MARK` for a piece that isn't UTF-8, which no second try mends. The first two are in bytes; the sum is of the
+# counts, behind a line that has the mark of the text and the number of the piece.
 JOB = """
 case " DONE " in *" $PIECE "*) exit 0;; esac
 room=$(mktemp -d) || exit 3
@@ -68,7 +69,7 @@ if ATOMS count WORKERS < "$room/piece" > "$room/counts" 2> "$room/fault"; then
 else
     status=$?
     cat "$room/fault" >&2
-    if grep -q "^NOT_TEXT$" "$room/fault"; then echo refused >&2; exit 0; fi
+    if grep -q "^NOT_TEXT$" "$room/fault"; then echo refused MARK >&2; exit 0; fi
     exit $status
 fi
 """
@@ -108,7 +109,7 @@ class Piece:
         return sum_of(f"{self.mark} {self.number}\n", self.counts, self.counts.stat().st_mtime_ns)
 
     def is_refused(self):
-        return self.said()[-1:] == ["refused"]
+        return self.said()[-1:] == [f"refused {self.mark}"]
 
 
 @functools.lru_cache(maxsize=None)
@@ -261,14 +262,28 @@ def see_whole(pieces, size):
         raise Failed(f"count_many: the pieces have {read} bytes of {size}: one is missing, or a file changed")
 
 
+def unlike(note, plan):
+    """How what a folder's runs are of, as its note tells, differs from this plan; None if it doesn't."""
+    try:
+        noted = json.loads(note.read_text(encoding="utf-8"))
+    except ValueError:
+        return f"has a {NOTE} that isn't whole"
+    if noted == plan:
+        return None
+    if [path for path, *_ in noted["files"]] != [path for path, *_ in plan["files"]]:
+        return f"is of other files, as {NOTE} there lists them"
+    changed = [now[0] for now, then in zip(plan["files"], noted["files"]) if now != then]
+    return f"is of {changed[0]} as it was before it changed" if changed else f"has pieces of --block {noted['block']}"
+
+
 def begin(folder, plan, resume):
     """Makes the folder, and notes what its runs are of; a run that goes on has to be of the same. Answers what it made, the last first."""
     note = folder / NOTE
     if resume:
         if not note.is_file():
             raise Failed(f"count_many: there is nothing to go on with in {folder}")
-        if json.loads(note.read_text(encoding="utf-8")) != plan:
-            raise Failed(f"count_many: {folder} is of other files, or of another --block, or a file changed since")
+        if why := unlike(note, plan):
+            raise Failed(f"count_many: {folder} {why}: another folder has to keep this count")
         return []
     if note.exists():
         raise Failed(f"count_many: {folder} has results already: --resume goes on with them")
@@ -276,7 +291,9 @@ def begin(folder, plan, resume):
         raise Failed(f"count_many: {folder} is no folder")
     made = [note, *(path for path in (folder, *folder.parents) if not path.exists())]
     folder.mkdir(parents=True, exist_ok=True)
-    note.write_text(json.dumps(plan), encoding="utf-8")
+    half = note.with_suffix(".half")
+    half.write_text(json.dumps(plan), encoding="utf-8")
+    half.replace(note)  # so a run that is killed leaves no half of a note
     return made
 
 

@@ -51,6 +51,11 @@ def written(room, texts):
     return files
 
 
+def lying(folder):
+    """What lies in the folder: files with their bytes, and folders."""
+    return {path: None if path.is_dir() else path.read_bytes() for path in folder.rglob("*")}
+
+
 def program(room, body):
     """A program in the place of `atoms`, with the true one as $ATOMS."""
     path = room / "program"

@@ -2,14 +2,9 @@
 
 import shutil
 
-from count_many_base import ATOMS, COUNT_MANY, TEXTS, counted, failed, ran, same, whole, written
+from count_many_base import ATOMS, COUNT_MANY, TEXTS, counted, failed, lying, ran, same, whole, written
 
 TEXT = TEXTS["many words"][0]
-
-
-def lying(room):
-    """What lies in the room: files with their bytes, and folders."""
-    return {path: None if path.is_dir() else path.read_bytes() for path in room.rglob("*")}
 
 
 def refused(room, command, why, status):

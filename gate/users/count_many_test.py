@@ -20,6 +20,7 @@ import time
 from pathlib import Path
 
 import count_many_options
+import count_many_resumed
 from count_many_base import ATOMS, BLOCK, COUNT_MANY, DASK, MAPPER, MERGE, SECONDS, TEXTS, TOOLS, counted, failed, program, ran, same, whole, written
 
 # --- the merge ---------------------------------------------------------------------------------------------------------------------
@@ -237,26 +238,6 @@ def run_is_broken_off(room):
     return same(counted(files, "--keep", kept, "--resume"), whole(TEXT))
 
 
-def other_text_is_resumed(room):
-    files, kept = written(room, [TEXT]), room / "kept"
-    counted(files, "--keep", kept)
-    files[0].write_bytes(TEXT + b"more\n")
-    return failed(counted(files, "--keep", kept, "--resume"), "is of other files") or failed(
-        counted(files, "--keep", kept), "has results already"
-    )
-
-
-def other_run_is_laid_in(room):
-    """Pieces of another text of the same length aren't taken for those of this one."""
-    files, other = written(room, [TEXT]), room / "other"
-    other.write_bytes(TEXT.replace(b"word1", b"ward1"))
-    for file, kept in ((other, "those"), (files[0], "these")):
-        counted([file], "--keep", room / kept)
-    shutil.rmtree(room / "these" / "run.0")
-    shutil.copytree(room / "those" / "run.0", room / "these" / "run.0")
-    return same(counted(files, "--keep", room / "these", "--resume"), whole(TEXT))
-
-
 def text_grows_meanwhile(room):
     slow = program(room, 'sleep 0.2; echo more >> "$ROOM/text.0"; exec "$ATOMS" count 1')
     return failed(counted(written(room, [TEXT]), atoms=slow), "a file changed while it was counted")
@@ -439,7 +420,7 @@ def rows():
         yield f"pieces: {row.__name__.replace('_', ' ')}", row
     for row in (program_is_missing, program_is_named_from_here, path_has_braces):
         yield f"pieces: {row.__name__.replace('_', ' ')}", row
-    for row in (results_are_spoilt, run_is_broken_off, other_text_is_resumed, other_run_is_laid_in, text_grows_meanwhile, prints_nothing_but_counts):
+    for row in (results_are_spoilt, run_is_broken_off, *count_many_resumed.ROWS, text_grows_meanwhile, prints_nothing_but_counts):
         yield f"pieces: {row.__name__.replace('_', ' ')}", row
     yield "machines: a line that breaks", line_breaks
     if shutil.which("sshd", path=os.environ.get("PATH", "") + ":/usr/sbin"):
