@@ -2,8 +2,8 @@
 """Tries what no other part of the test command tries: the test command fails if a part of it is killed or never begins, and ends what a part started
 if it is ended itself, what is kept by name is there, docs/TESTS.md counts right, a stored run tells of wrong bodies, the pictures of docs/ are what
 the scripts draw of the stored figures, the number of checks side by side is one that the machine has processors for, a module's time is that since
-the one before, a number of crates.txt that is wrong is told, gate/pages/pages.py tells of a page of definitions that doesn't say what the sources say, and gate/quick.py, over a small crate,
-passes what is right and nothing else.
+the one before, a number of crates.txt that is wrong is told, gate/pages/pages.py tells of a page of definitions that doesn't say what the sources
+say, and gate/quick.py, over a small crate, passes what is right and nothing else.
 
 usage: gate/small_test.py
 """
