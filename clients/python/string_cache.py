@@ -137,7 +137,7 @@ def _check(number: int) -> None:
 
 
 def _is(kind: type, name: str, value: object) -> None:
-    """Raises a TypeError that names an argument where it isn't of this type."""
+    """Raises a TypeError that names an argument if it isn't of this type."""
     if not isinstance(value, kind):
         raise TypeError(f"{name} has to be of type {kind.__name__}, and is of type {type(value).__name__}")
 
@@ -182,14 +182,14 @@ class Interner:
         _check(_library.sc_open_keyed(self._table, holders, tickets, bucket_bits, halves))
 
     def intern(self, text: str) -> int:
-        """The int that stands for a text, with one holder more. UnicodeEncodeError where the text has half of a surrogate pair."""
+        """The int that stands for a text, with one holder more. UnicodeEncodeError if the text has half of a surrogate pair."""
         encoded, word = _encoded(text), ctypes.c_uint64()
         with self._lock:
             _check(_library.sc_intern(self._table, encoded, len(encoded), word))
         return word.value
 
     def get(self, text: str) -> Optional[int]:
-        """The int that stands for a text, with no holder more; None where it has none."""
+        """The int that stands for a text, with no holder more; None if it has none."""
         encoded, word = _encoded(text), ctypes.c_uint64()
         with self._lock:
             number = _library.sc_get(self._table, encoded, len(encoded), word)
@@ -199,7 +199,7 @@ class Interner:
         return word.value
 
     def text(self, word: int) -> str:
-        """The text that an int stands for. KeyError where it isn't held."""
+        """The text that an int stands for. KeyError if it isn't held."""
         with self._lock:
             return self._text(word)
 
@@ -216,12 +216,12 @@ class Interner:
         return room.raw[: length.value].decode()
 
     def hold(self, word: int) -> None:
-        """One holder more of an int. KeyError where it isn't held."""
+        """One holder more of an int. KeyError if it isn't held."""
         with self._lock:
             self._change(_library.sc_clone, word)
 
     def release(self, word: int) -> None:
-        """One holder less of an int: with the last one its text goes. KeyError where it isn't held."""
+        """One holder less of an int: with the last one its text goes. KeyError if it isn't held."""
         with self._lock:
             self._change(_library.sc_give, word)
 
@@ -232,7 +232,7 @@ class Interner:
         _check(number)
 
     def holders(self, word: int) -> Optional[int]:
-        """How many holders an int has; None where it isn't held, or its text has at most 7 bytes."""
+        """How many holders an int has; None if it isn't held, or its text has at most 7 bytes."""
         holders = ctypes.c_uint64()
         with self._lock:
             number = _library.sc_holders(self._table, _word(word), holders)
@@ -288,7 +288,7 @@ class Interner:
             return _library.sc_entries(self._table)
 
     def __iter__(self) -> Iterator[str]:
-        """The texts of more than 7 bytes, in the order in which they came; where one goes, the last one comes in its place."""
+        """The texts of more than 7 bytes, in the order in which they came; if one goes, the last one comes in its place."""
         for _, text in self.items():
             yield text
 

@@ -46,7 +46,7 @@ struct Slots {
 
 impl Slots {
     /// The place of a symbol. Each slot before it has a serial of its own, so the place is at most the distance of its serial from the first one, and
-    /// is that where nothing has gone.
+    /// is that if nothing has gone.
     fn place_of(&self, symbol: Symbol) -> Option<usize> {
         let first = self.list.first()?.symbol.word() >> SERIAL_SHIFT;
         let most = (symbol.word() >> SERIAL_SHIFT).checked_sub(first)?.min(self.list.len() as u64 - 1) as usize;
@@ -162,7 +162,7 @@ mod tests {
         many_texts_come_and_go();
     }
 
-    /// Two static types may have one text in one table, where the parts of the hash that choose it are the same.
+    /// Two static types may have one text in one table, if the parts of the hash that choose it are the same.
     fn each_key_has_its_hash() {
         let one = Hashes { g: 64, f1: 1, f2: 2 };
         let other = Hashes { g: 128, f1: 3, f2: 4 };

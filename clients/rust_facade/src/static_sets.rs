@@ -8,7 +8,7 @@ pub trait StaticAtomSet: Ord {
     /// Its static tables.
     fn get() -> &'static PhfStrSet;
 
-    /// The index of the empty text, where the tables list it.
+    /// The index of the empty text, if the tables list it.
     fn empty_string_index() -> u32 {
         0
     }

@@ -20,6 +20,7 @@ pub fn buckets_for(bytes: usize) -> Buckets {
 }
 
 /// A name that no set has, for the words of a text with this number of bytes. Its set finds them under a key that is made of these.
+/// It is refused for `Memory` alone.
 pub fn name_under(alloc: Global, keys: RandomState, bytes: usize) -> Result<FreshName, Fault>
     ensures { IfErr result (λ fault. fault ≡ Memory) }
 {

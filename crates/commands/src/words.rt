@@ -156,9 +156,9 @@ fn list_words<I: Interner, S: Source, K: Sink>(
 }
 
 /// Writes, for each word that the reader gives, a line that tells how often it occurred before. The words are interned in the set, repeated ones
-/// again, and the atom of each place is held until the end of the call; inline ones hold nothing of the set. To tell how often they occurred, words
-/// are hashed under these keys, which affect only the time that it takes: under random ones, as `RandomState::new` draws them, nobody can choose
-/// words that collide there.
+/// again, and the atom of each place is held until the end of the call; inline words, which would hold nothing of the set, aren't. To tell how often
+/// they occurred, words are hashed under these keys, which affect only the time that it takes: under random ones, as `RandomState::new` draws them,
+/// nobody can choose words that collide there.
 ///
 /// `Read` and `Text` (the input isn't UTF-8) are returned before anything is written, and so is `Intern(Memory)` while the input is read. After
 /// another fault, a beginning of the lines may have been written.

@@ -50,8 +50,8 @@ impl Model for FreshName {
 }
 
 impl FreshName {
-    /// A name that no set has, for one of the usual number of buckets, which is 256. Each has a lock of its own, and finds a text in a time
-    /// that doesn't grow with their number, so more are of use to more threads alone: 1,024 to many. It is refused for `Memory` alone.
+    /// A name that no set has, for one of 256 buckets. Each bucket has a lock of its own, and finds a text in a time that doesn't grow with the
+    /// number of texts, so more are of use to more threads alone: 1,024 to many. It is refused for `Memory` alone.
     pub fn usual(alloc: Global) -> Result<FreshName, Fault>
         ensures bits { IfOk result (λ name. name.bits ≡ usual_set_bits) }
         ensures refused { IfErr result (λ fault. fault ≡ Memory) }
@@ -79,8 +79,8 @@ impl FreshName {
         })
     }
 
-    /// The same name. The set that is made with it finds its texts under this key, so that those who don't know it can't choose texts which
-    /// slow it down, except by chance. Without a key a set finds them under none, which is for texts that no outsider picks.
+    /// The same name, whose set finds its texts under this key: those who don't know it can't choose texts which slow the set down, except by
+    /// chance. Without a key a set finds them under none, which is for texts that no outsider picks.
     pub fn under(self, key: SipKey) -> FreshName
         ensures { result ≡ self }
     {

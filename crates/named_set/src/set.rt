@@ -146,7 +146,9 @@ impl<Static: StaticTables, N: SetName> NamedSet<Static, N> {
         }
     }
 
-    /// The held word of the text, if it is held. Nothing is linked. It is refused for `FullCount` alone.
+    /// The held word of the text. `None` if nobody holds it: nothing is linked, and cells that nobody holds may go.
+    ///
+    /// `FullCount` if it is held as often as the limits allow, and nothing else.
     pub fn find<'s, R: Wait>(
         &'s self,
         rt: &R,

@@ -11,8 +11,8 @@
 //! intern TEXT   sweep B   add eE   clone eE   give eE   unlink eE   free eE   link   link noroom   leave
 //! ```
 //!
-//! Before the first step there may be `limits HOLDERS SERIALS`, the most holders of an entry and serials of a bucket, and after it `buckets BITS`,
-//! for 2 to the power of `BITS` buckets. Numbers are decimal, without a sign or leading zeros.
+//! Before the first step there may be `limits HOLDERS SERIALS`, the most holders of an entry and serials of a bucket, and then, or alone,
+//! `buckets BITS`, for 2 to the power of `BITS` buckets. Numbers are decimal, without a sign or leading zeros.
 #![tactic(auto)]
 
 mod faults;

@@ -66,7 +66,7 @@ fn output_of(alloc: Global, limits: Limits, buckets: Buckets, text: &str) -> Res
 }
 
 /// The output of a script, over a new table: a line for each step's reply, and then one for each entry that is held. `NotAStep` if it isn't a script:
-/// each line is checked before the first step is made.
+/// each line is checked before the first step is made. `Memory` if a request for memory is refused.
 pub fn replay_text(alloc: Global, text: &str) -> Result<String, ScriptFault>
     ensures output { IfOk result (λ out. IsReplay empty_tables text.now (string_bytes out)) }
     ensures line { (n : ℕ) → result ≡ Err (ScriptFault.NotAStep n) → IsFirstBadLine (script_lines text.now) n }

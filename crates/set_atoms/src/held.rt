@@ -128,14 +128,14 @@ pub trait TextSet: Copy {
     /// What the set takes its memory from.
     fn allocator(self) -> Global;
 
-    /// A share of the text, which is linked if it is new.
+    /// A share of the text, which is linked if it is new. `FullCount`, `TicketsSpent` or `Memory` if the set refuses it.
     fn intern<R: Wait>(self, rt: &R, text: &str, hash: u64) -> Result<Self::Held, Fault>
         requires { hash ≡ entry_hash Self.Held.Static.tables text.now }
         ensures text { IfOk result (λ held. (Self.Held.atom_of held).text ≡ text.now) }
         ensures own { IfOk result (IsOwnShare Self.Held.atom_of Self.Held.is_kept Self.Held.is_ticket) }
         ensures refused { IfErr result IsInternFault };
 
-    /// A share of the text, if the set has it and it is held. Nothing is linked.
+    /// A share of the text, if the set has it and it is held. Nothing is linked. It is refused for `FullCount` alone.
     fn find<R: Wait>(self, rt: &R, text: &str, hash: u64) -> Result<Option<Self::Held>, Fault>
         requires { hash ≡ entry_hash Self.Held.Static.tables text.now }
         ensures text { IfOk result (λ found. IfSome found (λ held. (Self.Held.atom_of held).text ≡ text.now)) }

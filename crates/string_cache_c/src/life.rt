@@ -93,7 +93,7 @@ pub extern "C" fn sc_table_close(t: &mut ScTable)
     drop(t.take());
 }
 
-/// Ends every entry, whoever holds it, and keeps the memory. No ticket is given again. Returns 7 if the table is closed.
+/// Ends every entry, whoever holds it, and keeps room for as many. No ticket is given again. Returns 7 if the table is closed.
 #[unsafe(no_mangle)]
 pub extern "C" fn sc_table_clear(t: &mut ScTable) -> u32
     ensures none { t.old.seat.value ≡ None → result ≡ closed }

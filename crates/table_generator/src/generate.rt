@@ -45,12 +45,12 @@ fn has_double(list: &[&str]) -> bool
     false
 }
 
-/// The most first displacements that are tried for more than five texts, so that a hopeless search ends.
+/// So many first displacements are tried at most for more than five texts, or as many as there are texts, so that a hopeless search ends.
 const MOST_FIRST: u32 = 65_536;
 
 /// The displacements that are tried for `count` texts. If `count` divides 2^32, a displacement and its remainder modulo `count` give each text the
 /// same place, so no more than `count` are tried. For three and for five texts, all are. For other numbers of texts, no more than `count` second ones
-/// are, as they rotate the texts, and `MOST_FIRST` first ones.
+/// are, as they rotate the texts, and `MOST_FIRST` first ones, or `count` if that is more.
 fn tried(count: u32, bound: u32) -> Tried
     requires count { 1 ≤ count }
     requires bound { 1 ≤ bound }
@@ -141,10 +141,10 @@ fn tables_in(alloc: Global, list: &[&str], key: u64, bound: u32) -> Result<Optio
 /// Another key, or a greater bound, may find some.
 ///
 /// The search takes milliseconds for a thousand texts, and always ends. What it tries for one pair, if that is hopeless, is at most 65,536 or `bound`
-/// displacements, whichever is less, times the number of texts; that number's square if it is a power of two; and three times `bound` times `bound`
-/// for three or five texts. Small displacements are tried first: if some below a small bound place the texts, a greater bound takes no longer. Equal
-/// texts have equal hashes, so each text is compared only with those of its own pair, about five of them. If memory is refused before that, or there
-/// are 2^32 texts or more, it is compared with all before it, which takes no memory, but hours for millions of texts.
+/// displacements, whichever is less, times the number of texts; that number's square if it is a power of two, or above 65,536; and three times
+/// `bound` times `bound` for three or five texts. Small displacements are tried first: if some below a small bound place the texts, a greater bound
+/// takes no longer. Equal texts have equal hashes, so each text is compared only with those of its own pair, about five of them. If memory is refused
+/// before that, or there are 2^32 texts or more, it is compared with all before it, which takes no memory, but hours for millions of texts.
 pub fn generate(alloc: Global, list: &[&str], key: u64, bound: u32) -> Result<Tables, GenFault>
     ensures { TellsTables (texts_of list.now) key bound result }
 {

@@ -6,7 +6,7 @@ ghost use Rattle.text_forms.specs.Faults.{fault_number};
 use std::alloc::{AllocError, AllocFailed};
 use thiserror::Error;
 
-/// Why a call is refused. A refusal leaves texts, tickets and holders as they were.
+/// Why a call is refused. What is refused leaves each text that is held as it was, with its ticket and its holders.
 #[derive(Clone, Copy, Debug, PartialEq, Eq, Error)]
 pub enum Fault {
     /// A request for memory was refused.

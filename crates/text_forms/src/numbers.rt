@@ -30,7 +30,7 @@ pub fn number_of(text: &str) -> Option<u64>
     text.parse::<u64>().ok()
 }
 
-/// The number that follows `words`, up to the end of the text.
+/// The number that follows `words`, up to the end of the text. `None` if none does.
 pub fn number_after(text: &str, words: &str) -> Option<u64>
     ensures { MatchOption result ((n : ℕ) → n < 2 ^ 64 → text.now ≢ words.now ++ decimal n)
         (λ n. text.now ≡ words.now ++ decimal n) }

@@ -34,7 +34,7 @@ impl PhfStrSet {
 }
 
 /// What `PhfStrSet::check` decides, for borrowed tables: whether a static type may have them and each text is listed once, at its place. Then every
-/// text of more than 7 bytes in them is static. The hashes are only counted. It takes no memory, and hashes each text once.
+/// text of more than 7 bytes in them is static. The hashes are only counted. It takes no memory, and hashes each text at most once.
 pub fn check_parts(key: u64, disps: &[(u32, u32)], atoms: &[&str], hashes: &[u64]) -> bool
     ensures perfect { IsTrue result ↔ IsPerfectTable (parts key disps.now atoms.now hashes.now) }
     ensures found { IsTrue result → AllAreStatic (parts key disps.now atoms.now hashes.now) }
@@ -194,7 +194,7 @@ pub fn static_text<S: StaticTables>(index: u32) -> Option<&'static str>
 }
 
 /// Whether each text of the tables of `S` is listed once, at its place. Then every text of more than 7 bytes in them is static.
-/// The hashes aren't looked at. It takes no memory, and hashes each text once.
+/// The hashes aren't looked at. It takes no memory, and hashes each text at most once.
 pub fn are_perfect<S: StaticTables>() -> bool
     ensures perfect { IsTrue result ↔ IsPerfectTable S.tables }
     ensures found { IsTrue result → AllAreStatic S.tables }

@@ -48,7 +48,7 @@ pub type WordCounts<A> = Vec<(A, u64)>;
 /// Each distinct word of the text once, in the order of bytes, with the number of its places.
 ///
 /// The words are cut into `n` pieces, in order and about equally long, and each goes to a worker with a thread of its own.
-/// It interns every place of every word in the set, repeated ones again, between the gate's two calls.
+/// It interns every word of its piece in the set, and a dynamic one at each of its places again, between the gate's two calls.
 ///
 /// Words are hashed under `keys` while they are counted. What is returned doesn't depend on them. If they are random, as `RandomState::new` draws
 /// them, nobody can choose words that collide there. In which bucket of the set a word is follows from the word alone, so whoever writes the text can

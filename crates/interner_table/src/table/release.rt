@@ -87,8 +87,8 @@ impl<S: StaticTables, H: BuildHasher> Table<S, H> {
         true
     }
 
-    /// Ends every entry, whoever holds it, and keeps the memory. Each bucket keeps its last serial, so that no ticket is given again: the words that
-    /// were handed out are no longer held, except inline and static ones.
+    /// Ends every entry, whoever holds it, and keeps room for as many. The memory of texts is given back. Each bucket keeps its last serial, so that
+    /// no ticket is given again: the words that were handed out are no longer held, except inline and static ones.
     pub fn clear(&mut self)
         ensures { self.new ≡ record { limits = self.old.limits; lasts = self.old.lasts; pairs = [] } }
     {

@@ -72,7 +72,8 @@ impl<H: AtomKind> SetAtom<H> {
     /// The atom of the text with each letter a to z changed to A to Z and every other byte as it was, as the set's `from_str_in` gives it. If no byte
     /// changes, this is `clone_atom`.
     ///
-    /// A changed text of up to 64 bytes takes no memory; a longer one is an owned text, so that `Memory` may be returned for a static text as well.
+    /// A changed text of up to 64 bytes takes no memory of its own; a longer one is an owned text, so that `Memory` may be returned for a static text
+    /// as well.
     /// Other refusals are those of `from_str_in` and `clone_atom`.
     pub fn to_ascii_uppercase_in<S: TextSet<Held = H>, R: Wait>(
         &self,
