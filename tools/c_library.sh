@@ -115,7 +115,8 @@ fill() {
     mkdir -p "$1"
     build libstring_cache.so
     describe '' '' '' > "$room/string_cache.pc"
-    cp "$C/string_cache.h" "$room/libstring_cache.a" "$room/libstring_cache.so" "$room/string_cache.pc" "$1/"
+    # As new files: one that is overwritten would change under programs that run with it.
+    cp --remove-destination "$C/string_cache.h" "$room/libstring_cache.a" "$room/libstring_cache.so" "$room/string_cache.pc" "$1/"
     echo "c_library: libstring_cache.a, libstring_cache.so, string_cache.h and string_cache.pc are in $(cd "$1" && pwd)"
 }
 

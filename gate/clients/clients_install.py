@@ -175,6 +175,19 @@ def script_place(place):
     return 3
 
 
+def script_again(place):
+    """A folder that is filled again gets new files: the library that a program runs with stays as it is."""
+    out = place.room / "out"
+    said_by(SCRIPT, out, place.library / "libstring_cache.a")
+    with (out / "libstring_cache.so").open("rb") as library:
+        before = library.read()
+        said_by(SCRIPT, out, place.library / "libstring_cache.a", env={**os.environ, "CFLAGS": "-O0 -g"})
+        library.seek(0)
+        if library.read() != before or (out / "libstring_cache.so").read_bytes() == before:
+            raise Failed("the library of a running program is overwritten, or stays")
+    return 1
+
+
 def python_with_setuptools():
     """A Python that can build a wheel with no network."""
     for python in (sys.executable, "/usr/bin/python3"):
@@ -248,5 +261,6 @@ def install_rows():
     """What is tested of an installation, by its name."""
     found = {"install pkg-config": install_pkg_config, "install cmake": install_cmake, "install manual": install_pages}
     found.update({"install help": script_help, "install progress": script_progress, "install archive": script_archive, "install place": script_place})
+    found["install again"] = script_again
     found.update({"install pip": install_pip, "install without wheel": install_without_wheel, "install cargo": install_cargo})
     return found
