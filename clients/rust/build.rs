@@ -13,8 +13,12 @@ fn installed() -> Option<String> {
 fn main() {
     println!("cargo:rerun-if-env-changed=STRING_CACHE_DIR");
     println!("cargo:rerun-if-env-changed=PKG_CONFIG_PATH");
-    match env::var("STRING_CACHE_DIR").ok().or_else(installed) {
-        Some(folder) => println!("cargo:rustc-link-search=native={folder}"),
+    match env::var("STRING_CACHE_DIR").ok().filter(|folder| !folder.is_empty()).or_else(installed) {
+        Some(folder) => {
+            println!("cargo:rustc-link-search=native={folder}");
+            // The crate's own library has a copy of it, which cargo makes anew only if it is told to look.
+            println!("cargo:rerun-if-changed={folder}/libstring_cache.a");
+        }
         None => println!("cargo:warning=neither STRING_CACHE_DIR nor pkg-config says where libstring_cache.a is"),
     }
     println!("cargo:rustc-link-lib=static=string_cache");

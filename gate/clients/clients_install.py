@@ -22,6 +22,15 @@ PROVING = [
     ("fn interner_table::table::get: proved\nrt: chose --jobs 1 for string_cache_c", "proving string_cache_c, N seconds; nothing checked so far"),
     ("checked string_cache_c::sc_get, 7 of 40", "proving string_cache_c, N seconds; 7 of 40 checked"),
 ]
+TELLS_VERSION = """//! Tells the version of the library.
+extern "C" {
+    fn sc_version() -> u32;
+}
+fn main() {
+    assert!(interned_names::Interner::new().is_ok());
+    println!("{}", unsafe { sc_version() });
+}
+"""
 PIP = ["--no-build-isolation", "--no-index", "--no-deps", "--disable-pip-version-check"]
 
 
@@ -257,10 +266,30 @@ def install_cargo(place):
     return 1
 
 
+def install_cargo_again(place):
+    """A program that cargo built has the library as it is built anew in the same folder."""
+    cargo, crate, library = tool("cargo"), place.room / "rust", place.room / "library"
+    shutil.copytree(CLIENTS / "rust", crate, ignore=shutil.ignore_patterns("target", "Cargo.lock"))
+    (crate / "examples" / "told.rs").write_text(TELLS_VERSION, encoding="ascii")
+    shutil.copytree(place.library, library)
+    archive, own = library / "libstring_cache.a", place.room / "string_cache.c"
+    text = (C / "string_cache.c").read_text(encoding="utf-8")
+    words = [cargo, "run", "--quiet", "--offline", "--example", "told", "--target-dir", place.room / "target"]
+    environment, told = {**os.environ, "STRING_CACHE_DIR": str(library)}, []
+    for version in ("10100", "10101"):
+        own.write_text(text.replace("sc_table_version() * 10000u + SC_VERSION_MINOR * 100u + SC_VERSION_PATCH", f"{version}u"), encoding="utf-8")
+        said_by(cc(), "-O2", "-fPIC", "-I", C, "-c", own, "-o", own.with_suffix(".o"))
+        said_by(tool("ar"), "rs", archive, own.with_suffix(".o"))
+        told.append(said_by(*words, cwd=crate, env=environment).strip())
+    if told != ["10100", "10101"]:
+        raise Failed(f"over libraries of two versions it prints {told}")
+    return 1
+
+
 def install_rows():
     """What is tested of an installation, by its name."""
     found = {"install pkg-config": install_pkg_config, "install cmake": install_cmake, "install manual": install_pages}
     found.update({"install help": script_help, "install progress": script_progress, "install archive": script_archive, "install place": script_place})
-    found["install again"] = script_again
+    found.update({"install again": script_again, "install cargo again": install_cargo_again})
     found.update({"install pip": install_pip, "install without wheel": install_without_wheel, "install cargo": install_cargo})
     return found
