@@ -163,6 +163,8 @@ class Interner:
     def __init__(
         self, holders: int = (1 << 63) - 1, tickets: int = (1 << 48) - 1, bucket_bits: int = 12, key: Optional[int] = None
     ) -> None:
+        if "_table" in self.__dict__:
+            raise RuntimeError("an Interner is made once")  # its table would be lost, and never freed
         for name, limit in (("holders", holders), ("tickets", tickets), ("bucket_bits", bucket_bits)):
             _is(int, name, limit)
         # A finalizer or a signal handler may run wherever this module makes an object or takes a step, so also while its thread has the lock: it

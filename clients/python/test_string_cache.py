@@ -325,6 +325,13 @@ class Ending(unittest.TestCase):
                 raise LookupError
         self.assertRaises(Closed, names.intern, "a longer name")
 
+    def test_an_interner_is_made_once(self) -> None:
+        with Interner() as names:
+            word = names.intern("a longer name")
+            for limits in ({}, {"holders": 0}, {"key": 1}):
+                self.assertRaises(RuntimeError, names.__init__, **limits)  # type: ignore[misc]
+            self.assertEqual((names.text(word), len(names)), ("a longer name", 1))
+
     def test_an_interner_that_was_never_made_ends(self) -> None:
         with mock.patch.object(sys, "unraisablehook") as hook:
             self.assertRaises(TypeError, Interner, holders=2.0)
