@@ -82,7 +82,8 @@ def install_pkg_config(place):
 
 
 def install_cmake(place):
-    """The example over an installation, static and shared, by CMake, run with no variable. A later major version is not taken."""
+    """The example over an installation, static and shared, by CMake, run with no variable. Neither a later major version is taken,
+    nor one behind the end of a range."""
     cmake, own = tool("cmake"), installed(place)
     project = place.room / "project"
     project.mkdir()
@@ -95,12 +96,13 @@ def install_cmake(place):
     said_by(cmake, "--build", place.room / "build")
     for kind in kinds:
         expect_example(place.room / "build" / kind)
-    (project / "CMakeLists.txt").write_text(find.format("2.0"), encoding="utf-8")
-    try:
-        said_by(cmake, "-S", project, "-B", place.room / "later", f"-DCMAKE_PREFIX_PATH={own.prefix}")
-    except Failed:
-        return 4
-    raise Failed("version 2.0 is found")
+    refused = ("2.0", "1.0...1.1", "1.0...<1.2")
+    for version in refused:
+        (project / "CMakeLists.txt").write_text(find.format(version), encoding="utf-8")
+        words = [cmake, "-S", project, "-B", place.room / f"other-{version.replace('<', '')}", f"-DCMAKE_PREFIX_PATH={own.prefix}"]
+        if subprocess.run(words, capture_output=True, check=False).returncode == 0:
+            raise Failed(f"version {version} is found")
+    return len(kinds) + len(refused)
 
 
 def install_pages(place):
