@@ -75,7 +75,8 @@ static void print(struct names *names, const struct usage *usage) {
     if (number != SC_OK) {
         fail(sc_strerror(number));
     }
-    printf("%.*s %lu %lu\n", (int)len, text, usage->first_line, usage->times);
+    fwrite(text, 1, len, stdout); /* a name may be longer than an int tells */
+    printf(" %lu %lu\n", usage->first_line, usage->times);
 }
 
 int main(int count, char **arguments) {

@@ -97,7 +97,9 @@ static void print_name(struct scopes *scopes, const struct name *name) {
         fail("there is no memory");
     }
     expect_ok(sc_text(&scopes->table, name->word, text, len, &len));
-    printf("  %.*s %lu %lu\n", (int)len, text, name->first_line, name->times);
+    fputs("  ", stdout);
+    fwrite(text, 1, len, stdout); /* a name may be longer than an int tells */
+    printf(" %lu %lu\n", name->first_line, name->times);
     free(text);
 }
 
