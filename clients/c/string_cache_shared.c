@@ -123,7 +123,8 @@ sc_status sc_shared_open_with(sc_shared *shared, uint8_t shard_bits, uint64_t ho
     if (shared->shards != NULL) {
         return SC_NOT_CLOSED;
     }
-    if (shard_bits > MOST_BITS || bucket_bits > MOST_BITS - shard_bits) {
+    /* Here too, so that neither memory nor a key is asked for before. */
+    if (shard_bits > MOST_BITS || bucket_bits > MOST_BITS - shard_bits || holders - 1 >= MOST_HOLDERS || tickets - 1 >= MOST_TICKETS) {
         return SC_NOT_LIMITS;
     }
     shards = block_of(shard_bits, bucket_bits);

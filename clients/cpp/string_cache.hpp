@@ -118,6 +118,9 @@ public:
     friend bool operator!=(const Symbol &one, const Symbol &other) noexcept { return one.word_ != other.word_; }
     // An order for maps: that of the words, and not of the texts.
     friend bool operator<(const Symbol &one, const Symbol &other) noexcept { return one.word_ < other.word_; }
+    friend bool operator>(const Symbol &one, const Symbol &other) noexcept { return other < one; }
+    friend bool operator<=(const Symbol &one, const Symbol &other) noexcept { return !(other < one); }
+    friend bool operator>=(const Symbol &one, const Symbol &other) noexcept { return !(one < other); }
     friend std::ostream &operator<<(std::ostream &out, const Symbol &symbol) { return out << symbol.text(); }
 
 private:

@@ -146,6 +146,9 @@ public:
     friend bool operator!=(const SharedSymbol &one, const SharedSymbol &other) noexcept { return one.word_ != other.word_; }
     // An order for maps: that of the words, and not of the texts.
     friend bool operator<(const SharedSymbol &one, const SharedSymbol &other) noexcept { return one.word_ < other.word_; }
+    friend bool operator>(const SharedSymbol &one, const SharedSymbol &other) noexcept { return other < one; }
+    friend bool operator<=(const SharedSymbol &one, const SharedSymbol &other) noexcept { return !(other < one); }
+    friend bool operator>=(const SharedSymbol &one, const SharedSymbol &other) noexcept { return !(one < other); }
     friend std::ostream &operator<<(std::ostream &out, const SharedSymbol &symbol) { return out << symbol.text(); }
 
 private:

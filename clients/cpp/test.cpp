@@ -161,7 +161,8 @@ void names_stand_in_order() {
 // Symbols are compared as their words are.
 bool agree(const Symbol &one, const Symbol &other) {
     const std::uint64_t left = one.word(), right = other.word();
-    return (one == other) == (left == right) && (one != other) == (left != right) && (one < other) == (left < right);
+    const bool are_in_order = (one < other) == (left < right) && (one > other) == (left > right) && (one <= other) == (left <= right);
+    return (one == other) == (left == right) && (one != other) == (left != right) && are_in_order && (one >= other) == (left >= right);
 }
 
 // Words of short texts that differ in one byte of eight, also in the upper half alone, and of long ones.

@@ -177,7 +177,8 @@ void two_texts_never_share_a_symbol() {
 // Symbols are compared as their words are.
 bool agree(const SharedSymbol &one, const SharedSymbol &other) {
     const std::uint64_t left = one.word(), right = other.word();
-    return (one == other) == (left == right) && (one != other) == (left != right) && (one < other) == (left < right);
+    const bool are_in_order = (one < other) == (left < right) && (one > other) == (left > right) && (one <= other) == (left <= right);
+    return (one == other) == (left == right) && (one != other) == (left != right) && are_in_order && (one >= other) == (left >= right);
 }
 
 // Words of short texts that differ in one byte of eight, and of long ones that differ in the serial alone, also only in its bits from the 17th on.

@@ -158,7 +158,9 @@ class Interner:
     """Interned texts. The limits are on the holders of a text and the tickets of a bucket, of 2 to the power of `bucket_bits` buckets.
 
     It finds texts by a hash under a key of its own, which is drawn unless `key` gives its 128 bits, for runs that take the same steps each time.
-    Ints are the same under every key. Whoever knows the key can choose texts that slow the interner down."""
+    Ints are the same under every key. Whoever knows the key can choose texts that slow the interner down.
+
+    An interner is made once: RuntimeError if `__init__` is called again."""
 
     def __init__(
         self, holders: int = (1 << 63) - 1, tickets: int = (1 << 48) - 1, bucket_bits: int = 12, key: Optional[int] = None
@@ -191,7 +193,7 @@ class Interner:
         return word.value
 
     def get(self, text: str) -> Optional[int]:
-        """The int that stands for a text, with no holder more; None if it has none."""
+        """The int that stands for a text, with no holder more; None if it has none. UnicodeEncodeError as from `intern`."""
         encoded, word = _encoded(text), ctypes.c_uint64()
         with self._lock:
             number = _library.sc_get(self._table, encoded, len(encoded), word)
@@ -272,7 +274,7 @@ class Interner:
             _library.sc_close(self._table)
 
     def __contains__(self, item: Union[str, int]) -> bool:
-        """Whether a text has an int, or an int is held."""
+        """Whether a text has an int, or an int is held. UnicodeEncodeError as from `intern`."""
         if isinstance(item, str):
             return self.get(item) is not None
         if not isinstance(item, int):

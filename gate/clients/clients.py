@@ -441,6 +441,8 @@ def main():
                 build_library(library, Path(room))
             chosen = [row for row in rows().items() if row[0] in given.words]
             chosen = chosen or [row for row in rows().items() if not given.words or any(word in row[0] for word in given.words)]
+            if not chosen:
+                raise Failed(f"no row has one of these in its name: {', '.join(given.words)}")
             with ThreadPoolExecutor(max(1, given.jobs)) as workers:
                 results = list(workers.map(lambda row: outcome_of(*row, place), chosen))
         except (Failed, OSError, subprocess.TimeoutExpired) as why:

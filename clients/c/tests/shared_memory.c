@@ -108,6 +108,12 @@ static void memory_is_told(void) {
     CHECK(bytes_given == 0 && blocks_given == 0 && locks_made == 0);
 }
 
+/* Whether these limits are refused as such, and not as a want of memory. */
+static bool limits_are_refused(uint64_t holders, uint64_t tickets) {
+    sc_shared other = SC_CLOSED_SHARED;
+    return sc_shared_open_with(&other, SHARD_BITS, holders, tickets, 0) == SC_NOT_LIMITS && other.shards == NULL && before_refusal == 0;
+}
+
 /* What needs no memory goes on with every request refused. */
 static void the_rest_asks_for_none(void) {
     sc_shared shared = SC_CLOSED_SHARED;
@@ -120,6 +126,7 @@ static void the_rest_asks_for_none(void) {
     CHECK(sc_shared_get(&shared, "a longer text", 13, &again) == SC_OK && again == word && sc_shared_clone(&shared, word) == SC_OK);
     CHECK(sc_shared_text(&shared, word, room, sizeof room, &len) == SC_OK && len == 13 && sc_shared_give(&shared, word) == SC_OK);
     CHECK(sc_shared_clear(&shared) == SC_OK && before_refusal == 0);
+    CHECK(limits_are_refused(0, 1) && limits_are_refused(1, 0) && limits_are_refused(UINT64_C(1) << 63, 1) && limits_are_refused(1, UINT64_C(1) << 48));
     before_refusal = -1;
     sc_shared_close(&shared);
 }
