@@ -194,7 +194,8 @@ def job(given, folder, done):
 
 def run_parallel(given, texts, folder, machines):
     """Has parallel count the pieces of the texts that aren't whole yet, in a folder of this run's own, which it answers."""
-    run = folder / f"run.{len(list(folder.glob('run.*')))}"
+    earlier = [int(run.suffix[1:]) for run in folder.glob("run.*") if run.suffix[1:].isdecimal()]
+    run = folder / f"run.{max(earlier, default=-1) + 1}"
     run.mkdir()
     done = [piece.number for piece in pieces_in(folder) if piece.read() is not None]
     command = ["parallel", "--no-notice", "--pipepart", "--block", given.block]

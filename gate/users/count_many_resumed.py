@@ -89,4 +89,19 @@ def other_run_is_laid_in(room):
     return None
 
 
-ROWS = (other_text_is_resumed, changed_text_is_resumed, own_text_has_another_name, note_is_cut_short, other_run_is_laid_in)
+def first_run_is_taken_away(room):
+    """A run gets a number that no other one has, also if one before it is gone."""
+    kept, files = kept_of(room, [TEXT])
+    counted(files, "--keep", kept, "--resume")
+    shutil.rmtree(kept / "run.0")
+    return same(counted(files, "--keep", kept, "--resume"), whole(TEXT))
+
+
+ROWS = (
+    other_text_is_resumed,
+    changed_text_is_resumed,
+    own_text_has_another_name,
+    note_is_cut_short,
+    other_run_is_laid_in,
+    first_run_is_taken_away,
+)
