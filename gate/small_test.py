@@ -164,7 +164,7 @@ class Counted(unittest.TestCase):
 
 
 class StoredRuns(unittest.TestCase):
-    """What the stored run of a program says of one with a wrong body, where both are scripts, which are given the line `line`."""
+    """What the stored run of a program says of one with a wrong body: both are scripts here, which are given the line `line`."""
 
     def setUp(self):
         room = tempfile.TemporaryDirectory(prefix="stored-runs-")

@@ -206,7 +206,7 @@ void each_limit_is_its_own() {
     limits_are_kept(Interner(2, 1, 0, sc_key{1, 2}));
 }
 
-// By how much the memory grows where 1000 texts go and come again: that hangs on the key (tests/counted.c of the C library).
+// By how much the memory grows if 1000 texts go and come again: that depends on the key (tests/counted.c of the C library).
 std::uint64_t growth_under(sc_key key) {
     Interner names(9, 99, 12, key);
     std::vector<std::optional<Symbol>> held;

@@ -341,7 +341,7 @@ class Ending(unittest.TestCase):
             hook.assert_not_called()
 
     def test_a_given_key_is_the_interners(self) -> None:
-        """By how much the memory grows where 1000 texts go and come again: that hangs on the key (clients/c/tests/counted.c)."""
+        """By how much the memory grows if 1000 texts go and come again: that depends on the key (clients/c/tests/counted.c)."""
         for high, growth in ((2, 0), (30, 128 * 496), (47, 128 * 496)):
             with Interner(key=high << 64 | 1) as names:
                 texts = [f"text number {at}" for at in range(1000)]

@@ -13,7 +13,7 @@ or doesn't compile beside its own, has a build to itself, and is compared with t
 - 'error: TEXT': the compiler has to say this, where a type alone forbids the body. Such bodies stand side by side too: each passes by an error
   at its own lines. The compiler may end before it has seen all, so those of which it says nothing are built again without those of which it
   does, as long as there are any of these. What passes by no error at its own lines is built by itself, and may say this anywhere.
-- 'output: LINE': the crate's program, with its stored input, has to write this line, where it isn't in the stored output, or not, where it is.
+- 'output: LINE': the crate's program, with its stored input, has to write this line if the stored output lacks it, and must not if that has it.
   Such bodies have to stand side by side.
 
 What hasn't ended in its time may only have met with other work. So the test is run without the body right behind it, and if the body may take

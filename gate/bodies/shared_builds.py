@@ -186,7 +186,7 @@ def renumbered(program, number, copy):
 
 
 class SharedBuild:
-    """The tests of a crate of the copy at root, or its program where no kind is given, with the bodies of all these edits, built in the room, an
+    """The tests of a crate of the copy at root, or its program if no kind is given, with the bodies of all these edits, built in the room, an
     empty folder."""
 
     def __init__(self, crate, edits, root, room, kind=(TESTS,)):
