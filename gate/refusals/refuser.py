@@ -15,7 +15,8 @@ EVERY = sys.maxsize
 NAMES = {"memory": "requests for memory", "starts": "starts of threads"}  # what can be refused
 # How many requests a call may do without, by its test's name: in each worker that has words (the text has 20), each of two lists that
 # are collected asks ahead for the room that it may need, and goes on without it. Equal texts are looked for with two requests, and where one
-# of them is refused, without. A thread for half of the lists that are merged can be done without as well.
+# of them is refused, without. A thread for half of the lists that are merged can be done without as well, and so can those in which words are counted
+# ahead of the workers and atoms go.
 SPARED = {
     "refusals::generated::doubles_are_told": 2,
     "refusals::programs::counts_by_one": 2,
@@ -25,6 +26,7 @@ SPARED = {
     "refusals::programs::counts_of_many_by_four": 8,
     "refusals::programs::program_counts_words": 4,
     "refusals::starts::counts_of_many_by_four": 1,
+    "refusals::starts::counts_of_a_long_text": 2,
 }
 
 # How often a number is tried while the call goes on without that request: threads ask in another order in each run, so that many numbers
@@ -61,10 +63,11 @@ FEW = {
 }
 
 # The fewest requests that a call may make, by its test's name: each dynamic text that a table holds has its bytes, each of two workers its thread,
-# and half of four long lists another.
+# half of four long lists another, and so have the words of a text's second half, to be counted, and half of many atoms, to go.
 MANY = {
     "refusals::programs::many_words_in_a_table": 100,
     "refusals::starts::counts_of_many_by_four": 5,
+    "refusals::starts::counts_of_a_long_text": 4,
     "refusals::starts::program_counts": 2,
     "refusals::starts::program_counts_by_seven": 7,
 }

@@ -129,14 +129,21 @@ fn come_twice<R: Threads + Wait + Sync + Abort>(
     come_twice_in(rt, &set, text, words, n) && set.linked(rt) == 0
 }
 
-/// Lists of many words, which halves of them share, and so many lists that some are left over.
+/// This many different words, and again in the same order.
+fn words_twice<R: Abort>(rt: &R, alloc: Global, count: u32) -> String {
+    let words = words_before(rt, alloc, count, 8, ' ');
+    words.repeat(alloc, 2).expect(rt, "room")
+}
+
+/// Lists of many words, which halves of them share, and so many lists that some are left over; and four lists of 12,000 words.
 #[test]
 fn halves_of_lists_are_merged(rt: HostRuntime) {
-    let words = words_before(&rt, rt.alloc(), 8_192, 8, ' ');
-    let text = words.repeat(rt.alloc(), 2).expect(&rt, "room");
+    let text = words_twice(&rt, rt.alloc(), 8_192);
     for n in [4, 5, 6, 7, 8, 9, 16, 64] {
         assert_for(&rt, come_twice(&rt, rt.alloc(), &text, 8_192, n), &n);
     }
+    let text = words_twice(&rt, rt.alloc(), 24_000);
+    assert_that(&rt, come_twice(&rt, rt.alloc(), &text, 24_000, 4));
 }
 
 /// Whether this many workers are all in their pieces of the example at once, and each goes in once and out once.
@@ -259,12 +266,19 @@ fn sections_of(alloc: Global, text: &str) -> Option<usize> {
     }
 }
 
-/// A text of some 132,000 bytes has three sections, whatever white space is between its words.
+/// A text of some 132,000 bytes has three sections, whatever white space is between its words. One of 70 words, each longer than the bytes of a
+/// section, has one for each, and one for the white space behind them. One word about as long as a section is one.
 #[test]
 fn sections_are_cut_at_all_white_space(rt: HostRuntime) {
     for white in [' ', '\t', '\n', '\x0c', '\r'] {
         let text = words_before(&rt, rt.alloc(), 132, 1_000, white);
         assert_for(&rt, sections_of(rt.alloc(), &text) == Some(3), &white);
+    }
+    let text = words_before(&rt, rt.alloc(), 70, 66_000, ' ');
+    assert_that(&rt, sections_of(rt.alloc(), &text) == Some(71));
+    for bytes in [65_535, 65_536, 65_537] {
+        let text = "a".repeat(rt.alloc(), bytes).expect(&rt, "room");
+        assert_for(&rt, sections_of(rt.alloc(), &text) == Some(1), &bytes);
     }
 }
 
@@ -325,10 +339,10 @@ fn refused_workers_hold_their_atoms(rt: HostRuntime) {
     assert_that(&rt, watch.linked() == (0, 1) && set.linked(&rt) == 0);
 }
 
-/// Each place is a holder, even of a word that occurred before.
+/// Each place is a holder, even of a word that occurred before, and each call takes one ticket for the word.
 #[test]
 fn every_place_is_interned(rt: HostRuntime) {
-    let set = set_with(&rt, rt.alloc(), 2, 9);
+    let set = set_with(&rt, rt.alloc(), 2, 2);
     assert_that(
         &rt,
         are_counted(&rt, &set, "interned interned", 1, &Open, &[("interned", 2)]),

@@ -64,10 +64,19 @@ static REFUSED: [Run; 5] = [
     Run::Refused("check", b"\xff", NOT_TEXT),
 ];
 
+/// Whether a list that has one text so often is refused for that.
+fn is_double_told<R: Threads + Wait + Sync + Abort>(rt: &R, alloc: Global, times: usize) -> bool {
+    let input = "same\n".repeat(alloc, times).expect(rt, "room");
+    let fault = b"atoms: text listed twice\n";
+    Run::Refused("generate 0 1", input.as_bytes(), fault).is_right(rt, alloc)
+}
+
 #[test]
 fn refused_lists(rt: HostRuntime) {
     try_runs(&rt, rt.alloc(), &REFUSED);
+    assert_that(&rt, is_double_told(&rt, rt.alloc(), 70_000));
 }
+
 /// Lines of no command.
 static OTHER_LINES: [&str; 11] = [
     "generate",

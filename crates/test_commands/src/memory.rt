@@ -40,6 +40,11 @@ impl<'b> Bytes<'b> {
     {
         Bytes::new(rest, usize::MAX, 0)
     }
+
+    /// How often it was read.
+    pub fn calls(&self) -> u64 {
+        self.calls
+    }
 }
 
 impl Source for Bytes<'_> {
@@ -185,6 +190,11 @@ impl Page {
         ensures { result.failed ≡ false }
     {
         Page::new(usize::MAX, 0)
+    }
+
+    /// How often it was written to.
+    pub fn calls(&self) -> u64 {
+        self.calls
     }
 
     /// What was written.

@@ -386,7 +386,7 @@ pub const COUNT_WORDS: &[&str] = &["count", "3"];
 const BYTES_LINE: CommandLine = &[b"atoms", b"words", b"\xff"];
 
 /// Lines with the arguments that they give.
-static WORD_LINES: [(CommandLine, &[&str]); 7] = [
+static WORD_LINES: [(CommandLine, &[&str]); 9] = [
     (COUNT_LINE, COUNT_WORDS),
     (
         &[
@@ -415,6 +415,30 @@ static WORD_LINES: [(CommandLine, &[&str]); 7] = [
     (
         &[b"atoms", b" Words\t", b"-1", b"-1", b""],
         &[" Words\t", "-1", "-1", ""],
+    ),
+    (
+        &[
+            b"atoms", b"1", b"1", b"1", b"1", b"1", b"1", b"1", b"1", b"1", b"1", b"1", b"1", b"1",
+            b"1", b"1", b"1", b"1",
+        ],
+        &[
+            "1", "1", "1", "1", "1", "1", "1", "1", "1", "1", "1", "1", "1", "1", "1", "1", "1",
+        ],
+    ),
+    (
+        &[
+            b"atoms",
+            b"abcdefghijklmnopqrstuvwxyzabcdefghijklmnopqrstuvwxyzabcdefghijklmnopqrstuvwxyz\n\
+            abcdefghijklmnopqrstuvwxyzabcdefghijklmnopqrstuvwxyzabcdefghijklmnopqrstuvwxyz\
+            abcdefghijklmnopqrstuvwxyzabcdefghijklmnopqrstuvwxyzabcdefghijklmnopqrstuvwxyz\
+            abcdefghijklmnopqrstuvwxyzabcdefghijklmnopqrstuvwxyzabcdefghijklmnopqrstuvwxyz",
+        ],
+        &[
+            "abcdefghijklmnopqrstuvwxyzabcdefghijklmnopqrstuvwxyzabcdefghijklmnopqrstuvwxyz\n\
+            abcdefghijklmnopqrstuvwxyzabcdefghijklmnopqrstuvwxyzabcdefghijklmnopqrstuvwxyz\
+            abcdefghijklmnopqrstuvwxyzabcdefghijklmnopqrstuvwxyzabcdefghijklmnopqrstuvwxyz\
+            abcdefghijklmnopqrstuvwxyzabcdefghijklmnopqrstuvwxyzabcdefghijklmnopqrstuvwxyz",
+        ],
     ),
     (&[], &[]),
     (&[b"atoms"], &[]),

@@ -373,8 +373,8 @@ fn words_are_held_to_the_end(rt: HostRuntime) {
         &rt,
         are_held(&rt, &set, "interned tokenised interned short", 2),
     );
-    let many = numbered(&rt, rt.alloc(), "word", 3000, IN_TEXT);
-    assert_that(&rt, are_held(&rt, &set, &many, 3000));
+    let many = numbered(&rt, rt.alloc(), "word", 20_000, IN_TEXT);
+    assert_that(&rt, are_held(&rt, &set, &many, 20_000));
 }
 
 /// Whether nothing is written of a text, of whose words the last one finds no ticket in the only bucket.

@@ -71,6 +71,14 @@ fn good_lines(rt: HostRuntime) {
 /// Lines that spell no step, no limits and no number of buckets, between line feeds.
 const BAD_LINES: &str = "
 1 jump
+1 jump \
+    abcdefghijklmnopqrstuvwxyzabcdefghijklmnopqrstuvwxyzabcdefghijklmnopqrstuvwxyzabcdefghijklmnopqrstuvwxyz\
+    abcdefghijklmnopqrstuvwxyzabcdefghijklmnopqrstuvwxyzabcdefghijklmnopqrstuvwxyzabcdefghijklmnopqrstuvwxyz\
+    abcdefghijklmnopqrstuvwxyzabcdefghijklmnopqrstuvwxyzabcdefghijklmnopqrstuvwxyzabcdefghijklmnopqrstuvwxyz
+\u{feff}1 link
+1\u{a0}link
+1 link\u{3000}
+１ link
 link
 1
 1\x20
@@ -193,20 +201,87 @@ fn bad_line_is_named(rt: HostRuntime) {
     }
 }
 
-/// More steps than are kept before they are made.
+/// Whether so many steps, none of which is enabled, print as many lines.
+fn are_all_replied(alloc: Global, steps: usize) -> Result<bool, AllocError> {
+    let script = "1 leave\n".repeat(alloc, steps)?;
+    let lines = "no\n".repeat(alloc, steps)?;
+    Ok(gives(alloc, &script, &lines))
+}
+
+/// More steps than are kept before they are made, which are 4,096, and as many, once and twice.
+static MANY: [usize; 3] = [4_096, 5_000, 8_192];
+
 #[test]
 fn many_steps(rt: HostRuntime) {
-    let script = "1 leave\n".repeat(rt.alloc(), 5000).expect(&rt, "room");
-    let lines = "no\n".repeat(rt.alloc(), 5000).expect(&rt, "room");
-    assert_that(&rt, gives(rt.alloc(), &script, &lines));
+    for steps in &MANY {
+        assert_for(&rt, are_all_replied(rt.alloc(), *steps) == Ok(true), steps);
+    }
 }
 
 /// As many lines of output as there are steps, and a script of 808,000 bytes.
 #[test]
 fn many_lines_of_output(rt: HostRuntime) {
-    let script = "1 leave\n".repeat(rt.alloc(), 101_000).expect(&rt, "room");
-    let lines = "no\n".repeat(rt.alloc(), 101_000).expect(&rt, "room");
-    assert_that(&rt, gives(rt.alloc(), &script, &lines));
+    assert_that(&rt, are_all_replied(rt.alloc(), 101_000) == Ok(true));
+}
+
+/// Adds the steps of a pass that links an entry of this number, and looks at those before it, in the only bucket.
+fn add_pass(script: &mut String, n: u64) -> Result<(), AllocError> {
+    write!(script, "1 intern interned{n}\n1 link\n")?;
+    for entry in 1..n {
+        writeln!(script, "1 unlink e{entry}")?;
+    }
+    script.push_str("1 leave\n")
+}
+
+/// The steps that link this many entries, and clone the last of them as often.
+fn script_of_entries(alloc: Global, count: u64) -> Result<String, AllocError> {
+    let mut script = String::from_str(alloc, "buckets 0\n")?;
+    for n in 1..=count {
+        add_pass(&mut script, n)?;
+    }
+    for _ in 0..count {
+        writeln!(script, "1 clone e{count}")?;
+    }
+    writeln!(script, "1 give e{count}")?;
+    Ok(script)
+}
+
+/// Adds what is printed of such a pass.
+fn add_replies(lines: &mut String, n: u64) -> Result<(), AllocError> {
+    write!(lines, "taken\nlinked e{n} serial {n}\n")?;
+    for _ in 1..n {
+        lines.push_str("kept\n")?;
+    }
+    lines.push_str("left\n")
+}
+
+/// What is printed of them: the numbers of entries and serials, and those of holders, one of which goes.
+fn lines_of_entries(alloc: Global, count: u64) -> Result<String, AllocError> {
+    let mut lines = String::new(alloc);
+    for n in 1..=count {
+        add_replies(&mut lines, n)?;
+    }
+    for n in 1..=count {
+        writeln!(lines, "cloned {}", n.saturating_add(1))?;
+    }
+    writeln!(lines, "given {count}")?;
+    for n in 1..count {
+        writeln!(lines, "held e{n} 1")?;
+    }
+    writeln!(lines, "held e{count} {count}")?;
+    Ok(lines)
+}
+
+/// Whether they are printed like that.
+fn are_entries_held(alloc: Global, count: u64) -> Result<bool, AllocError> {
+    let script = script_of_entries(alloc, count)?;
+    let lines = lines_of_entries(alloc, count)?;
+    Ok(gives(alloc, &script, &lines))
+}
+
+#[test]
+fn many_entries_are_held(rt: HostRuntime) {
+    assert_that(&rt, are_entries_held(rt.alloc(), 300) == Ok(true));
 }
 
 /// A script of this many good lines and a bad one.

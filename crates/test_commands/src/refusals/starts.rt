@@ -4,9 +4,11 @@
 
 ghost use Rattle.std.specs.Prelude.{◌≡◌};
 
-use super::programs::{example_is_counted, line_is_run, many_are_counted};
+use super::programs::{example_is_counted, line_is_run, many_are_counted, numbered_words};
+use super::whole::count_by_two;
 use crate::assert_that;
 use crate::counting::counted;
+use crate::memory::Lost;
 use crate::program::{EXAMPLE_COUNTS, NO_WORKER};
 use crate::words::{intern, set_with};
 use std::alloc::Global;
@@ -130,6 +132,22 @@ fn program_counts_by_seven(rt: HostRuntime) {
         (EXAMPLE, EXAMPLE_COUNTS),
         &[NO_WORKER],
     );
+}
+
+/// Whether two workers count the words of a text in a watched call, or one isn't started.
+fn are_counted<R: Threads + Wait + Sync + Print>(rt: &R, alloc: Global, text: &str) -> bool {
+    begin(rt);
+    let answer = count_by_two(rt, alloc, text, &mut Lost);
+    finish(rt, End::of(&answer));
+    matches!(answer, Ok(()) | Err(AppFault::Worker))
+}
+
+/// 1,024 different words in a text of 73,728 bytes: the words of its second section are counted in another thread, and the atoms of half of the words
+/// go in another. The call can do without both.
+#[test]
+fn counts_of_a_long_text(rt: HostRuntime) {
+    let text = numbered_words(&rt, rt.alloc(), 8_192);
+    assert_that(&rt, are_counted(&rt, rt.alloc(), &text));
 }
 
 /// The fault of two workers.

@@ -43,6 +43,21 @@ fn text_of_another_program(rt: HostRuntime) {
     );
 }
 
+/// Whether so many equal pairs, and so many equal texts, are perfect tables.
+fn are_many_checked(alloc: Global, pairs: usize, texts: usize) -> Result<bool, Fault> {
+    let pairs = "disp 0 0\n".repeat(alloc, pairs)?;
+    let texts = "atom 1122334455667788 sentence\n".repeat(alloc, texts)?;
+    let text = format!(in alloc; "key 0\n{pairs}{texts}")?;
+    checked(alloc, &text)
+}
+
+/// One text has the place 0 under any displacements. Two equal ones are none of perfect tables.
+#[test]
+fn many_lines_are_checked(rt: HostRuntime) {
+    assert_that(&rt, are_many_checked(rt.alloc(), 70_000, 1) == Ok(true));
+    assert_that(&rt, are_many_checked(rt.alloc(), 1, 70_000) == Ok(false));
+}
+
 /// Texts, and whether each is the table text of perfect tables.
 static TABLE_TEXTS: [(&str, bool); 33] = [
     ("key 0\ndisp 0 0\natom 1122334455667788 sentence\n", true),

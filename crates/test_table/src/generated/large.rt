@@ -67,9 +67,9 @@ fn is_placed_alone(alloc: Global, text: &str) -> Result<bool, GenFault> {
     Ok(are_of(alloc, &tables, 1, 1))
 }
 
-/// Whether the empty text, a NUL and another have tables.
+/// Whether the empty text, a NUL, and one with a space and a carriage return have tables.
 fn are_odd_placed(alloc: Global) -> Result<bool, GenFault> {
-    let tables = tables_of(alloc, &["", "\0", "sentence"], 0, 1_024)?;
+    let tables = tables_of(alloc, &["", "\0", "two words\r"], 0, 1_024)?;
     Ok(are_of(alloc, &tables, 3, 1))
 }
 
