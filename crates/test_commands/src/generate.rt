@@ -48,11 +48,16 @@ fn one_text(rt: HostRuntime) {
     assert_that(&rt, are_made(&rt, alloc, "generate 7 1", b"\n", (7, "")));
 }
 
-static REFUSED: [Run; 5] = [
+static REFUSED: [Run; 6] = [
     Run::Refused("generate 0 1", b"", b"atoms: no texts\n"),
     Run::Refused(
         "generate 0 1",
         b"same\nsame\n",
+        b"atoms: text listed twice\n",
+    ),
+    Run::Refused(
+        "generate 0 1",
+        b"same\n\nsame\n",
         b"atoms: text listed twice\n",
     ),
     Run::Refused(

@@ -281,10 +281,10 @@ fn prints(alloc: Global, script: &str, lines: &str) -> bool {
     answer == Ok(()) && writer.into_inner().as_slice() == lines.as_bytes()
 }
 
-/// A sweep of each bucket below 6000.
+/// A sweep of each bucket below 20,000.
 fn script_of_sweeps<R: Abort>(rt: &R, alloc: Global) -> String {
     let mut script = String::new(alloc);
-    for bucket in 0..6000u32 {
+    for bucket in 0..20_000u32 {
         write!(script, "1 sweep {bucket}\n1 leave\n").expect(rt, "room");
     }
     script
@@ -314,7 +314,12 @@ fn overflows(alloc: Global, script: &str) -> bool {
 #[test]
 fn more_than_one_piece(rt: HostRuntime) {
     let script = script_of_sweeps(&rt, rt.alloc());
-    let lines = lines_of(&rt, rt.alloc(), ("taken\nleft\n", 4096), ("no\nno\n", 1904));
+    let lines = lines_of(
+        &rt,
+        rt.alloc(),
+        ("taken\nleft\n", 4096),
+        ("no\nno\n", 15_904),
+    );
     assert_that(&rt, prints(rt.alloc(), &script, &lines));
     assert_that(&rt, overflows(rt.alloc(), &script));
 }

@@ -31,7 +31,7 @@ fn is_bad_at(alloc: Global, script: &str, line: u64) -> bool {
 
 /// A text is the rest of its line as it is, the last line may lack its line feed, and numbers reach their bounds. A text of 7 bytes is inline and
 /// takes no bucket, so a byte that got lost would show.
-static GOOD: [(&str, &str); 18] = [
+static GOOD: [(&str, &str); 19] = [
     ("", ""),
     ("limits 1 1", ""),
     ("limits 9223372036854775807 281474976710655\n", ""),
@@ -42,6 +42,7 @@ static GOOD: [(&str, &str); 18] = [
         "4294967295 sweep 4294967295\n1 sweep 0\n1 leave\n1 add e18446744073709551615\n1 free e10",
         "no\ntaken\nleft\nno\nno\n",
     ),
+    ("4294967295 intern \u{feff}interned\u{3000}", "taken\n"),
     ("1 intern  a", "no\n"),
     ("1 intern a b", "no\n"),
     ("1 intern  ", "no\n"),

@@ -59,7 +59,7 @@ fn many_lines_are_checked(rt: HostRuntime) {
 }
 
 /// Texts, and whether each is the table text of perfect tables.
-static TABLE_TEXTS: [(&str, bool); 33] = [
+static TABLE_TEXTS: [(&str, bool); 34] = [
     ("key 0\ndisp 0 0\natom 1122334455667788 sentence\n", true),
     (
         "key 0\ndisp 0 0\natom 1122334455667788 sentence\natom 1122334455667788 sentence\n",
@@ -68,6 +68,7 @@ static TABLE_TEXTS: [(&str, bool); 33] = [
     ("key 0\ndisp 0 0\natom 1122334455667788 sentence", false),
     ("key 00\ndisp 0 0\natom 1122334455667788 sentence\n", false),
     ("", false),
+    (" \r\n\n", false),
     ("key +0\ndisp 0 0\natom 1122334455667788 sentence\n", false),
     ("key 0\ndisp 0 0\natom 112233445566778A sentence\n", false),
     ("key 0\ndisp 0 0\natom 112233445566778a sentence\n", true),
