@@ -12,11 +12,11 @@ use std::time::Clock;
 use string_cache::{SetAtom, SharedSet};
 use test_calls::{has_text, links, look_up};
 
-/// Texts: a short one, one of NUL and others, one of more than a line that JSON escapes, and two beyond ASCII.
+/// Texts: a short one, one of NUL and others, one of more than a line with what JSON escapes, and two beyond ASCII.
 static TEXTS: [&str; 5] = [
     "tokenised",
     "a text\0with NUL",
-    "a \"text\"\nof two\\lines",
+    "a \"text\"\nof\ttwo\\lines\u{1}",
     "größenordnung",
     "長さ、大きさ (m)",
 ];

@@ -17,8 +17,8 @@ use test_calls::{are_one, has_text, has_word};
 /// A text, its 32-bit hash, what its atom prints as, for readers and for debugging, and the JSON that it is written as.
 type Row = (&'static str, u32, &'static str, &'static str);
 
-/// Texts that are inline, static and dynamic. The last two hashes are of the texts' entries, as OpenSSL's SipHash gives them.
-static ROWS: [Row; 6] = [
+/// Texts that are inline, static and dynamic. The last three hashes are of the texts' entries, as OpenSSL's SipHash gives them.
+static ROWS: [Row; 7] = [
     ("", 1, ", Atom('' type=inline)", "\"\""),
     (
         "foo",
@@ -49,6 +49,12 @@ static ROWS: [Row; 6] = [
         0x3d3b_6e14,
         "Stück \"Größe\" \\, Atom('Stück \"Größe\" \\' type=dynamic)",
         "\"Stück \\\"Größe\\\" \\\\\"",
+    ),
+    (
+        "line\n\0\u{1}\u{7f}!",
+        0xa132_370a,
+        "line\n\0\u{1}\u{7f}!, Atom('line\n\0\u{1}\u{7f}!' type=dynamic)",
+        "\"line\\n\\u0000\\u0001\u{7f}!\"",
     ),
 ];
 

@@ -269,7 +269,7 @@ fn tries<R: Wait + Abort>(rt: &R, alloc: Global, limit: u64, text: &str) -> Resu
 fn single_tries(rt: HostRuntime) {
     let alloc = rt.alloc();
     let long = "interned ".repeat(alloc, 30_000).expect(&rt, "a text");
-    for text in &["interned", "tokenised ü", long.as_str()] {
+    for text in &["", "interned", "tokenised ü", long.as_str()] {
         tries(&rt, alloc, 3, text).expect(&rt, "an answer");
         tries(&rt, alloc, GREATEST, text).expect(&rt, "an answer");
     }
@@ -310,7 +310,7 @@ fn owner_tries(rt: &impl Abort, alloc: Global, limit: u64, text: &str) -> Result
 fn single_tries_of_an_owner(rt: HostRuntime) {
     let alloc = rt.alloc();
     let long = "interned ".repeat(alloc, 30_000).expect(&rt, "a text");
-    for text in &["interned", "tokenised ü", long.as_str()] {
+    for text in &["", "interned", "tokenised ü", long.as_str()] {
         owner_tries(&rt, alloc, 2, text).expect(&rt, "an answer");
         owner_tries(&rt, alloc, GREATEST, text).expect(&rt, "an answer");
     }

@@ -65,12 +65,13 @@ fn crew_of_two_says<R: Threads + Wait + Sync + Abort>(
     crew_agrees(rt, alloc, &texts).expect(rt, "an answer")
 }
 
-/// Eight threads agree if all have one text, and not if the last has another. So do none, 70, and two with short texts.
+/// Eight threads agree if all have one text, and not if the last has another. So do none, one, 70, and two with short texts.
 #[test]
 fn crews_agree(rt: HostRuntime) {
     assert_that(&rt, crew_says(&rt, rt.alloc(), ""));
     assert_that(&rt, !crew_says(&rt, rt.alloc(), "Größe"));
     assert_that(&rt, crew_of_says(&rt, rt.alloc(), 0));
+    assert_that(&rt, crew_of_says(&rt, rt.alloc(), 1));
     assert_that(&rt, crew_of_says(&rt, rt.alloc(), 70));
     assert_that(&rt, crew_of_two_says(&rt, rt.alloc(), "Öl", "Öl"));
     assert_that(&rt, !crew_of_two_says(&rt, rt.alloc(), "", "Öl"));
@@ -275,7 +276,7 @@ fn are_told_of_short<N: SetName + Send + Sync, R: Threads + Wait + Sync + Abort>
 
 /// What is declared beside the long text. One name is declared twice.
 static DECLARED: [(&str, u32); 18] = [
-    ("h", 11),
+    ("h", 0),
     ("i", 12),
     ("j", 13),
     ("k", 14),

@@ -44,11 +44,14 @@ fn says<N: SetName, R: Wait>(
     are_one_name(rt, set, left, right) == Ok(wanted) && set.linked(rt) == 0
 }
 
+/// More than 64 bytes.
+const LONG: &str = "Größenordnungen, über die niemand spricht, und solche, über die einer spricht";
+
 /// Asks it of a set whose only bucket has two tickets.
 fn ask<N: SetName, R: Wait + Abort>(rt: &R, set: &NamedSet<One, N>) {
     assert_that(rt, says(rt, set, "foo", "sentence", false));
     assert_that(rt, says(rt, set, "sentence", "sentence", true));
-    assert_that(rt, says(rt, set, "interned", "interned", true));
+    assert_that(rt, says(rt, set, LONG, LONG, true));
     assert_that(rt, says(rt, set, "foo", "tokenised", false));
     assert_that(rt, says(rt, set, "Öl", "Öl", true));
     assert_that(rt, says(rt, set, "Öl", "", false));

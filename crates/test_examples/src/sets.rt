@@ -149,13 +149,14 @@ fn goes_through<R: Wait + Abort>(rt: &R, set: &DefaultSet, text: &str, json: &st
 }
 
 /// Texts, and their JSON texts.
-static SAVED: [(&str, &str); 6] = [
+static SAVED: [(&str, &str); 7] = [
     ("interned", r#""interned""#),
     ("m\u{f6}hrensuppe", "\"m\u{f6}hrensuppe\""),
     ("a\"b", r#""a\"b""#),
     ("", r#""""#),
     ("a\nb", r#""a\nb""#),
     ("\u{1f980} and \u{1f980}", "\"\u{1f980} and \u{1f980}\""),
+    ("a\u{1}b and \u{7f}\t", "\"a\\u0001b and \u{7f}\\t\""),
 ];
 
 #[test]
@@ -215,12 +216,18 @@ fn are_priced<'s, R: Wait>(
     price_of_text(rt, set, prices, "m\u{f6}glicherweise") == Ok(None)
 }
 
-static PRICE_LIST: [(&str, u32); 5] = [
+/// One name has its price twice.
+static PRICE_LIST: [(&str, u32); 7] = [
     ("pear tree", 40),
     ("m\u{f6}hrensuppe", 41),
     ("plum", 42),
     ("", 43),
     ("\u{1f980}", 44),
+    ("plum", 42),
+    (
+        "a pear tree with so many pears that its price is that of two others",
+        0,
+    ),
 ];
 
 #[test]

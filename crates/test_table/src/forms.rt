@@ -87,10 +87,12 @@ fn prints_as(alloc: Global, text: &str, printed: &str) -> Result<bool, AllocErro
 }
 
 /// Texts, and what is printed for them.
-static PRINTED: [(&str, &str); 3] = [
+static PRINTED: [(&str, &str); 5] = [
     ("", "InlineText(\"\")"),
     ("foo", "InlineText(\"foo\")"),
     ("\0", "InlineText(\"\\0\")"),
+    ("é\"j", "InlineText(\"é\\\"j\")"),
+    ("abcdefg", "InlineText(\"abcdefg\")"),
 ];
 
 #[test]

@@ -190,7 +190,7 @@ fn where_texts_end_counts(rt: HostRuntime) {
     assert_that(&rt, key.hash_one("abc") != key.hash_one("abc\0"));
 }
 
-/// Gives each byte its place, and counts how often it is asked.
+/// Gives each byte seventeen times its place, the last one 255, and counts how often it is asked.
 #[derive(Drop)]
 struct Places {
     asked: Cell<u64>,
@@ -199,7 +199,7 @@ struct Places {
 impl RandomSource for Places {
     fn fill_bytes(&self, buf: &mut [u8]) -> io::Result<()> {
         for (at, byte) in buf.iter_mut().enumerate() {
-            *byte = (at % 256) as u8;
+            *byte = ((at % 16) as u8).wrapping_mul(17);
         }
         self.asked.set(self.asked.get().wrapping_add(1));
         Ok(())
@@ -212,7 +212,7 @@ fn a_key_is_drawn_once_and_whole(rt: HostRuntime) {
         asked: Cell::new(0),
     };
     let key = SipKey::drawn(&source).expect(&rt, "a key");
-    assert_that(&rt, hash_of(key, b"interned") == 0x391f_58f6_3195_45e5);
+    assert_that(&rt, hash_of(key, b"interned") == 0xc98c_6b49_0b24_4d8c); // OpenSSL's
     assert_that(&rt, source.asked.get() == 1);
 }
 

@@ -43,13 +43,21 @@ fn short_texts_have_inline_words(rt: HostRuntime) {
     check_plain(&rt, rt.alloc(), &SHORT);
 }
 
-/// Two texts have words of their own, the first tickets of the buckets that their hashes end in, and keep them.
-static ONE_TICKET: [Row; 5] = [
+/// Texts have words of their own, the first tickets of the buckets that their hashes end in, and keep them: a short one, one with NUL, one of two
+/// lines, one beyond the first plane, one of bucket 77 and one of the last.
+static ONE_TICKET: [Row; 12] = [
     Row::Intern("abcdefgh", Ok(0x1_0b14)),
     Row::Intern("interned", Ok(FIRST)),
     Row::Intern("interned", Ok(FIRST)),
     Row::Tell(Told::Text(0x1_0b14, "abcdefgh")),
     Row::Tell(Told::Text(FIRST, "interned")),
+    Row::Intern("a text\0with NUL", Ok(0x1_35f4)),
+    Row::Intern("two lines\nof text", Ok(0x1_0bbc)),
+    Row::Intern("🦀 and 🦀", Ok(0x1_3218)),
+    Row::Intern("word 03729", Ok(0x1_0134)), // bucket 0x4d
+    Row::Intern("word 00553", Ok(0x1_3ffc)),
+    Row::Tell(Told::Text(0x1_35f4, "a text\0with NUL")),
+    Row::Tell(Told::Keeps(7, 81)),
 ];
 
 #[test]

@@ -1,11 +1,11 @@
 //! What a table returns for words and for texts, and its holders by words, with values from outside.
 
-use crate::assert_that;
 use crate::hashers::keys_of;
 use crate::rows::{
     FIRST, Plain, Row, SECOND, Told, check, check_plain, check_with, check_with_room, finds,
     has_holders, is_text_of, keeps, lists, plain, releases,
 };
+use crate::{assert_for, assert_that};
 use std::alloc::{AllocError, Global};
 use std::collections::HashMap;
 use std::process::Abort;
@@ -346,17 +346,25 @@ fn prints(alloc: Global, names: &Names<File>, name: Name<File>, wanted: &str) ->
     }
 }
 
-fn print(rt: &impl Abort, alloc: Global) -> bool {
+fn print(rt: &impl Abort, alloc: Global, text: &str, wanted: &str) -> bool {
     let mut files = new_names(rt, alloc);
-    let name = name_of(rt, &mut files, "é\"j");
-    let is_right = prints(alloc, &files, name, "   é\"j|\"é\\\"j\"|Name(0x6a22a9c341)");
+    let name = name_of(rt, &mut files, text);
+    let is_right = prints(alloc, &files, name, wanted);
     drop(files);
     is_right
 }
 
+/// An inline text and a dynamic one, whose bucket is 0x63c, and what is printed for them.
+static PRINTED: [(&str, &str); 2] = [
+    ("é\"j", "   é\"j|\"é\\\"j\"|Name(0x6a22a9c341)"),
+    ("öä\"üß", " öä\"üß|\"öä\\\"üß\"|Name(0x118f0)"),
+];
+
 #[test]
 fn names_print(rt: HostRuntime) {
-    assert_that(&rt, print(&rt, rt.alloc()));
+    for (text, wanted) in &PRINTED {
+        assert_for(&rt, print(&rt, rt.alloc(), text, wanted), text);
+    }
 }
 
 /// Whether the first name is before the second.

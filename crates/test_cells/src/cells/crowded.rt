@@ -4,18 +4,14 @@ use super::{GREATEST, ShareGuard, frees, make, owner_tried, tried};
 use crate::assert_that;
 use std::alloc::Global;
 use std::process::Abort;
-use std::sync::Wait;
 
-/// So many shares more.
-fn shares<R: Wait + Abort>(
-    rt: &R,
-    alloc: Global,
-    first: &ShareGuard,
-    count: usize,
-) -> Vec<ShareGuard> {
+/// So many shares more, each by a single try.
+fn shares(rt: &impl Abort, alloc: Global, first: &ShareGuard, count: usize) -> Vec<ShareGuard> {
     let mut shares = Vec::new(alloc);
     for _ in 0..count {
-        shares.push(first.one_more(rt)).expect(rt, "room");
+        shares
+            .push(tried(first).expect(rt, "a share"))
+            .expect(rt, "room");
     }
     shares
 }

@@ -27,7 +27,14 @@ fn is_read_back(alloc: Global, table: &mut Table<One>, name: &str) -> bool {
     }
 }
 
-static READ_BACK: [&str; 5] = ["", "table", "sentence", "tokenised", "m\u{f6}glicherweise"];
+static READ_BACK: [&str; 6] = [
+    "",
+    "table",
+    "sentence",
+    "tokenised",
+    "m\u{f6}glicherweise",
+    "a name that no table of names in a program is likely to have, since it is long",
+];
 
 fn check_reading_back<R: Abort>(rt: &R, alloc: Global, table: &mut Table<One>) {
     for name in &READ_BACK {
