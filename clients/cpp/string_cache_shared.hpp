@@ -94,7 +94,8 @@ private:
 
 } // namespace detail
 
-// One holder of a text that threads share. One that was moved from holds nothing: it may be assigned to, compared or end, and has no text.
+// One holder of a text that threads share. One that was moved from holds nothing and is false: it may be assigned to, compared or end, and has no
+// text.
 class SharedSymbol {
 public:
     SharedSymbol(const SharedSymbol &other) : shards_(other.shards_), word_(other.word_) {
@@ -113,6 +114,9 @@ public:
             shards_->with_ticket([](sc_table *table, std::uint64_t word) { return sc_give(table, word); }, word_);
         }
     }
+
+    // Whether it holds a text: it was not moved from.
+    explicit operator bool() const noexcept { return shards_ != nullptr; }
 
     // The text, as a copy. std::logic_error if the symbol was moved from.
     std::string text() const {

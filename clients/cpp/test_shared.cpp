@@ -125,6 +125,7 @@ void a_text_goes_with_its_last_symbol() {
         const SharedSymbol taken = std::move(moved);
         CHECK(names.size() == 2 && names.text_bytes() == 30 && first.holders() == 2U && taken.holders() == 1U);
         CHECK(moved.word() == 0 && moved != first && throws<std::logic_error>([&] { moved.text(); }));
+        CHECK(!moved && taken && names.intern(""));
         moved = copy;
         CHECK(first.holders() == 3U && moved == first && !names.intern("short").holders().has_value());
         CHECK(names.get("a longer name")->holders() == 4U);
