@@ -1,10 +1,10 @@
 #!/usr/bin/env bash
 # The gate: every proof from nothing, the edits of must-fail that the prover has to refuse, every test, each program as two compilers
 # build it (rt ci), then each request for memory or a thread refused under the tests that rt ci built, the schedules of small scenes, the script
-# that counts over many machines, and the library for C with its clients and their wrong bodies. What else there is begins where rt ci leaves
-# a processor idle: the wrong bodies that a test has to catch; the others that the prover has to refuse, many in a check, of each crate that is
-# proved by then; the static types that a script writes, the scripts by which users begin, the one that reviews wrong bodies, the pictures, and what
-# is said of wrong bodies. The last lines tell what each part took, and sum up.
+# that counts over many machines, the wrong changes that the tests of scripts have to see, and the library for C with its clients and their wrong
+# bodies. What else there is begins where rt ci leaves a processor idle: the wrong bodies that a test has to catch; the others that the prover has
+# to refuse, many in a check, of each crate that is proved by then; the static types that a script writes, the scripts by which users begin, the
+# one that reviews wrong bodies, the pictures, and what is said of wrong bodies. The last lines tell what each part took, and sum up.
 #
 # `./test.sh quick [CRATE ..]` isn't the gate: it proves what changed over kept work, and runs the tests that see it (gate/quick.py).
 set -uo pipefail
@@ -104,6 +104,7 @@ scenes=$!
 run refused gate/refusals/refused.py
 run pages gate/pages/pages.py
 run many gate/users/count_many_test.py
+run wrong_tools gate/users/users_caught.py --tested
 run clients gate/clients/clients.py
 run wrong_clients gate/clients/clients_caught.py --archive crates/string_cache_c/out/libstring_cache_c.a
 wait "$scripts"
@@ -116,7 +117,7 @@ wait "$edits"
 cat "$said/edits"
 
 echo "== by parts, on $(nproc) processors, some of them beside each other"
-parts=(ci prover refused static pages many users small review verdicts batches clients wrong_clients caught schedules)
+parts=(ci prover refused static pages many wrong_tools users small review verdicts batches clients wrong_clients caught schedules)
 for part in "${parts[@]}"; do
     add "$part"
 done

@@ -13,8 +13,12 @@ def run(tests, verbosity):
 
 
 def main():
-    """Runs the tests of the script that was called, or gives help. The status."""
-    argparse.ArgumentParser(description=sys.modules["__main__"].__doc__, formatter_class=argparse.RawDescriptionHelpFormatter).parse_args()
-    passed, failed = run(unittest.defaultTestLoader.loadTestsFromName("__main__"), verbosity=2)
+    """Runs the tests of the script that was called, with words only those of whose names one is a part, or gives help. The status."""
+    description = sys.modules["__main__"].__doc__
+    parser = argparse.ArgumentParser(description=description, formatter_class=argparse.RawDescriptionHelpFormatter)
+    parser.add_argument("words", nargs="*", metavar="WORD", help="of a test's name: only such tests are run")
+    loader, words = unittest.TestLoader(), parser.parse_args().words
+    loader.testNamePatterns = [f"*{word}*" for word in words] or None
+    passed, failed = run(loader.loadTestsFromName("__main__"), verbosity=2)
     print(f"{passed} passed, {failed} failed")
     return 1 if failed else 0

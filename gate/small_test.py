@@ -5,7 +5,7 @@ the scripts draw of the stored figures, the number of checks side by side is one
 the one before, a number of crates.txt that is wrong is told, gate/pages/pages.py tells of a page of definitions that doesn't say what the sources
 say, and gate/quick.py, over a small crate, passes what is right and nothing else.
 
-usage: gate/small_test.py
+usage: gate/small_test.py [WORD..]     with words: only the tests of whose names one is a part
 """
 
 import os
@@ -161,6 +161,8 @@ class Counted(unittest.TestCase):
         exports = [text for text in clients if re.search("^crate: ", text, re.MULTILINE)]
         self.assertIn(f"{len(scheduled)} wrong bodies that only some schedule exposes", self.page)
         self.assertIn(f"{len(clients)} wrong bodies of all these files, {len(exports)} of them of the exports", self.page)
+        scripts = list(TOP.glob("gate/users/caught/*.edit"))
+        self.assertIn(f"the tests in `gate/users` see {len(scripts)} wrong changes", self.page)
 
 
 class StoredRuns(unittest.TestCase):

@@ -2,7 +2,7 @@
 """Tries what gate/bodies/caught.py says of wrong bodies: of programs that are written here, which pass or fail as it is asked, and of edits of
 a small crate, which are built side by side, and of which some show in no test.
 
-usage: gate/bodies/caught_test.py
+usage: gate/bodies/caught_test.py [WORD..]
 """
 
 import itertools

@@ -3,7 +3,7 @@
 proved, which bodies count as refused. Those that must not are of the same meaning, break a name that a proof cites, lie outside their
 function, or don't compile.
 
-usage: gate/bodies/refused_bodies_test.py
+usage: gate/bodies/refused_bodies_test.py [WORD..]
 """
 
 import os

@@ -3,7 +3,7 @@
 that isn't read, one that can't be built, and one that changes no meaning, which alone is reported as held by nothing. Few checks and builds have
 to do for all of them.
 
-usage: gate/bodies/review_test.py
+usage: gate/bodies/review_test.py [WORD..]
 """
 
 import contextlib

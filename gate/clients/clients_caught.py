@@ -1,8 +1,8 @@
 #!/usr/bin/env python3
 """Sees that the tests of clients catch wrong bodies: those of gate/clients/caught/*.edit, each by the row of gate/clients/clients.py that it names.
 
-Such a file has a line 'row: NAME', and then, as a must-fail edit, lines 'file: ..' (below clients), 'old: TEXT' and 'new: TEXT': the text, which
-stands once, is replaced in a copy, the library is built over that, and the row has to fail, which passes over the copy as it is.
+Such a file has a line 'row: NAME', and then, as a must-fail edit, lines 'file: ..' (below clients, or of tools/), 'old: TEXT' and 'new: TEXT': the
+text, which stands once, is replaced in a copy, the library is built over that, and the row has to fail, which passes over the copy as it is.
 The exports are those of one archive, which is proved and built at the beginning.
 
 With a line 'crate: NAME' the files are of that crate, whose exports are wrong in the body of a function: no clause says so. All such bodies
@@ -37,7 +37,7 @@ from unproved_archive import Exports
 BODIES = TOP / "gate" / "clients" / "caught"
 EXPORTS = "string_cache_c"  # the crate
 ARCHIVE = TOP / "crates" / EXPORTS / "out" / f"lib{EXPORTS}.a"
-NEEDED = ("clients", "tools", "gate", "crates/example_scopes")  # what the tests of clients need
+NEEDED = ("clients", "tools", "gate", "crates/example_scopes", "crates/string_cache_c")  # what the tests of clients need
 CRATES = ("crates", "crates.txt", "HANDLES")  # what a build of the exports needs
 SECONDS = 2700  # for one row, on a slow machine beside other work
 # Most of what a row in Rust takes is the optimiser's work, and here no row is about that. What hangs is waited for no longer than it has to be.
@@ -111,11 +111,16 @@ def read(path):
         raise BadEdit(f"{path.name}: {why}") from why
 
 
+def file_of(name):
+    """The file of this name in an edit, from the top of the repository."""
+    return name if name.startswith("tools/") else f"clients/{name}"
+
+
 def judge(trial, room):
     """Whether the row passes or fails as it has to, and what to say. Skipped where a tool isn't there."""
     copy = copied(Path(tempfile.mkdtemp(dir=room)), NEEDED)
     try:
-        for file, text in changed(trial.changes, copy / "clients").items():
+        for file, text in changed([(file_of(it), *texts) for it, *texts in trial.changes], copy).items():
             file.write_text(text, encoding="utf-8")
         passed = passes(copy, trial.archive, trial.row)
     except (BadEdit, OSError, subprocess.SubprocessError) as why:

@@ -51,11 +51,11 @@ def without_variables():
     return {name: value for name, value in os.environ.items() if name not in ("LD_LIBRARY_PATH", "LIBRARY_PATH", "CPATH", "PKG_CONFIG_PATH")}
 
 
-def installed(place):
+def installed(place, where="/opt/names"):
     """Installs the library below a folder for packages, and moves it away from there: what is installed says where it lies by itself."""
     packed, prefix = place.room / "packed", place.room / "moved"
     environment = {**os.environ, "DESTDIR": str(packed)}
-    said_by(TOP / "tools" / "c_library.sh", "--prefix", "/opt/names", place.library / "libstring_cache.a", env=environment)
+    said_by(TOP / "tools" / "c_library.sh", "--prefix", where, place.library / "libstring_cache.a", env=environment)
     (packed / "opt" / "names").rename(prefix)
     return Installed(prefix)
 
@@ -106,14 +106,19 @@ def install_cmake(place):
 
 
 def install_pages(place):
-    """Each function of the headers that are installed has a page of the manual, and groff has nothing to say of them."""
-    own = installed(place)
+    """Each function of the headers that are installed has a page of the manual, and groff has nothing to say of them. Below a folder for packages
+    it is all one whether a path begins at the root."""
+    own = installed(place, "opt/names")
     pages = own.prefix / "share" / "man" / "man3"
     header = "".join(path.read_text(encoding="utf-8") for path in (own.prefix / "include").glob("*.h"))
     functions = set(re.findall(r"\b(sc_\w+)\(", re.sub(r"/\*.*?\*/", "", header, flags=re.DOTALL)))
     missing = sorted(name for name in functions - {"sc_text_of_fault"} if not (pages / f"{name}.3").is_file())
     if missing:
         raise Failed(f"there is no page of {' '.join(missing)}")
+    led = re.findall(r"(?m)^\.so (.*)$", "\n".join(page.read_text(encoding="utf-8") for page in pages.glob("*.3")))
+    nowhere = sorted({page for page in led if not (pages.parent / page).is_file()})
+    if nowhere or len(led) < len(functions) / 2:
+        raise Failed(f"{len(led)} pages lead to others, some to {nowhere}")
     groff = tool("groff")
     for page in pages.glob("string_cache*.3"):
         said = said_by(groff, "-man", "-ww", "-z", page)
@@ -156,15 +161,17 @@ def script_progress(place):
 
 
 def script_archive(place):
-    """What is no archive of the exports ends the script with status 1 and a line that says why."""
-    archive = place.room / "archive.a"
+    """What is no archive of the exports ends the script with status 1 and a line that says why, and nothing that it made is left."""
+    archive, own = place.room / "archive.a", place.room / "own"
+    own.mkdir()
     rows = {"": "is no archive", "text\n": "is no archive", "!<arch>\n": "the exports can't be linked from", None: "there is no archive"}
     for text, why in rows.items():
         archive.unlink(missing_ok=True) if text is None else archive.write_text(text, encoding="ascii")
-        ran = subprocess.run([SCRIPT, place.room / "out", archive], capture_output=True, text=True, check=False)
+        environment = {**os.environ, "TMPDIR": str(own)}
+        ran = subprocess.run([SCRIPT, place.room / "out", archive], capture_output=True, text=True, env=environment, check=False)
         if ran.returncode != 1 or not re.search(rf"^c_library: .*{why}", ran.stderr, re.MULTILINE) or str(archive) not in ran.stderr:
             raise Failed(f"of {text!r} it says, with status {ran.returncode}: {ran.stderr}")
-        if (place.room / "out").exists():
+        if (place.room / "out").exists() or list(own.iterdir()):
             raise Failed(f"of {text!r} it leaves a folder")
     return len(rows)
 

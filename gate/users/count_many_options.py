@@ -2,7 +2,7 @@
 
 import shutil
 
-from count_many_base import ATOMS, COUNT_MANY, TEXTS, counted, failed, lying, ran, same, whole, written
+from count_many_base import ATOMS, COUNT_MANY, TEXTS, counted, failed, lying, program, ran, same, whole, written
 
 TEXT = TEXTS["many words"][0]
 
@@ -77,4 +77,28 @@ def kept_is_a_file(room):
     return None
 
 
-ROWS = (option_is_wrong, number_is_wrong, text_is_wrong, resume_is_wrong, kept_is_a_file)
+def workers_are_handed_on(room):
+    """Each job has as many workers as are asked for."""
+    notes = program(room, 'echo "$*" >> "$ROOM/words"; exec "$ATOMS" "$@"')
+    for options, words in (((), "count 1"), (("--workers", "3"), "count 3")):
+        (room / "words").unlink(missing_ok=True)
+        if wrong := same(counted(written(room, [TEXT]), *options, atoms=notes), whole(TEXT)):
+            return wrong
+        if (found := set((room / "words").read_text().splitlines())) != {words}:
+            return f"with {options} the program was given {found}"
+    return None
+
+
+def tries_are_as_many_as_asked_for(room):
+    """A piece that fails is tried so often, and no oftener."""
+    fails = program(room, 'echo once >> "$ROOM/tried"; exit 9')
+    for tries in (1, 4):
+        (room / "tried").unlink(missing_ok=True)
+        if wrong := failed(counted(written(room, [b"a b\n"]), "--tries", str(tries), atoms=fails), "piece 1 wasn't counted"):
+            return wrong
+        if (found := len((room / "tried").read_text().splitlines())) != tries:
+            return f"with {tries} tries it was tried {found} times"
+    return None
+
+
+ROWS = (workers_are_handed_on, tries_are_as_many_as_asked_for, option_is_wrong, number_is_wrong, text_is_wrong, resume_is_wrong, kept_is_a_file)

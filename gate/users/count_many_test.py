@@ -19,81 +19,10 @@ import tempfile
 import time
 from pathlib import Path
 
+import count_many_merge
 import count_many_options
 import count_many_resumed
-from count_many_base import ATOMS, BLOCK, COUNT_MANY, DASK, MAPPER, MERGE, SECONDS, TEXTS, TOOLS, counted, failed, program, ran, same, whole, written
-
-# --- the merge ---------------------------------------------------------------------------------------------------------------------
-
-LONG = 10**18
-
-
-def merges(room):
-    files = written(room, [b"2 a\n1 b\n", b"", b"%d a\n3 a\0\n5 c\n" % LONG])
-    found = ran([MERGE, *files], env={**os.environ, "LC_ALL": "en_US.UTF-8"})
-    wanted = b"%d a\n3 a\0\n1 b\n5 c\n" % (LONG + 2)
-    return None if (found.returncode, found.stdout) == (0, wanted) else f"{found.returncode} {found.stdout!r} {found.stderr!r}"
-
-
-def merge_refuses(*texts, why):
-    return lambda room: None if (found := ran([MERGE, *written(room, texts)])).returncode == 1 and why in found.stderr else str(found)
-
-
-def merge_misses_a_file(room):
-    found = ran([MERGE, *written(room, [b"1 a\n"]), room / "absent"])
-    return None if found.returncode == 1 and not found.stdout and b"absent" in found.stderr else str(found)
-
-
-def merge_with_few_files_open(room):
-    """More files than may be open at once, at most 64, 20 or 12."""
-    files = written(room, [b"%d a\n1 b%03d\n" % (number, number) for number in range(200)])
-    wanted = b"%d a\n" % sum(range(200)) + b"".join(b"1 b%03d\n" % number for number in range(200))
-    for limit in (64, 20, 12):
-        found = ran(["sh", "-c", f'ulimit -n {limit}; exec "$@"', "sh", sys.executable, MERGE, *files])
-        if (found.returncode, found.stdout) != (0, wanted):
-            return f"with {limit} files: {found.returncode} {found.stdout[-200:]!r} {found.stderr!r}"
-    return None
-
-
-def merge_ends_well(redirected, *texts):
-    """A row: `--reduce`, or the merge of files of these texts, with a stream that is closed says so in one line."""
-
-    def row(room):
-        words = written(room, texts) or ["--reduce"]
-        found = ran(["sh", "-c", f'"$0" "$@" {redirected}', MERGE, *words], input=b"a\t1\n", stdin=None)
-        is_well = found.returncode == 1 and re.fullmatch(rb"merge_counts: .*\n", found.stderr)
-        return None if is_well else str(found)
-
-    return row
-
-
-def reduce_refuses(lines, why):
-    def row(room):
-        found = ran([MERGE, "--reduce"], input=lines, stdin=None)
-        return None if found.returncode == 1 and why in found.stderr else str(found)
-
-    return row
-
-
-def merges_in_two_ways(room):
-    """Pieces of a text, merged by the script, and as a map-reduce job of three mappers and two reducers would do it."""
-    lines = TEXTS["many words"][0].splitlines(keepends=True)
-    shares = [b"".join(lines[at : at + 7000]) for at in range(0, len(lines), 7000)]
-    files = written(room, [whole(share).stdout for share in shares])
-    if found := same(ran([MERGE, *files]), whole(b"".join(lines))):
-        return found
-    mapped = b"".join(ran([MAPPER, ATOMS], input=share, stdin=None).stdout for share in shares).splitlines(keepends=True)
-    parts = []
-    for reducer in range(2):
-        mine = sorted(line for line in mapped if sum(line.partition(b"\t")[0]) % 2 == reducer)
-        parts.append(ran([MERGE, "--reduce"], input=b"".join(mine), stdin=None).stdout)
-    return same(ran([MERGE, *written(room, parts)]), whole(b"".join(lines)))
-
-
-def mapper_fails_with_the_program(room):
-    found = ran([MAPPER, ATOMS], input=b"a \xff\n", stdin=None)
-    return None if found.returncode == 1 else str(found)
-
+from count_many_base import ATOMS, BLOCK, COUNT_MANY, DASK, SECONDS, TEXTS, TOOLS, counted, failed, program, ran, same, whole, written
 
 # --- pieces under GNU parallel -----------------------------------------------------------------------------------------------------
 
@@ -197,10 +126,11 @@ def path_has_braces(room):
 
 
 def program_is_named_from_here(room):
-    """A program in the folder where the run begins needs no more than `./`, and one on the path its name."""
-    shutil.copy(ATOMS, room / "counter")
+    """A program in the folder where the run begins needs no more than `./`, whatever its name has, and one on the path its name."""
+    for name in ("counter", "it's $HOME; one"):
+        shutil.copy(ATOMS, room / name)
     file, path = written(room, [TEXT])[0].name, os.environ["PATH"]
-    for name, where in (("./counter", path), ("counter", f"{room}:{path}")):
+    for name, where in (("./counter", path), ("counter", f"{room}:{path}"), ("./it's $HOME; one", path)):
         found = ran([COUNT_MANY, "--atoms", name, "--block", BLOCK, file], cwd=room, env={**os.environ, "PATH": where})
         if wrong := same(found, whole(TEXT)):
             return wrong
@@ -222,6 +152,33 @@ def results_are_spoilt(room):
     found = same(counted(files, "--keep", kept, "--resume"), whole(TEXT))
     again = {counts.name for counts in kept.glob("run.1/*.counts") if counts.stat().st_size}
     return found or (None if again == {f"{n}.counts" for n in range(2, 8)} else f"counted again: {again}")
+
+
+def piece_is_gone(room):
+    """A parallel that loses a piece: what is left isn't taken for the whole, and a further run counts that piece."""
+    files, kept, others = written(room, [TEXT]), room / "kept", room / "others"
+    others.mkdir()
+    loses = others / "parallel"
+    loses.write_text(f'#!/bin/bash\n"{shutil.which("parallel")}" "$@"\nrm -f "{kept}/run.0/3."*\n', encoding="utf-8")
+    loses.chmod(0o755)
+    environment = {**os.environ, "PATH": f"{others}:{os.environ['PATH']}"}
+    command = [COUNT_MANY, "--atoms", ATOMS, "--block", BLOCK, "--keep", kept]
+    if wrong := failed(ran([*command, "--tries", "1", *files], env=environment), f" bytes of {len(TEXT)}: one is missing"):
+        return wrong
+    shutil.rmtree(kept)
+    return same(ran([*command, *files], env=environment), whole(TEXT))
+
+
+def no_room_is_left(room):
+    """What a run makes for its own use is gone at its end, also if a job fails."""
+    files, own = written(room, [TEXT, b"a"]), room / "own"
+    own.mkdir()
+    for atoms in (ATOMS, program(room, "exit 9")):
+        command = [COUNT_MANY, "--atoms", atoms, "--block", BLOCK, "--tries", "1", files[1], *files]
+        ran(command, env={**os.environ, "TMPDIR": os.fspath(own)})
+        if left := list(own.iterdir()):
+            return f"with {atoms} it left {left}"
+    return None
 
 
 def run_is_broken_off(room):
@@ -390,23 +347,7 @@ def dask_keeps_no_text(room, python):
 
 
 def rows():
-    yield "merge: equal words are added, whatever the language", merges
-    yield "merge: a file that isn't there", merge_misses_a_file
-    yield "merge: a file that is cut off", merge_refuses(b"1 a\n", b"1 b\n2 c", why=b"cut off")
-    yield "merge: a file that isn't in order", merge_refuses(b"1 b\n1 a\n", why=b"order")
-    yield "merge: a file of something else", merge_refuses(b"one a\n", why=b"no line")
-    yield "merge: a line of two words", merge_refuses(b"1 a b\n", why=b"no line")
-    yield "merge: a line that ends with a return", merge_refuses(b"1 a\r\n", why=b"no line")
-    yield "merge: a number of too many digits", merge_refuses(b"%b a\n" % (b"7" * 5000), why=b"merge_counts: a number of 5000 digits")
-    yield "merge: by the script, and as a map-reduce job", merges_in_two_ways
-    yield "merge: more files than may be open", merge_with_few_files_open
-    yield "merge: its output is closed", merge_ends_well(">&-", b"1 a\n")
-    yield "reduce: a last line without its end", reduce_refuses(b"a\t1\nb\t12", b"cut off")
-    yield "reduce: lines of something else", reduce_refuses(b"a\tone\n", b"no line")
-    yield "reduce: a number of too many digits", reduce_refuses(b"a\t%b\n" % (b"7" * 5000), b"merge_counts: a number of 5000 digits")
-    yield "reduce: its output is closed", merge_ends_well(">&-")
-    yield "reduce: its input is closed", merge_ends_well("<&-")
-    yield "mapper: fails where the program does", mapper_fails_with_the_program
+    yield from count_many_merge.ROWS.items()
     yield "dask: two processes", over_dask(dask)
     yield "dask: no worker keeps the text", over_dask(dask_keeps_no_text)
     if not shutil.which("parallel"):
@@ -420,7 +361,7 @@ def rows():
         yield f"pieces: {row.__name__.replace('_', ' ')}", row
     for row in (program_is_missing, program_is_named_from_here, path_has_braces):
         yield f"pieces: {row.__name__.replace('_', ' ')}", row
-    for row in (results_are_spoilt, run_is_broken_off, *count_many_resumed.ROWS, text_grows_meanwhile, prints_nothing_but_counts):
+    for row in (results_are_spoilt, piece_is_gone, no_room_is_left, run_is_broken_off, *count_many_resumed.ROWS, text_grows_meanwhile, prints_nothing_but_counts):
         yield f"pieces: {row.__name__.replace('_', ' ')}", row
     yield "machines: a line that breaks", line_breaks
     if shutil.which("sshd", path=os.environ.get("PATH", "") + ":/usr/sbin"):

@@ -2,7 +2,7 @@
 """The tests of tools/static_type.py: the types that lie in this repository are what it writes, what it writes is in `rt fmt`'s layout, lists
 that give no type are refused, and keywords as modules' names, and whole calls of it write what they have to, or nothing.
 
-usage: gate/users/static_type_test.py
+usage: gate/users/static_type_test.py [WORD..]     with words: only the rows of whose kind one is a part (ROWS has the kinds)
 """
 
 import contextlib
@@ -68,6 +68,7 @@ NAMES = [
     (b"background-color\n", Name("background-color", "BACKGROUND_COLOR")),
     (b"getElementById\n", Name("getElementById", "GET_ELEMENT_BY_ID")),
     (b"http2 push\n", Name("http2 push", "HTTP2_PUSH")),
+    (b"utf8Decoder\n", Name("utf8Decoder", "UTF8_DECODER")),
     ("味噌汁\tMISO_SOUP\n".encode(), Name("味噌汁", "MISO_SOUP")),
 ]
 
@@ -108,6 +109,9 @@ WRITTEN = [
     (["--short", "--packed"], SHORT, ['SOUPS_TEXT: &str = "borschtgazpacho";', "SOUPS_SPANS: [(u32, u32); 2] = ", BORSCHT], []),
 ]
 
+# A table text of more texts than can be listed.
+LONG_LIST = b"key 0\ndisp 0 0\n" + b"".join(b"atom %016x minestrone%03d\n" % (number, number) for number in range(700))
+
 # Whole calls that are refused: the arguments behind the program and the crate, the input, and a part of what is said.
 CALLS = [
     (["--packed", "Soups"], b"", "no names"),
@@ -119,6 +123,7 @@ CALLS = [
     (["--packed", "Soups", "--module", "../lib"], PAIR, "is no module's file"),
     (["--tables", "Soups"], b"key 0\n", "no table text"),
     (["--tables", "Soups"], b"key 0\ndisp 0 0\nsoup\n", "line 3 is none of a table text"),
+    (["--tables", "Soups"], LONG_LIST, "700 names with 13 bytes are too many to be listed"),
     (["soups"], PAIR, "no type's name"),
     (["--alias", "soup", "Soups"], PAIR, "no type's name"),
     (["Atoms"], PAIR, "would be called Atom, as something else in the module is: --alias"),
@@ -205,7 +210,7 @@ def wrong_names():
         yield None if names_of(data) == [name] else f"{data} is {names_of(data)}"
     short = [Name("figure", "FIGURE")]
     yield None if "inline under any type" in refusal_of(listed_of, short, False) else "short names alone are taken"
-    yield None if listed_of(short, True) == ["figure"] else "a short name that is asked for is left out"
+    yield None if not refusal_of(listed_of, short, True) and listed_of(short, True) == ["figure"] else "a short name that is asked for is left out"
     # The tag of six bytes, and the bytes behind it: 1 + 16 * 6 is 0x61.
     yield None if short[0].inline_word() == 0x65_7275_6769_6661 else f"the word of figure is {short[0].inline_word():#x}"
     yield None if [alias_of(it) for it in ("Names", "Glass", "Sheep")] == ["Name", "GlassAtom", "SheepAtom"] else "an alias is another"
@@ -242,7 +247,7 @@ def wrong_limits():
             yield None if is_right else f"of {len(names)} {form.__name__} names it says {said!r}"
     module = Listed("Names", "Name", "mine", "words/names")
     few, enough = (module.answers(Tables("0", (), ("a",) * count, ())) for count in (MANY - 1, MANY))
-    is_cited = few is None and "use Rattle.mine.proofs.words.names.NamesStaticAtomSet.get.Goals" in enough
+    is_cited = few is None and "use Rattle.mine.proofs.words.names.NamesStaticAtomSet.get.Goals" in (enough or "")
     yield None if is_cited else f"the proof of many listed names is {enough!r}, and of fewer {few!r}"
 
 
@@ -298,20 +303,42 @@ def wrong_text(crate, program, args, data, has, lacks):
     return f"{args} of {data} has the status {ran.returncode}, and {wrong} wrong: {ran.stderr.decode()}" if wrong or not text else None
 
 
-def wrong_calls():
-    """What is wrong in whole calls, over a stand-in for the program."""
+def wrong_refusals():
+    """What is wrong in whole calls that have to be refused, over a stand-in for the program."""
     with small_crate() as (crate, program):
         for args, data, wanted in CALLS:
             yield wrong_call(crate, program, args, data, wanted)
         yield wrong_call(crate, program.with_name("none"), ["Soups"], PAIR, "there is no program")
         yield wrong_call(crate / "none", program, ["Soups"], PAIR, "is no crate")
+
+
+def wrong_modules():
+    """What is wrong in the layout of what whole calls write."""
+    with small_crate() as (crate, program):
         for form, args, data in [
             (Listed, [], PAIR), (Packed, ["--packed"], PAIR),
             (Listed, ["--tables"], TABLES.encode()), (Packed, ["--packed", "--tables"], TABLES.encode()),
         ]:
             yield wrong_module(crate, program, form, args, data)
+
+
+def wrong_texts():
+    """What is wrong in what stands in modules that whole calls write."""
+    with small_crate() as (crate, program):
         for row in WRITTEN:
             yield wrong_text(crate, program, *row)
+
+
+def wrong_proofs():
+    """What is wrong in the proof beside a module: many listed names need one, and what doesn't need it has none, also if one was there."""
+    with small_crate() as (crate, program):
+        proof = crate / "proofs" / "soups" / "SoupsStaticAtomSet" / "get" / "Answers.antt"
+        lines = "".join(f"atom {number:016x} minestrone {number}\n" for number in range(MANY))
+        for args, atoms, is_there in [([], lines, True), ([], FIRST, False), ([], lines, True), (["--packed"], lines, False)]:
+            tables = atoms if atoms == FIRST else f"key 0\ndisp 0 0\n{atoms}"
+            ran = call(crate, program, [*args, "--tables", "Soups"], tables.encode())
+            is_right = ran.returncode == 0 and proof.is_file() == is_there
+            yield None if is_right else f"{args} of {tables.count('atom ')} texts says {ran.stderr.decode()!r}, and a proof is there: {proof.is_file()}"
 
 
 def wrong_files():
@@ -320,14 +347,28 @@ def wrong_files():
         yield None if is_written(module, names, tables) else f"{module.crate}/src/{module.place}.rt isn't what the script writes"
 
 
+ROWS = {
+    "files": wrong_files,
+    "names": wrong_names,
+    "taken": wrong_taken,
+    "places": wrong_places,
+    "limits": wrong_limits,
+    "refusals": wrong_refusals,
+    "modules": wrong_modules,
+    "texts": wrong_texts,
+    "proofs": wrong_proofs,
+}
+
+
 def main():
     """Says how many of these are right, and what is wrong."""
-    found = [it for rows in (wrong_files(), wrong_names(), wrong_taken(), wrong_places(), wrong_limits(), wrong_calls()) for it in rows]
+    words = sys.argv[1:]
+    found = [it for kind, rows in ROWS.items() if not words or any(word in kind for word in words) for it in rows()]
     wrong = [it for it in found if it]
     for it in wrong:
         print(f"WRONG: {it}")
     print(f"{len(found) - len(wrong)} passed, {len(wrong)} failed")
-    return 1 if wrong else 0
+    return 1 if wrong or not found else 0
 
 
 if __name__ == "__main__":

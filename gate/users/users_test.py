@@ -3,7 +3,7 @@
 what is stored of it, and one of crates that are named, and the program that tools/try_atoms.py leaves, over its stored text and a large one, and
 without random bytes. Each script of tools/ is asked for help, too.
 
-usage: gate/users/users_test.py
+usage: gate/users/users_test.py [WORD..]     with words: only the tests of whose names one is a part
 """
 
 import os
@@ -21,6 +21,8 @@ from programs import compiler, end_hint, kit
 from repository import TOP
 
 TOOLS = TOP / "tools"
+OWN = ("must-fail", "refused", "caught", "scheduled", "out")  # parts of a crate for this repository alone
+BESIDE = ("crates.txt", "HANDLES", "README.md", "LICENSE-MIT", "LICENSE-APACHE", ".gitignore")  # the crates that are begun
 WORDS = 200_000  # of a text of more than a megabyte, which `rt try` doesn't take
 
 
@@ -45,6 +47,12 @@ def without_random_bytes(room):
     source.write_text("int getentropy(void *room, unsigned long size) { (void)room; (void)size; return -1; }\n", encoding="utf-8")
     subprocess.run([*compiler(kit()), "-shared", "-fPIC", "-o", library, source], check=True)
     return {"LD_PRELOAD": str(library)}
+
+
+def files_of(crate, but=()):
+    """The files of a crate with their bytes, but for those in these parts of its folder."""
+    parts = (path.relative_to(crate) for path in crate.rglob("*") if path.is_file())
+    return {part: (crate / part).read_bytes() for part in parts if part.parts[0] not in but}
 
 
 def stored(folder, name):
@@ -102,6 +110,9 @@ class Begin(unittest.TestCase):
         ):
             self.assertEqual(ran(TOOLS / "begin.py", kind, self.room / kind)[0], 0)
             self.assertEqual({path.name for path in (self.room / kind / "crates").iterdir()}, crates, kind)
+            self.assertEqual({path.name for path in (self.room / kind).iterdir()}, {"crates", *BESIDE}, kind)
+            for crate in crates:
+                self.assertEqual(files_of(self.room / kind / "crates" / crate), files_of(TOP / "crates" / crate, OWN), crate)
 
     def test_crates_are_begun_with_those_that_they_stand_on(self):
         folder = self.room / "own"
@@ -111,12 +122,18 @@ class Begin(unittest.TestCase):
         self.assertEqual([line.partition(":")[0].split()[0] for line in lines], ["text_forms", "interner_table", "counted_cell", "named_set"])
         self.assertEqual({path.name for path in (folder / "crates").iterdir()}, {"text_forms", "interner_table", "counted_cell", "named_set"})
         self.assertEqual((folder / "HANDLES").read_text(encoding="utf-8"), "Handles allowed: Threads, Wait.\n")
+        whole, listed = self.room / "whole", (TOP / "crates.txt").read_text(encoding="utf-8").splitlines()
+        self.assertEqual(ran(TOOLS / "begin.py", "--crates", "string_cache", whole)[0], 0)
+        names = {path.name for path in (whole / "crates").iterdir()}
+        own = [line for line in listed if line.partition(":")[0].split()[:1] in [[name] for name in names]]
+        self.assertEqual((whole / "crates.txt").read_text(encoding="utf-8").splitlines(), own)
         self.assertEqual(ran(TOOLS / "begin.py", "--crates", "interner_table", self.room / "one")[0], 0)
         self.assertEqual((self.room / "one" / "HANDLES").read_text(encoding="utf-8"), "Handles allowed: none.\n")
 
     def test_crates_without_a_name_here_are_refused(self):
         for words in (["--crates", "nothing"], ["--crates", "named_set,"], [], ["table", "--crates", "named_set"]):
-            self.assertNotEqual(ran(TOOLS / "begin.py", *words, self.room / "none")[0], 0, words)
+            status, said, why = ran(TOOLS / "begin.py", *words, self.room / "none")
+            self.assertEqual((status in (1, 2), said, why.count("begin")), (True, b"", 1), words)
             self.assertFalse((self.room / "none").exists())
 
     def test_a_folder_that_can_not_be_made_is_told(self):
