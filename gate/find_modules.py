@@ -12,6 +12,6 @@ import sys
 from pathlib import Path
 
 GATE = Path(__file__).resolve().parent
-SHARED = ("bodies", "machine", "pages", "refusals")  # the folders with modules that a script of another one imports
+SHARED = ("bodies", "machine", "pages", "refusals", "users")  # the folders with modules that a script of another one imports
 
 sys.path += [*(str(GATE / name) for name in SHARED), str(GATE.parent / "tools")]

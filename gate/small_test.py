@@ -1,9 +1,9 @@
 #!/usr/bin/env python3
 """Tries what no other part of the test command tries: the test command fails if a part of it is killed or never begins, and ends what a part started
-if it is ended itself, what is kept by name is there, docs/TESTS.md counts right, a stored run tells of wrong bodies, the pictures of docs/ are what
-the scripts draw of the stored figures, the number of checks side by side is one that the machine has processors for, a module's time is that since
-the one before, a number of crates.txt that is wrong is told, gate/pages/pages.py tells of a page of definitions that doesn't say what the sources
-say, and gate/quick.py, over a small crate, passes what is right and nothing else.
+if it is ended itself, what is kept by name is there, docs/TESTS.md counts right, a stored run tells of wrong bodies, and rows of wrong scripts, the
+pictures of docs/ are what the scripts draw of the stored figures, the number of checks side by side is one that the machine has processors for, a
+module's time is that since the one before, a number of crates.txt that is wrong is told, gate/pages/pages.py tells of a page of definitions that
+doesn't say what the sources say, and gate/quick.py, over a small crate, passes what is right and nothing else.
 
 usage: gate/small_test.py [WORD..]     with words: only the tests of whose names one is a part
 """
@@ -28,6 +28,7 @@ import refuser
 import repository
 import run_tests
 import stored_runs
+import users_caught
 import waiting
 from repository import TOP
 
@@ -163,6 +164,39 @@ class Counted(unittest.TestCase):
         self.assertIn(f"{len(clients)} wrong bodies of all these files, {len(exports)} of them of the exports", self.page)
         scripts = list(TOP.glob("gate/users/caught/*.edit"))
         self.assertIn(f"the tests in `gate/users` see {len(scripts)} wrong changes", self.page)
+
+
+class WrongScripts(unittest.TestCase):
+    """What is said of a wrong change of a script, by what its test says, which is a script here."""
+
+    SEES = "print('many row: ' + ('ok' if open('tools/tool.sh').read() == 'right\\n' else {fault!r}))\nprint({closing!r})\n"
+
+    def said(self, closing, fault="WRONG", row="row"):
+        with tempfile.TemporaryDirectory(prefix="wrong-scripts-") as room:
+            root = Path(room)
+            for folder in ("tools", "gate/users"):
+                (root / folder).mkdir(parents=True)
+            (root / "tools" / "tool.sh").write_text("right\n", encoding="ascii")
+            (root / "gate" / "users" / "count_many_test.py").write_text(self.SEES.format(fault=fault, closing=closing), encoding="ascii")
+            found = users_caught.judge(users_caught.Change("wrong", "many", row, (("tool.sh", "right", "wrong"),)), root)
+            self.assertEqual((root / "tools" / "tool.sh").read_text(encoding="ascii"), "right\n")
+            return found
+
+    def test_a_row_that_fails_sees_it(self):
+        self.assertEqual(self.said("0 passed, 1 failed"), (True, "seen by 'many row'"))
+
+    def test_rows_that_pass_do_not(self):
+        self.assertEqual(self.said("2 passed, 0 failed"), (False, "passes 'many row'"))
+
+    def test_rows_that_are_not_run_or_a_script_that_is_none_do_not(self):
+        for closing, fault in (("0 passed, 0 failed", "WRONG"), ("ended", "WRONG"), ("0 passed, 1 failed", "NameError: none")):
+            well, text = self.said(closing, fault)
+            self.assertFalse(well)
+            self.assertIn("BAD EDIT: the rows 'row' weren't run", text)
+
+    def test_a_row_whose_tool_is_missing_is_skipped(self):
+        with self.assertRaises(users_caught.Skipped):
+            self.said("0 passed, 0 failed", "skipped: it isn't here")
 
 
 class StoredRuns(unittest.TestCase):
