@@ -361,7 +361,9 @@ def rows():
         yield f"pieces: {row.__name__.replace('_', ' ')}", row
     for row in (program_is_missing, program_is_named_from_here, path_has_braces):
         yield f"pieces: {row.__name__.replace('_', ' ')}", row
-    for row in (results_are_spoilt, piece_is_gone, no_room_is_left, run_is_broken_off, *count_many_resumed.ROWS, text_grows_meanwhile, prints_nothing_but_counts):
+    for row in (results_are_spoilt, piece_is_gone, run_is_broken_off, *count_many_resumed.ROWS):
+        yield f"pieces: {row.__name__.replace('_', ' ')}", row
+    for row in (text_grows_meanwhile, no_room_is_left, prints_nothing_but_counts):
         yield f"pieces: {row.__name__.replace('_', ' ')}", row
     yield "machines: a line that breaks", line_breaks
     if shutil.which("sshd", path=os.environ.get("PATH", "") + ":/usr/sbin"):

@@ -337,8 +337,8 @@ def wrong_proofs():
         for args, atoms, is_there in [([], lines, True), ([], FIRST, False), ([], lines, True), (["--packed"], lines, False)]:
             tables = atoms if atoms == FIRST else f"key 0\ndisp 0 0\n{atoms}"
             ran = call(crate, program, [*args, "--tables", "Soups"], tables.encode())
-            is_right = ran.returncode == 0 and proof.is_file() == is_there
-            yield None if is_right else f"{args} of {tables.count('atom ')} texts says {ran.stderr.decode()!r}, and a proof is there: {proof.is_file()}"
+            is_right, of = ran.returncode == 0 and proof.is_file() == is_there, f"{args} of {tables.count('atom ')} texts"
+            yield None if is_right else f"{of} says {ran.stderr.decode()!r}, and a proof is there: {proof.is_file()}"
 
 
 def wrong_files():

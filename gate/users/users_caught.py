@@ -8,8 +8,8 @@ run all rows, say so.
 
 The program `atoms` is the one that `rt ci` or `rt run` built last.
 
-usage: gate/users/users_caught.py [--jobs N] [--tested] [WORD..]     with words: only the changes whose names have one of them; a word that is in none is
-told, and nothing is tried. A change whose row needs a tool that isn't there is skipped.
+usage: gate/users/users_caught.py [--jobs N] [--tested] [WORD..]     with words: only the changes whose names have one of them; a word that is in
+none is told, and nothing is tried. A change whose row needs a tool that isn't there is skipped.
 """
 
 import argparse
