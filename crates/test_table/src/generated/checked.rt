@@ -59,7 +59,7 @@ fn many_lines_are_checked(rt: HostRuntime) {
 }
 
 /// Texts, and whether each is the table text of perfect tables.
-static TABLE_TEXTS: [(&str, bool); 34] = [
+static TABLE_TEXTS: [(&str, bool); 35] = [
     ("key 0\ndisp 0 0\natom 1122334455667788 sentence\n", true),
     (
         "key 0\ndisp 0 0\natom 1122334455667788 sentence\natom 1122334455667788 sentence\n",
@@ -111,6 +111,10 @@ static TABLE_TEXTS: [(&str, bool); 34] = [
     ("key 0\ndisp 0 0\natom 1122334455667788 \n", true),
     ("key 0\ndisp 0 0\natom 1122334455667788\n", false),
     ("key 0\ndisp 0 0\natom 1122334455667788 a\0NUL\n", true),
+    (
+        "key 0\ndisp 0 0\natom 1122334455667788 \ta\x1b[0m\x7f\n",
+        true,
+    ),
     // A text may have spaces and a carriage return.
     (
         "key 0\ndisp 0 0\natom 1122334455667788  two words\r\n",

@@ -56,9 +56,9 @@ fn late_displacements_are_found(rt: HostRuntime) {
     }
 }
 
-/// A text of 200,000 bytes, not all of it ASCII.
+/// A text of 210,000 bytes, not all of it ASCII.
 fn long_text(rt: &impl Abort, alloc: Global) -> String {
-    "né€𝄞".repeat(alloc, 20_000).expect(rt, "a text")
+    "né€𝄞".repeat(alloc, 21_000).expect(rt, "a text")
 }
 
 /// Whether the text alone has tables.
@@ -67,10 +67,11 @@ fn is_placed_alone(alloc: Global, text: &str) -> Result<bool, GenFault> {
     Ok(are_of(alloc, &tables, 1, 1))
 }
 
-/// Whether the empty text, a NUL, and one with a space and a carriage return have tables.
+/// Whether the empty text, a NUL, one with a space and a carriage return, other controls, and line ends beyond ASCII have tables.
 fn are_odd_placed(alloc: Global) -> Result<bool, GenFault> {
-    let tables = tables_of(alloc, &["", "\0", "two words\r"], 0, 1_024)?;
-    Ok(are_of(alloc, &tables, 3, 1))
+    let texts = ["", "\0", "two words\r", "\t\x1b[0m\x7f", "\u{85}\u{2028}"];
+    let tables = tables_of(alloc, &texts, 0, 1_024)?;
+    Ok(are_of(alloc, &tables, 5, 1))
 }
 
 #[test]
