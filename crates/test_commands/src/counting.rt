@@ -427,11 +427,11 @@ fn is_one_word<R: Threads + Wait + Sync + Abort>(rt: &R, alloc: Global, n: u32) 
     requires high { n ≤ 64 }
 {
     let set = new_set(rt, alloc);
-    let text = "\0字".repeat(alloc, 50_000).expect(rt, "room");
+    let text = "\0字".repeat(alloc, 52_000).expect(rt, "room");
     are_counted(rt, &set, &text, n, &Open, &[(text.as_str(), 1)])
 }
 
-/// A text of 200,000 bytes without white space, and with NUL.
+/// A text of 208,000 bytes without white space, and with NUL.
 #[test]
 fn one_long_word_is_counted(rt: HostRuntime) {
     for n in [1, 2, 64] {

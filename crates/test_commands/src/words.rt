@@ -289,6 +289,19 @@ fn large_text(rt: HostRuntime) {
     assert_that(&rt, are_large(&rt, &set, &front));
 }
 
+/// Whether the line of a text that is one word is written.
+fn is_listed_alone(rt: &impl Abort, alloc: Global, text: &str) -> bool {
+    let line = format!(in alloc; "Not seen the word \"{text}\" before\n").expect(rt, "room");
+    are_lines(alloc, text, &line)
+}
+
+/// A word of 208,000 bytes, with NUL.
+#[test]
+fn one_long_word_is_listed(rt: HostRuntime) {
+    let text = "\0字".repeat(rt.alloc(), 52_000).expect(&rt, "room");
+    assert_that(&rt, is_listed_alone(&rt, rt.alloc(), &text));
+}
+
 /// The atom of a text.
 pub fn intern<'s, R: Wait + Abort>(
     rt: &R,
