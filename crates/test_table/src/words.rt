@@ -270,9 +270,24 @@ fn are_files(rt: &impl Abort, alloc: Global) -> bool {
     is_right
 }
 
-fn are_functions(rt: &impl Abort, alloc: Global) -> bool {
+/// Names that a file or a tool may have as well: with controls, of two lines, and of white space alone.
+static ODD: [&str; 3] = ["a name\0\t\x1b[0m\x7f", "two\r\nlines", "          "];
+
+fn are_odd_named(rt: &impl Abort, functions: &mut Names<Function>) -> bool {
+    for text in &ODD {
+        if !is_named_and_found(rt, functions, text) {
+            return false;
+        }
+    }
+    true
+}
+
+/// Whether functions are found by their names, the longest of which is this one.
+fn are_functions(rt: &impl Abort, alloc: Global, long: &str) -> bool {
     let mut functions = new_names(rt, alloc);
     let is_right = is_named_and_found(rt, &mut functions, "hauptgr\u{f6}\u{df}e")
+        && are_odd_named(rt, &mut functions)
+        && is_named_and_found(rt, &mut functions, long)
         && finds_none(&functions, "another_name", 0);
     drop(functions);
     is_right
@@ -280,9 +295,10 @@ fn are_functions(rt: &impl Abort, alloc: Global) -> bool {
 
 #[test]
 fn names_are_of_kinds(rt: HostRuntime) {
+    let long = "é".repeat(rt.alloc(), 10_000).expect(&rt, "a text");
     assert_that(
         &rt,
-        are_files(&rt, rt.alloc()) && are_functions(&rt, rt.alloc()),
+        are_files(&rt, rt.alloc()) && are_functions(&rt, rt.alloc(), &long),
     );
 }
 
