@@ -22,6 +22,7 @@ use string_cache::{DefaultAtom, EmptyStaticAtomSet};
 use test_refusals::{End, are, at_last, begin, finish};
 use test_samples::{EXAMPLE, EXAMPLE_COUNTS};
 use text_streams::faults::AppFault;
+use text_streams::streams::{Io, read_text};
 use word_counts::count::{Open, WordCounts};
 
 /// Whether a call wrote its output, or a beginning of these lines until it was refused.
@@ -79,6 +80,21 @@ fn many_words_in_a_table(rt: HostRuntime) {
     let text = numbered_words(&rt, alloc, 100);
     let answer = at_last(&rt, || tell_alone(alloc, &text, &mut Lost));
     assert_that(&rt, answer == Ok(()));
+}
+
+/// How many bytes are read of the text.
+fn bytes_read(alloc: Global, text: &str) -> Result<usize, AppFault> {
+    let read = read_text(alloc, &mut Io::new(text.as_bytes()))?;
+    Ok(read.len())
+}
+
+/// A text of three pieces and a part of one, which is read piece by piece.
+#[test]
+fn text_of_many_pieces_is_read(rt: HostRuntime) {
+    let alloc = rt.alloc();
+    let text = "a".repeat(alloc, 200_000).expect(&rt, "room");
+    let answer = at_last(&rt, || bytes_read(alloc, &text));
+    assert_that(&rt, answer == Ok(200_000));
 }
 
 /// Whether a worked script prints its output, in a watched call and in another. If the first is refused, it prints nothing.
