@@ -1,11 +1,12 @@
 //! The bytes that a table takes. `clients/c/tests/counted.c` compares those of tables for C with what the allocator is asked for.
 
-use crate::hashers::keys_of;
+use crate::hashers::{Alike, keys_of};
 use crate::rows::{Plain, plain, releases, reserves};
 use crate::texts::numbered_text;
 use crate::{assert_for, assert_that};
 use std::alloc::Global;
 use std::process::Abort;
+use string_cache_core::static_sets::EmptyStaticAtomSet;
 use string_cache_core::table::{Call, Names, Table};
 use string_cache_core::word::{Buckets, Limits};
 
@@ -215,8 +216,8 @@ fn memory_of_room_beside_texts(rt: HostRuntime) {
     assert_that(&rt, one_bucket_takes_with_room(&rt, alloc, 150_000, 32_768));
 }
 
-/// Whether a table that is full of this many texts has this many groups once it has room for one more, and also, once they are gone, when room for no
-/// text is made.
+/// Whether a table of this many texts, which may be full of them, has this many groups once it has room for one more, and also, once they are gone,
+/// when room for no text is made.
 fn full_table_has_room(rt: &impl Abort, alloc: Global, number: usize, groups: u32) -> bool {
     let mut table = one_bucket(rt, alloc);
     let empty = empty_bytes(1, groups);
@@ -233,6 +234,70 @@ fn full_table_has_room(rt: &impl Abort, alloc: Global, number: usize, groups: u3
 #[test]
 fn memory_of_room_beside_a_full_table(rt: HostRuntime) {
     assert_that(&rt, full_table_has_room(&rt, rt.alloc(), 576, 128));
+    assert_that(&rt, full_table_has_room(&rt, rt.alloc(), 577, 128));
+}
+
+/// A table in which all texts have one hash, so that they lie side by side, and leave places that the index doesn't report.
+type AlikeTable = Table<EmptyStaticAtomSet, Alike>;
+
+/// Whether as many texts come, and go.
+fn come_and_go(rt: &impl Abort, alloc: Global, table: &mut AlikeTable, number: usize) -> bool {
+    for n in 0..number {
+        if table.intern(&numbered_text(rt, alloc, TEXT, n)).is_err() {
+            return false;
+        }
+    }
+    for n in 0..number {
+        let word = table.get(&numbered_text(rt, alloc, TEXT, n)).unwrap_or(0);
+        if !releases(table, word) {
+            return false;
+        }
+    }
+    true
+}
+
+/// Whether a table with room for this many texts has this many groups once 40 have come and gone.
+fn keeps_groups_of_alike(rt: &impl Abort, alloc: Global, room: usize, groups: u32) -> bool {
+    let buckets = Buckets::new(0).expect(rt, "bits");
+    let mut table: AlikeTable = Table::with_buckets(
+        alloc,
+        Alike,
+        Limits::greatest(),
+        buckets,
+    ).expect(rt, "a table");
+    let is_right = reserves(&mut table, room, Ok(()))
+        && come_and_go(rt, alloc, &mut table, 40)
+        && table.memory() == empty_bytes(1, groups);
+    drop(table);
+    is_right
+}
+
+#[test]
+fn memory_stays_when_texts_of_one_hash_go(rt: HostRuntime) {
+    assert_that(&rt, keeps_groups_of_alike(&rt, rt.alloc(), 150_000, 32_768));
+}
+
+/// Whether a table that is full of this many texts has as many groups once each has a second holder.
+fn takes_no_more_for_second_holders(
+    rt: &impl Abort,
+    alloc: Global,
+    number: usize,
+    groups: u32,
+) -> bool {
+    let mut table = one_bucket(rt, alloc);
+    let empty = empty_bytes(1, groups);
+    let is_right = takes_numbered(rt, alloc, &mut table, number, empty)
+        && takes_numbered(rt, alloc, &mut table, number, empty);
+    drop(table);
+    is_right
+}
+
+#[test]
+fn memory_of_second_holders(rt: HostRuntime) {
+    assert_that(
+        &rt,
+        takes_no_more_for_second_holders(&rt, rt.alloc(), 576, 64),
+    );
 }
 
 fn clones(table: &mut Plain, word: u64) -> bool {
@@ -273,12 +338,23 @@ fn takes_no_more(table: &mut Plain, bytes: u128) -> bool {
     reserves(table, 0, Ok(())) && takes(table, bytes)
 }
 
-/// Whether a table that lost all of this many texts has as many groups as before when room for no text is made.
+/// Whether room for this many texts can be made in a table without any, which then has this many groups.
+fn grows(table: &mut Plain, number: usize, groups: u32) -> bool {
+    reserves(table, number, Ok(())) && takes(table, empty_bytes(1, groups))
+}
+
+/// Whether a table that lost all of this many texts has as many groups as before when room for no text is made, and twice as many when room for one
+/// text more than these is.
 fn emptied_table_keeps_groups(rt: &impl Abort, alloc: Global, number: usize, groups: u32) -> bool {
     let mut table = one_bucket(rt, alloc);
     let is_right = interns_numbered(rt, alloc, &mut table, number)
         && loses_numbered(rt, alloc, &mut table, number)
-        && takes_no_more(&mut table, empty_bytes(1, groups));
+        && takes_no_more(&mut table, empty_bytes(1, groups))
+        && grows(
+            &mut table,
+            number.saturating_add(1),
+            groups.saturating_mul(2),
+        );
     drop(table);
     is_right
 }
@@ -303,7 +379,8 @@ fn room_for_no_text_takes_none(rt: HostRuntime) {
     assert_that(&rt, takes_no_room(&rt, rt.alloc()));
 }
 
-/// Whether a table that had the first number of texts, and lost the second, has this many groups once it is cleared.
+/// Whether a table that had the first number of texts, and lost the second, has this many groups once it is cleared, and twice as many once it has
+/// room for one text more than it had.
 fn keeps_cleared_groups(
     rt: &impl Abort,
     alloc: Global,
@@ -315,7 +392,13 @@ fn keeps_cleared_groups(
     let is_right = interns_numbered(rt, alloc, &mut table, number)
         && loses_numbered(rt, alloc, &mut table, lost);
     table.clear();
-    let is_right = is_right && takes(&table, empty_bytes(1, groups));
+    let is_right = is_right
+        && takes(&table, empty_bytes(1, groups))
+        && grows(
+            &mut table,
+            number.saturating_add(1),
+            groups.saturating_mul(2),
+        );
     drop(table);
     is_right
 }
