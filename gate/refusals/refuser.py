@@ -60,6 +60,7 @@ FEW = {
     "refusals::sets::text_finds_room_in_a_node": 1,
     "refusals::tables::text_finds_room_in_a_table": 1,
     "refusals::tables::text_finds_room_in_a_cleared_table": 1,
+    "refusals::tables::text_finds_room_where_another_was": 1,
 }
 
 # The fewest requests that a call may make, by its test's name: each dynamic text that a table holds has its bytes, each of two workers its thread,

@@ -142,6 +142,12 @@ fn has_room_once_cleared<R: Print + Abort>(
     has_room(rt, table)
 }
 
+/// Whether it finds room where another text was, whose only holder is gone.
+fn has_room_once_given<R: Print + Abort>(rt: &R, table: &mut Table<EmptyStaticAtomSet>) -> bool {
+    let word = word_in(table, "tokenised").expect(rt, "a word");
+    table.release(word) && has_room(rt, table)
+}
+
 /// What is asked of a table.
 #[derive(Clone, Copy)]
 enum Question {
@@ -152,6 +158,7 @@ enum Question {
     TellsItsRoom,
     HasRoomBehind(u32),
     HasRoomOnceCleared,
+    HasRoomOnceGiven,
 }
 
 /// Whether that is so.
@@ -169,6 +176,7 @@ fn passes<R: Print + Abort>(
         Question::TellsItsRoom => tells_its_room(rt, table),
         Question::HasRoomBehind(number) => has_room_behind(rt, alloc, table, number),
         Question::HasRoomOnceCleared => has_room_once_cleared(rt, alloc, table),
+        Question::HasRoomOnceGiven => has_room_once_given(rt, table),
     }
 }
 
@@ -231,6 +239,13 @@ fn text_finds_room_in_a_table(rt: HostRuntime) {
 fn text_finds_room_in_a_cleared_table(rt: HostRuntime) {
     let made = Table::new(rt.alloc(), table_keys(&rt));
     check(&rt, rt.alloc(), made, Question::HasRoomOnceCleared);
+}
+
+/// So does one where another was, whose last holder is gone.
+#[test]
+fn text_finds_room_where_another_was(rt: HostRuntime) {
+    let made = Table::new(rt.alloc(), table_keys(&rt));
+    check(&rt, rt.alloc(), made, Question::HasRoomOnceGiven);
 }
 
 /// Adds a call that interns a text.
