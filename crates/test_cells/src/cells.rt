@@ -5,6 +5,7 @@ ghost use Rattle.counted_cell.specs.Cell.{Cell};
 ghost use Rattle.counted_cell.specs.Reply.{IsReply};
 
 mod crowded;
+mod labels;
 
 use crate::receipts::first_receipt;
 use crate::{assert_for, assert_that};
