@@ -1,5 +1,7 @@
 //! More holders, entries and serials of one bucket than 16 bits count, and many texts of one bucket that die.
 
+mod going;
+
 use crate::assert_that;
 use crate::samples::{check_linked, clone_of, end, intern, word_of};
 use crate::sets::{self, Kind, ONE_BUCKET, ask};
@@ -21,6 +23,8 @@ pub enum Question {
     Serials,
     Texts,
     Dying,
+    /// Texts that go one by one.
+    Going,
 }
 
 /// Asks it of a set, which has no text afterwards.
@@ -30,6 +34,7 @@ pub fn check<S: SharedSet, R: Wait + Abort>(rt: &R, set: S, kind: Kind, question
         Question::Serials => come_many_times(rt, set),
         Question::Texts => hold_many(rt, set, kind),
         Question::Dying => let_many_die(rt, set, kind),
+        Question::Going => going::check(rt, set),
     }
     check_linked(rt, set, 0);
 }
@@ -213,4 +218,9 @@ fn let_many_die<S: SharedSet, R: Wait + Abort>(rt: &R, set: S, kind: Kind) {
 #[test]
 fn many_dying_texts_of_a_bucket_go(rt: HostRuntime) {
     check_both(&rt, rt.alloc(), Question::Dying);
+}
+
+#[test]
+fn texts_of_a_bucket_go_one_by_one(rt: HostRuntime) {
+    check_both(&rt, rt.alloc(), Question::Going);
 }
