@@ -309,8 +309,9 @@ fn check_cases<S: SharedSet, R: Wait + Abort>(rt: &R, set: S) {
     for (text, upper, lower) in &CASES {
         assert_that(rt, has_cases(rt, set, text, upper, lower));
     }
-    assert_that(rt, has_long_cases(rt, set, 64));
-    assert_that(rt, has_long_cases(rt, set, 65));
+    for letters in 60..=130usize {
+        assert_for(rt, has_long_cases(rt, set, letters), &letters);
+    }
 }
 
 #[test]
