@@ -47,6 +47,11 @@ fn has_and_clones<S: SharedSet, R: Wait>(rt: &R, list: &SetList<S>, at: usize, t
     }
 }
 
+/// Whether the iterator tells so many texts.
+fn tells<I: ExactSizeIterator>(texts: &I, count: usize) -> bool {
+    texts.len() == count && texts.size_hint() == (count, Some(count))
+}
+
 /// Whether a list of many texts has the last of them and one between.
 fn is_long<S: SharedSet, R: Wait>(rt: &R, list: &SetList<S>) -> bool {
     has_and_clones(rt, list, 65_536, "Nummer für 65536")
@@ -57,7 +62,7 @@ fn is_long<S: SharedSet, R: Wait>(rt: &R, list: &SetList<S>) -> bool {
 pub fn find_in_long_list<S: SharedSet, R: Wait + Abort>(rt: &R, set: S) {
     let list = long_list(rt, set);
     assert_that(rt, list.len() == 70_001 && links(rt, set, 70_001));
-    assert_that(rt, is_long(rt, &list));
+    assert_that(rt, is_long(rt, &list) && tells(&list.iter(), 70_001));
 }
 
 #[test]
