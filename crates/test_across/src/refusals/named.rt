@@ -11,8 +11,8 @@ use std::marker::Brand;
 use std::process::Abort;
 use std::sync::Wait;
 use string_cache::word::{Buckets, Limits};
-use string_cache::{EmptyStaticAtomSet, Fault, NamedAtom, SharedSet};
-use test_calls::{links, shown};
+use string_cache::{EmptyStaticAtomSet, Fault, ListOf, NamedAtom, SetList, SharedSet};
+use test_calls::{cloned_at, links, pop, push, shown};
 use test_refusals::{End, at_last, begin, finish, finishes_refused};
 
 type Named<N> = NamedSet<EmptyStaticAtomSet, N>;
@@ -47,6 +47,8 @@ pub enum Call {
     Long,
     /// What may not.
     Unasked,
+    /// The same of a list.
+    Listed,
     /// What is refused once the tickets are spent.
     Spent,
     /// What interns a text beside so many, for which there is no room.
@@ -230,6 +232,30 @@ fn is_given_again<N: SetName, R: Wait + Print>(rt: &R, set: &Named<N>, atom: Wor
     is_given && is_cloned && is_right && set.linked(rt) == 0
 }
 
+/// Whether the list has an atom at this place.
+fn has_atom<S: SharedSet, R: Wait>(rt: &R, list: &SetList<S>, at: usize) -> bool {
+    matches!(cloned_at(rt, list, at), Ok(Some(_)))
+}
+
+/// Whether the list's texts are read and cloned, the last one is taken out, and all are.
+fn is_read_and_cleared<S: SharedSet, R: Wait + Print>(rt: &R, list: &mut SetList<S>) -> bool {
+    begin(rt);
+    let is_read = list.get(0) == Some(SMALL) && has_atom(rt, list, 0) && has_atom(rt, list, 1);
+    let goes = pop(list).is_some();
+    list.clear();
+    finish(rt, End::Given);
+    is_read && goes && list.is_empty()
+}
+
+/// Whether that is so of a list of three places.
+pub fn is_listed<S: SharedSet, R: Wait + Print + Abort>(rt: &R, set: S) -> bool {
+    let mut list = ListOf::new(set);
+    for text in [SMALL, "ab", SMALL] {
+        push(rt, &mut list, text).expect(rt, "a place");
+    }
+    is_read_and_cleared(rt, &mut list)
+}
+
 /// What the set returns for the text, in each way to pass it.
 fn refused_thrice<N: SetName, R: Wait>(
     rt: &R,
@@ -314,6 +340,7 @@ fn is_made_in<N: SetName, R: Wait + Print + Abort>(rt: &R, set: &Named<N>, call:
         Call::ToJson => return has_json(rt, set),
         Call::Long => return is_long_given(rt, set) && set.linked(rt) == 0,
         Call::Unasked => return is_given_again(rt, set, intern(rt, set)),
+        Call::Listed => return is_listed(rt, set) && set.linked(rt) == 0,
         Call::Spent => return is_spent(rt, set),
         Call::Beside(count) => return comes_beside(rt, set, count) && set.linked(rt) == 0,
     };

@@ -3,13 +3,15 @@
 use super::{DefaultList, SHORT};
 use crate::assert_that;
 use crate::begun::{intern, new_set};
+use crate::refusals::named;
+use serde_json::Value;
 use std::borrow::CowStr;
 use std::io::Print;
 use std::process::Abort;
 use std::sync::Wait;
 use string_cache::dynamic_set::Set;
-use string_cache::{AtomList, DefaultAtom, EmptyStaticAtomSet};
-use test_calls::{cloned_at, interned_cow, lowered, pop, push};
+use string_cache::{AtomList, DefaultAtom, EmptyStaticAtomSet, Fault};
+use test_calls::{cloned_at, interned_cow, links, lowered, pop, push, read_json};
 use test_refusals::{End, begin, finish};
 use test_samples::One;
 
@@ -144,4 +146,48 @@ fn lower_case_of_long_texts(rt: HostRuntime) {
     let lower = letters(&rt, &set, "a", 64);
     let long = letters(&rt, &set, "a", 65);
     assert_that(&rt, are_lowered(&rt, &set, &upper, &lower, &long));
+}
+
+/// Whether JSON values that are no texts are refused as such.
+fn are_no_texts<R: Wait>(rt: &R, set: &Set<EmptyStaticAtomSet>, values: &[Value]) -> bool {
+    for value in values {
+        if read_json(rt, set, value).err() != Some(Fault::NotText) {
+            return false;
+        }
+    }
+    true
+}
+
+/// Whether they are, without a request.
+fn are_refused<R: Wait + Print>(rt: &R, set: &Set<EmptyStaticAtomSet>, values: &[Value]) -> bool {
+    begin(rt);
+    let are_refused = are_no_texts(rt, set, values);
+    finish(rt, End::Given);
+    are_refused
+}
+
+/// What is no text is refused before memory is asked for.
+#[test]
+fn json_without_text_is_refused(rt: HostRuntime) {
+    let set: Set<EmptyStaticAtomSet> = new_set(&rt, rt.alloc());
+    let list = Value::from_str(
+        rt.alloc(),
+        "[null, true, 7.5, -1, [\"interned\"], {\"interned\": 1}]",
+    );
+    let list = list.expect(&rt, "a value");
+    let values = list.as_array().expect(&rt, "a list");
+    assert_that(&rt, are_refused(&rt, &set, values.as_slice()));
+}
+
+/// And one whose last place is taken out before it is cleared.
+#[test]
+fn list_is_read_and_taken_from(rt: HostRuntime) {
+    let set: Set<EmptyStaticAtomSet> = new_set(&rt, rt.alloc());
+    assert_that(&rt, named::is_listed(&rt, &set) && links(&rt, &set, 0));
+}
+
+/// So is one of a set with a name.
+#[test]
+fn list_of_a_set_with_a_name_is_read_and_taken_from(rt: HostRuntime) {
+    named::check(&rt, rt.alloc(), named::Call::Listed);
 }
