@@ -34,11 +34,11 @@ fn let_one_go<H: AtomKind>(atoms: &mut Vec<SetAtom<H>>, order: Order) {
 fn go_one_by_one<S: SharedSet, R: Wait>(
     rt: &R,
     set: S,
-    mut atoms: Vec<SetAtom<S::Held>>,
+    atoms: &mut Vec<SetAtom<S::Held>>,
     order: Order,
 ) -> bool {
     for _ in 0..atoms.len() {
-        let_one_go(&mut atoms, order);
+        let_one_go(atoms, order);
         if !links(rt, set, atoms.len() as u128) {
             return false;
         }
@@ -48,8 +48,8 @@ fn go_one_by_one<S: SharedSet, R: Wait>(
 
 /// Whether so many come and go in this order.
 fn come_and_go<S: SharedSet, R: Wait + Abort>(rt: &R, set: S, count: usize, order: Order) -> bool {
-    let atoms = numbered_atoms(rt, set, 0..count);
-    links(rt, set, count as u128) && go_one_by_one(rt, set, atoms, order)
+    let mut atoms = numbered_atoms(rt, set, 0..count);
+    links(rt, set, count as u128) && go_one_by_one(rt, set, &mut atoms, order)
 }
 
 /// They come and go in each order.
