@@ -66,9 +66,13 @@ fn write_cut<D: Display>(out: &mut String, value: &D) -> Result<(), Fault> {
     Ok(())
 }
 
-/// Writes a value with a sign, in the other form, and with zeros: a text has none of these, and is padded with spaces.
+/// Writes a value with a sign, in the other form, and with zeros: a text has none of these, and is padded with spaces. With a precision of 0 nothing
+/// is left of it.
 fn write_flagged<D: Display>(out: &mut String, value: &D) -> Result<(), Fault> {
-    write!(out, "|{value:+}|{value:#}|{value:04}")?;
+    write!(
+        out,
+        "|{value:+}|{value:#}|{value:04}|{value:.0}|{value:3.0}"
+    )?;
     Ok(())
 }
 
@@ -93,21 +97,24 @@ fn check_styled<R: Wait + Abort>(rt: &R, set: &Set<One>, text: &str, wanted: &st
 static STYLES: [(&str, &str); 6] = [
     (
         "foo",
-        "foo|   foo|foo   | foo  |***fo****|f|foo|foo|foo|foo ",
+        "foo|   foo|foo   | foo  |***fo****|f|foo|foo|foo|foo ||   ",
     ),
     (
         "été",
-        "été|   été|été   | été  |***ét****|é|été|été|été|été ",
+        "été|   été|été   | été  |***ét****|é|été|été|été|été ||   ",
     ),
-    ("", "|      |      |      |*********||  |||    "),
-    ("長さ", "長さ|    長さ|長さ    |  長さ  |***長さ****|長|長さ|長さ|長さ|長さ  "),
+    ("", "|      |      |      |*********||  |||    ||   "),
+    (
+        "長さ",
+        "長さ|    長さ|長さ    |  長さ  |***長さ****|長|長さ|長さ|長さ|長さ  ||   ",
+    ),
     (
         "sentence",
-        "sentence|sentence|sentence|sentence|***se****|s|sentence|sentence|sentence|sentence",
+        "sentence|sentence|sentence|sentence|***se****|s|sentence|sentence|sentence|sentence||   ",
     ),
     (
         "interned",
-        "interned|interned|interned|interned|***in****|i|interned|interned|interned|interned",
+        "interned|interned|interned|interned|***in****|i|interned|interned|interned|interned||   ",
     ),
 ];
 
@@ -117,6 +124,23 @@ fn widths_and_precisions(rt: HostRuntime) {
     for (text, wanted) in &STYLES {
         check_styled(&rt, &set, text, wanted);
     }
+}
+
+/// Whether the atom of a text of 65,000 letters fills more places, and is cut to fewer letters.
+fn is_long_styled(rt: &impl Abort, alloc: Global, atom: &DefaultAtom<'_>) -> bool {
+    let filled = format!(in alloc; "{atom:>65003}").expect(rt, "a text");
+    let cut = format!(in alloc; "{atom:.64999}").expect(rt, "a text");
+    filled.len() == 65_003 && filled.ends_with(atom.as_str()) && cut.len() == 64_999
+}
+
+#[test]
+fn widths_and_precisions_of_a_long_text(rt: HostRuntime) {
+    let set = new_set(&rt, rt.alloc());
+    let text = "a".repeat(rt.alloc(), 65_000).expect(&rt, "a text");
+    assert_that(
+        &rt,
+        is_long_styled(&rt, rt.alloc(), &intern(&rt, &set, &text)),
+    );
 }
 
 /// Neither on the whole nor on the text within it.
