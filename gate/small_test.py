@@ -29,6 +29,7 @@ import repository
 import run_tests
 import stored_runs
 import users_caught
+import verdicts
 import waiting
 from repository import TOP
 
@@ -195,7 +196,7 @@ class WrongScripts(unittest.TestCase):
             self.assertIn("BAD EDIT: the rows 'row' weren't run", text)
 
     def test_a_row_whose_tool_is_missing_is_skipped(self):
-        with self.assertRaises(users_caught.Skipped):
+        with self.assertRaises(verdicts.Skipped):
             self.said("0 passed, 0 failed", "skipped: it isn't here")
 
 

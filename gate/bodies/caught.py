@@ -49,6 +49,7 @@ from refuser import refuser
 from repository import TOP
 from shared_builds import CantShare, NotShared, SharedBuild, apart, can_share
 from stored_runs import judge_output
+from verdicts import tell
 
 SECONDS = 60  # at most for one run with a wrong body, which may hang, and for all runs of a test that passes
 LEAST_SECONDS = 10  # for one run with a wrong body
@@ -233,7 +234,7 @@ class Trials:
         self.tasks.put(functools.partial(task, *words))
 
     def tell(self, label, passed, text):
-        print(f"caught {label}: {'' if passed else 'WRONG: '}{text}", flush=True)
+        tell(label, passed, text)
         self.results.append(passed)
 
 

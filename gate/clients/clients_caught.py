@@ -33,6 +33,7 @@ from programs import NotBuilt
 from repository import TOP
 from shared_builds import CantShare
 from unproved_archive import Exports
+from verdicts import Skipped, tell, told
 
 BODIES = TOP / "gate" / "clients" / "caught"
 EXPORTS = "string_cache_c"  # the crate
@@ -45,10 +46,6 @@ ENVIRONMENT = {"CARGO_PROFILE_RELEASE_OPT_LEVEL": "0", "CLIENT_SECONDS": "600"}
 # What is said where a program wasn't even built, which is no catch.
 COMPILER = r"(?:[\w.]+-)*(?:g?cc|[cg]\+\+|clang(?:\+\+)?)(?:-[\d.]+)?"
 NOT_BUILT = re.compile(rf"WRONG: (?:bash|{COMPILER}) ended|could not compile|no test was run|SyntaxError")
-
-
-class Skipped(Exception):
-    """A tool that the row needs isn't there."""
 
 
 @dataclass
@@ -132,15 +129,9 @@ def judge(trial, room):
     return not passed, f"{'passes' if passed else 'caught by'} '{trial.row}'"
 
 
-def told(room, trial):
-    """Whether a trial goes as it has to, which is said, or None where it is skipped."""
-    try:
-        well, text = judge(trial, room)
-    except Skipped:
-        print(f"caught {trial.label}: SKIPPED", flush=True)
-        return None
-    print(f"caught {trial.label}: {'' if well else 'WRONG: '}{text}", flush=True)
-    return well
+def told_of(room, trial):
+    """Whether a trial goes as it has to, which is said, or None if it is skipped."""
+    return told(trial.label, judge, trial, room)
 
 
 def over_clients(bodies, archive):
@@ -159,7 +150,7 @@ def over_exports(bodies, room):
         trials = [Trial("no export", row, exports.archive(0), has_to_pass=True) for row in rows]
         return trials + [Trial(body.label, body.row, exports.archive(number)) for number, body in enumerate(bodies, 1)]
     except (BadEdit, CantShare, NotBuilt, OSError, subprocess.SubprocessError) as why:
-        print(f"caught {' '.join(body.label for body in bodies)}: WRONG: BAD EDIT: {why}", flush=True)
+        tell(" ".join(body.label for body in bodies), False, f"BAD EDIT: {why}")
         return []
 
 
@@ -178,10 +169,10 @@ def main():
         room, results = Path(folder), []
         if of_clients and not given.archive:
             subprocess.run([TOP / "tools" / "c_library.sh", room / "library"], check=True)
-        results += workers.map(partial(told, room), over_clients(of_clients, (given.archive or ARCHIVE).resolve()))
+        results += workers.map(partial(told_of, room), over_clients(of_clients, (given.archive or ARCHIVE).resolve()))
         if of_exports:
             trials = over_exports(of_exports, room)
-            results += workers.map(partial(told, room), trials) if trials else [False] * len(of_exports)
+            results += workers.map(partial(told_of, room), trials) if trials else [False] * len(of_exports)
     print(f"{results.count(True)} passed, {results.count(False)} failed")
     return 0 if True in results and False not in results else 1
 

@@ -30,6 +30,7 @@ from copies import copy_without_work
 from edits import BadEdit, NoSuchEdit, changed, changes_in, chosen, replaced
 from machine import processors
 from repository import TOP
+from verdicts import Skipped, told
 
 CHANGES = TOP / "gate" / "users" / "caught"
 PROGRAM = Path("crates", "atoms", "out", "atoms")
@@ -37,10 +38,6 @@ TESTS = {"many": "count_many_test.py", "static": "static_type_test.py", "users":
 SECONDS = 900  # for the rows of one change, on a slow machine beside other work
 CLOSING = re.compile(r"^(\d+) passed, (\d+) failed$", re.MULTILINE)
 NO_SCRIPT = re.compile(r"\b(?:Name|Syntax|Import|Indentation)Error\b|syntax error|command not found")  # what fails is no script any more
-
-
-class Skipped(Exception):
-    """A tool that the row needs isn't there."""
 
 
 @dataclass(frozen=True)
@@ -95,17 +92,6 @@ def judge(change, root):
     return bool(failed), f"{'seen by' if failed else 'passes'} {rows}"
 
 
-def told(change, root):
-    """Whether it goes as it has to, which is said, or None where it is skipped."""
-    try:
-        well, text = judge(change, root)
-    except Skipped:
-        print(f"caught {change.label}: SKIPPED", flush=True)
-        return None
-    print(f"caught {change.label}: {'' if well else 'WRONG: '}{text}", flush=True)
-    return well
-
-
 def works_in(tasks, found):
     """Tries changes until none is left, in a copy of the repository of this worker's own."""
     with tempfile.TemporaryDirectory(prefix="users-caught-") as room:
@@ -117,7 +103,7 @@ def works_in(tasks, found):
                 change = tasks.get_nowait()
             except queue.Empty:
                 return
-            found.append(told(change, root))
+            found.append(told(change.label, judge, change, root))
 
 
 def main():
