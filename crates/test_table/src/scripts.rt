@@ -234,7 +234,7 @@ fn add_pass(script: &mut String, n: u64) -> Result<(), AllocError> {
     script.push_str("1 leave\n")
 }
 
-/// The steps that link this many entries, and clone the last of them as often.
+/// The steps that link this many entries, clone the last of them as often, and have another party find it.
 fn script_of_entries(alloc: Global, count: u64) -> Result<String, AllocError> {
     let mut script = String::from_str(alloc, "buckets 0\n")?;
     for n in 1..=count {
@@ -243,7 +243,10 @@ fn script_of_entries(alloc: Global, count: u64) -> Result<String, AllocError> {
     for _ in 0..count {
         writeln!(script, "1 clone e{count}")?;
     }
-    writeln!(script, "1 give e{count}")?;
+    write!(
+        script,
+        "1 give e{count}\n2 intern interned{count}\n2 add e{count}\n"
+    )?;
     Ok(script)
 }
 
@@ -256,7 +259,7 @@ fn add_replies(lines: &mut String, n: u64) -> Result<(), AllocError> {
     lines.push_str("left\n")
 }
 
-/// What is printed of them: the numbers of entries and serials, and those of holders, one of which goes.
+/// What is printed of them: the numbers of entries and serials, and those of holders, one of which goes, and one comes.
 fn lines_of_entries(alloc: Global, count: u64) -> Result<String, AllocError> {
     let mut lines = String::new(alloc);
     for n in 1..=count {
@@ -265,11 +268,12 @@ fn lines_of_entries(alloc: Global, count: u64) -> Result<String, AllocError> {
     for n in 1..=count {
         writeln!(lines, "cloned {}", n.saturating_add(1))?;
     }
-    writeln!(lines, "given {count}")?;
+    let found = count.saturating_add(1);
+    write!(lines, "given {count}\ntaken\nadded {found}\n")?;
     for n in 1..count {
         writeln!(lines, "held e{n} 1")?;
     }
-    writeln!(lines, "held e{count} {count}")?;
+    writeln!(lines, "held e{count} {found}")?;
     Ok(lines)
 }
 
