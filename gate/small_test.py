@@ -88,24 +88,24 @@ class Gate(unittest.TestCase):
         return command.returncode, said.splitlines()[-1]
 
     def test_all_parts_that_pass_are_counted(self):
-        self.assertEqual(self.ran(), (0, "30 passed, 0 failed, 0 skipped"))
+        self.assertEqual(self.ran(), (0, "32 passed, 0 failed, 0 skipped"))
 
     def test_a_part_that_fails_fails_all(self):
         self.part("gate/clients/clients.py", "#!/bin/sh\necho '1 passed, 3 failed'\nexit 1\n")
-        self.assertEqual(self.ran(), (1, "29 passed, 3 failed, 0 skipped"))
+        self.assertEqual(self.ran(), (1, "31 passed, 3 failed, 0 skipped"))
         self.part("gate/clients/clients.py", "#!/bin/sh\necho '2 passed, 0 failed'\nexit 1\n")
-        self.assertEqual(self.ran(), (1, "30 passed, 1 failed, 0 skipped"))
+        self.assertEqual(self.ran(), (1, "32 passed, 1 failed, 0 skipped"))
 
     def test_a_part_that_is_killed_fails_all(self):
         for path in ("gate/clients/clients.py", "bin/rt"):
             with self.subTest(path):
                 self.setUp()
                 self.part(path, "#!/bin/sh\nkill -9 $$\n")
-                self.assertEqual(self.ran(), (1, "28 passed, 1 failed, 0 skipped"))
+                self.assertEqual(self.ran(), (1, "30 passed, 1 failed, 0 skipped"))
 
     def test_parts_that_never_begin_fail_all(self):
         self.part("gate/machine/idle.py", "#!/bin/sh\nkill -9 $PPID\n")
-        self.assertEqual(self.ran(), (1, "18 passed, 6 failed, 0 skipped"))
+        self.assertEqual(self.ran(), (1, "20 passed, 6 failed, 0 skipped"))
 
     def test_what_a_part_started_ends_with_the_command(self):
         started = self.top / "started"
@@ -123,7 +123,7 @@ class Gate(unittest.TestCase):
 
     def test_an_edit_of_must_fail_that_is_bad_fails_all(self):
         self.part("bin/rt", "#!/bin/sh\necho 'rt: note: bad must-fail edits, as told above: 1.'\necho '2 passed, 0 failed'\n")
-        self.assertEqual(self.ran(), (1, "30 passed, 1 failed, 0 skipped"))
+        self.assertEqual(self.ran(), (1, "32 passed, 1 failed, 0 skipped"))
 
 
 class Kept(unittest.TestCase):

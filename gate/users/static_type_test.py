@@ -123,7 +123,7 @@ CALLS = [
     (["--packed", "Soups", "--module", "../lib"], PAIR, "is no module's file"),
     (["--tables", "Soups"], b"key 0\n", "no table text"),
     (["--tables", "Soups"], b"key 0\ndisp 0 0\nsoup\n", "line 3 is none of a table text"),
-    (["--tables", "Soups"], LONG_LIST, "700 names with 13 bytes are too many to be listed"),
+    (["--tables", "Soups"], LONG_LIST, "700 names with 9100 bytes are too many to be listed"),
     (["soups"], PAIR, "no type's name"),
     (["--alias", "soup", "Soups"], PAIR, "no type's name"),
     (["Atoms"], PAIR, "would be called Atom, as something else in the module is: --alias"),

@@ -131,9 +131,15 @@ class Begin(unittest.TestCase):
         self.assertEqual((self.room / "one" / "HANDLES").read_text(encoding="utf-8"), "Handles allowed: none.\n")
 
     def test_crates_without_a_name_here_are_refused(self):
-        for words in (["--crates", "nothing"], ["--crates", "named_set,"], [], ["table", "--crates", "named_set"]):
-            status, said, why = ran(TOOLS / "begin.py", *words, self.room / "none")
-            self.assertEqual((status in (1, 2), said, why.count("begin")), (True, b"", 1), words)
+        for words, status, why in (
+            (["--crates", "nothing"], 1, "begin: nothing is no crate of crates.txt"),
+            (["--crates", "named_set,"], 1, "begin:  is no crate of crates.txt"),
+            ([], 2, "begin.py: error: either a kind or --crates"),
+            (["table", "--crates", "named_set"], 2, "begin.py: error: unrecognized arguments: "),
+        ):
+            found = ran(TOOLS / "begin.py", *words, self.room / "none")
+            self.assertEqual(found[:2], (status, b""), words)
+            self.assertIn(f"\n{why}", f"\n{found[2]}")
             self.assertFalse((self.room / "none").exists())
 
     def test_a_folder_that_can_not_be_made_is_told(self):
