@@ -104,7 +104,7 @@ scenes=$!
 run refused gate/refusals/refused.py
 run pages gate/pages/pages.py
 run many gate/users/count_many_test.py
-run wrong_tools gate/users/users_caught.py --tested
+run wrong_tools gate/users/users_caught.py
 run clients gate/clients/clients.py
 run wrong_clients gate/clients/clients_caught.py --archive crates/string_cache_c/out/libstring_cache_c.a
 wait "$scripts"

@@ -110,7 +110,7 @@ def main():
     parser.add_argument("--crates", metavar="NAME[,NAME..]")
     parser.add_argument("kind", choices=KINDS, nargs="?")
     parser.add_argument("folder", type=Path)
-    given = parser.parse_args()
+    given = parser.parse_intermixed_args()  # a kind beside --crates is told as what it is
     if (given.crates is None) == (given.kind is None):
         parser.error("either a kind or --crates")
     if given.folder.exists() and (not given.folder.is_dir() or any(given.folder.iterdir())):

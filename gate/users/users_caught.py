@@ -3,12 +3,11 @@
 
 Such a file has a line 'row: TEST ROW', for the rows of gate/users/*_test.py of whose names ROW is a part (TESTS says which script TEST is). Then, as
 in a must-fail edit, come lines 'file: ..' (below tools), 'old: TEXT' and 'new: TEXT': the text, which stands once, is replaced in a copy of the
-repository. A row has to fail there, and all of them have to pass in the copy as it is. With --tested they aren't tried for that: these tests, which
-run all rows, say so.
+repository. A row has to fail there, and all of them have to pass in the copy as it is.
 
 The program `atoms` is the one that `rt ci` or `rt run` built last.
 
-usage: gate/users/users_caught.py [--jobs N] [--tested] [WORD..]     with words: only the changes whose names have one of them; a word that is in
+usage: gate/users/users_caught.py [--jobs N] [WORD..]     with words: only the changes whose names have one of them; a word that is in
 none is told, and nothing is tried. A change whose row needs a tool that isn't there is skipped.
 """
 
@@ -109,14 +108,13 @@ def works_in(tasks, found):
 def main():
     parser = argparse.ArgumentParser(description=__doc__, formatter_class=argparse.RawDescriptionHelpFormatter)
     parser.add_argument("--jobs", type=int, default=processors())
-    parser.add_argument("--tested", action="store_true")
     parser.add_argument("words", nargs="*")
     given = parser.parse_args()
     try:
         changes = [read(path) for path in chosen(CHANGES.glob("*.edit"), given.words, lambda path: path.stem)]
     except (BadEdit, NoSuchEdit) as why:
         sys.exit(f"users_caught: {why}")
-    rows = [] if given.tested else sorted({(it.test, it.row) for it in changes})
+    rows = sorted({(it.test, it.row) for it in changes})
     trials = [Change("nothing", test, row) for test, row in rows] + changes
     tasks, found = queue.Queue(), []
     for trial in trials:

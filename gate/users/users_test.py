@@ -135,7 +135,8 @@ class Begin(unittest.TestCase):
             (["--crates", "nothing"], 1, "begin: nothing is no crate of crates.txt"),
             (["--crates", "named_set,"], 1, "begin:  is no crate of crates.txt"),
             ([], 2, "begin.py: error: either a kind or --crates"),
-            (["table", "--crates", "named_set"], 2, "begin.py: error: unrecognized arguments: "),
+            (["table", "--crates", "named_set"], 2, "begin.py: error: either a kind or --crates"),
+            (["--crates", "named_set", "table"], 2, "begin.py: error: either a kind or --crates"),
         ):
             found = ran(TOOLS / "begin.py", *words, self.room / "none")
             self.assertEqual(found[:2], (status, b""), words)
